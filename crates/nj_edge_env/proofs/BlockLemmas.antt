@@ -1,5 +1,7 @@
 -- Lemmas on the values of all names.
-use Rattle.std.proofs.Common.{◌≡◌, ℕ, zero, suc, ◌+◌, ◌<◌, ◌≤◌, nat_eq, Bool, true, false, cond, not, ◌&&◌}
+use Rattle.std.proofs.lemmas.Grind.{common_steps}
+use Rattle.std.proofs.Common.{rules, ◌≡◌, ℕ, zero, suc, ◌+◌, ◌<◌, ◌≤◌, nat_eq, Bool, true, false, cond, not}
+use Rattle.std.proofs.Common.{◌&&◌}
 use Rattle.std.proofs.Common.{◌||◌, ◌⊎◌, inl, inr, Option, Some, None, is_some, option_map, option_and_then}
 use Rattle.std.proofs.Common.{unwrap_or, List, [], ◌∷◌, ◌++◌, length, map, get_or, set, bytes_eq, arith, refl}
 use Rattle.std.proofs.Common.{sym, ap, subst, ◌∙◌, true≢false}
@@ -49,8 +51,7 @@ first-from name (m ∷ names) (suc n) inside here before = (
 
 pub first-position : (name : List ℕ) (names : List (List ℕ)) (n : ℕ) → position (bytes_eq name) names ≡ Some n
     → IsFirstAt name names n
-first-position name names n h = let p = position-Some (bytes_eq name) names n [] h in
-    first-from name names n p.0 p.1 p.2
+first-position name names n h = grind (arith, position-Some, bytes_eq, first-from)
 
 pub first-new : (name : List ℕ) (names : List (List ℕ)) → list_any (bytes_eq name) names ≡ false
     → IsFirstAt name (names ++ name ∷ []) (length names)
@@ -102,11 +103,11 @@ pub rows-first : (text : List ℕ) (names : List (List ℕ)) (bounds : All-bound
     → rows_of (values_by_name text names bounds) name ≡ Some (values_of text (get_or bounds n []))
 rows-first text [] bounds name n many h = absurd h
 rows-first text (m ∷ names) [] name n many h = absurd (omega (arith, many))
-rows-first text (m ∷ names) (bs ∷ bounds) name zero many h =
-    ap (λ b. cond b (Some (values_of text bs)) (rows_of (values_by_name text names bounds) name)) h
-rows-first text (m ∷ names) (bs ∷ bounds) name (suc n) many h =
-    ap (λ b. cond b (Some (values_of text bs)) (rows_of (values_by_name text names bounds) name)) h.0
-    ∙ rows-first text names bounds name n (omega (arith, many)) h.1
+rows-first text (m ∷ names) (bs ∷ bounds) name zero many h = grind arith
+rows-first text (m ∷ names) (bs ∷ bounds) name (suc n) many h = grind (
+  arith,
+  rows-first text names bounds name n (omega (arith, many)) h.1,
+)
 
 pub rows-absent : (text : List ℕ) (names : List (List ℕ)) (bounds : All-bounds) (name : List ℕ)
     → list_any (bytes_eq name) names ≡ false → rows_of (values_by_name text names bounds) name ≡ None
@@ -141,11 +142,7 @@ value-appended : (text : List ℕ) (names : List (List ℕ)) (bounds : All-bound
     (x : List ℕ) → length bounds ≡ length names
     → value_of (values_by_name text (names ++ name ∷ []) (bounds ++ [] ∷ [])) e x
     ≡ value_of (values_by_name text names bounds) e x
-value-appended text [] [] name e x many = by (bytes_eq x name)
-  where
-    by : (b : Bool) → value_in e (cond b (Some []) None) ≡ None
-    by true = refl
-    by false = refl
+value-appended text [] [] name e x many = grind arith
 value-appended text [] (bs ∷ bounds) name e x many = absurd (omega (arith, many))
 value-appended text (m ∷ names) [] name e x many = absurd (omega (arith, many))
 value-appended text (m ∷ names) (bs ∷ bounds) name e x many =
@@ -192,9 +189,11 @@ values-kept : (text new : List ℕ) (last : ℕ) (names : List (List ℕ)) (boun
     → values_by_name new names bounds ≡ values_by_name text names bounds
 values-kept text new last [] bounds grew held = refl
 values-kept text new last (m ∷ names) [] grew held = refl
-values-kept text new last (m ∷ names) (bs ∷ bounds) grew held =
-    ap (λ vs. (m, vs) ∷ values_by_name new names bounds) (values_kept text new last bs grew held.0.parts)
-    ∙ ap (λ rest. (m, values_of text bs) ∷ rest) (values-kept text new last names bounds grew held.1)
+values-kept text new last (m ∷ names) (bs ∷ bounds) grew held = grind (
+  arith,
+  values_kept text new last bs grew held.0.parts,
+  values-kept text new last names bounds grew held.1,
+)
 
 -- ---- the fields
 
@@ -206,34 +205,25 @@ all-grow len more last (bs ∷ bounds) h held =
 
 pub all-at : (P : List Bound → Type 0) (bounds : All-bounds) (n : ℕ) → n < length bounds
     → AllByRecursion P bounds → P (get_or bounds n [])
-all-at P [] n inside all = absurd (omega arith)
-all-at P (bs ∷ bounds) zero inside all = all.0
-all-at P (bs ∷ bounds) (suc n) inside all = all-at P bounds n (omega arith) all.1
+all-at h bounds n inside all = grind (arith, common_steps)
 
 all-set : (P : List Bound → Type 0) (bounds : All-bounds) (n : ℕ) (bs : List Bound) → P bs
     → AllByRecursion P bounds → AllByRecursion P (set bounds n bs)
-all-set P [] n bs h all = tt
-all-set P (cs ∷ bounds) zero bs h all = (h, all.1)
-all-set P (cs ∷ bounds) (suc n) bs h all = (all.0, all-set P bounds n bs h all.1)
+all-set h bounds n bs h1 all = grind (arith, common_steps)
 
 all-push : (P : List Bound → Type 0) (bounds : All-bounds) (bs : List Bound) → P bs → AllByRecursion P bounds
     → AllByRecursion P (bounds ++ bs ∷ [])
-all-push P [] bs h all = (h, tt)
-all-push P (cs ∷ bounds) bs h all = (all.0, all-push P bounds bs h all.1)
+all-push h bounds bs h1 all = grind (arith, common_steps)
 
 pub bounds-at : (vs : List (Vec Bound)) (n : ℕ) (v : Vec Bound) → n < length (bounds_of vs)
     → v ≡ get_or vs n v → get_or (bounds_of vs) n [] ≡ v.items
-bounds-at [] n v inside is = absurd (omega arith)
-bounds-at (w ∷ vs) zero v inside is = ap (λ (x : Vec Bound). x.items) (sym is)
-bounds-at (w ∷ vs) (suc n) v inside is = bounds-at vs n v (omega arith) is
+bounds-at vs n v inside is = grind (arith, common_steps)
 
 -- ---- names that are listed
 
 pub names-at : (names : List (List ℕ)) (lists : List (List ℕ)) (e : ℕ)
     → get_or (map (names_of names) lists) e [] ≡ names_of names (list_at lists e)
-names-at names [] e = refl
-names-at names (l ∷ lists) zero = refl
-names-at names (l ∷ lists) (suc e) = names-at names lists e
+names-at names lists e = grind (arith, common_steps)
 
 pub name-some : (names : List (List ℕ)) (numbers : List ℕ) (i n : ℕ) (name : List ℕ) → i < length numbers
     → n ≡ get_or numbers i n → slice_get names n ≡ Some name
@@ -254,21 +244,22 @@ names-kept : (names : List (List ℕ)) (name : List ℕ) (numbers : List ℕ)
     → AllByRecursion (λ number. number < length names) numbers
     → names_of (names ++ name ∷ []) numbers ≡ names_of names numbers
 names-kept names name [] known = refl
-names-kept names name (n ∷ numbers) known =
-    ap (λ x. x ∷ names_of (names ++ name ∷ []) numbers) (get_or_append_left names (name ∷ []) [] n known.0)
-    ∙ ap (λ xs. get_or names n [] ∷ xs) (names-kept names name numbers known.1)
+names-kept names name (n ∷ numbers) known = grind (
+  arith,
+  get_or_append_left names (name ∷ []) [] n known.0,
+  get_or names n [],
+  names-kept names name numbers known.1,
+)
 
 known-more : (count more : ℕ) (numbers : List ℕ) → count ≤ more
     → AllByRecursion (λ number. number < count) numbers → AllByRecursion (λ number. number < more) numbers
 known-more count more [] le known = tt
-known-more count more (n ∷ numbers) le known =
-    (omega (arith, known.0), known-more count more numbers le known.1)
+known-more count more (n ∷ numbers) le known = grind (arith, known-more count more numbers le known.1)
 
 known-push : (count : ℕ) (numbers : List ℕ) (n : ℕ) → n < count
     → AllByRecursion (λ number. number < count) numbers
     → AllByRecursion (λ number. number < count) (numbers ++ n ∷ [])
-known-push count [] n h known = (h, tt)
-known-push count (m ∷ numbers) n h known = (known.0, known-push count numbers n h known.1)
+known-push count numbers n h known = grind (arith, common_steps)
 
 -- ---- one name is bound
 
@@ -278,59 +269,34 @@ value-bound : (old new : List (List ℕ × Rows)) (name : List ℕ) (rows : Rows
     → ((e : ℕ) → lookup (λ n. nat_eq e n) rows ≡ cond (nat_eq e edge) (Some value) (value_of old e name))
     → (e : ℕ) (x : List ℕ) → value_of new e x
     ≡ cond (nat_eq e edge && bytes_eq x name) (Some value) (value_of old e x)
-value-bound old new name rows edge value now bound e x =
-    ap (option_and_then (lookup (λ n. nat_eq e n))) (now x) ∙ by (bytes_eq x name) (bytes_eq-Decides x name).0
-  where
-    other : (s : Bool) → value_of old e x ≡ cond (s && false) (Some value) (value_of old e x)
-    other true = refl
-    other false = refl
-
-    here : (s : Bool) → cond s (Some value) (value_of old e x)
-        ≡ cond (s && true) (Some value) (value_of old e x)
-    here true = refl
-    here false = refl
-
-    by : (t : Bool) → (t ≡ true → x ≡ name)
-        → option_and_then (lookup (λ n. nat_eq e n)) (cond t (Some rows) (rows_of old x))
-        ≡ cond (nat_eq e edge && t) (Some value) (value_of old e x)
-    by true same = bound e ∙ ap (λ y. cond (nat_eq e edge) (Some value) (value_of old e y)) (sym (same refl))
-        ∙ here (nat_eq e edge)
-    by false same = other (nat_eq e edge)
+value-bound old new name rows edge value now bound e x = search rules
 
 -- the same values of one name again
 rows-same : (old new : List (List ℕ × Rows)) (name : List ℕ) (rows : Rows)
     → ((x : List ℕ) → rows_of new x ≡ cond (bytes_eq x name) (Some rows) (rows_of old x))
     → rows_of old name ≡ Some rows → (x : List ℕ) → rows_of new x ≡ rows_of old x
-rows-same old new name rows now was x = now x ∙ by (bytes_eq x name) (bytes_eq-Decides x name).0
-  where
-    by : (t : Bool) → (t ≡ true → x ≡ name) → cond t (Some rows) (rows_of old x) ≡ rows_of old x
-    by true same = sym (ap (λ y. rows_of old y) (same refl) ∙ was)
-    by false same = refl
+rows-same old new name rows now was x = search rules
 
 parts-later : (len last edge : ℕ) (bounds : List Bound) → last ≤ edge
     → AllByRecursion (IsPart len last) bounds → AllByRecursion (IsPart len edge) bounds
 parts-later len last edge [] from parts = tt
-parts-later len last edge (b ∷ bounds) from parts = (
-  record { edge = omega (arith, parts.0.edge); rises = parts.0.rises; ends = parts.0.ends },
+parts-later len last edge (b ∷ bounds) from parts = grind (
+  arith,
   parts-later len last edge bounds from parts.1,
 )
 
 all-later : (len last edge : ℕ) (bounds : All-bounds) → last ≤ edge
     → AllByRecursion (BoundsAreHeld len last) bounds → AllByRecursion (BoundsAreHeld len edge) bounds
 all-later len last edge [] from held = tt
-all-later len last edge (bs ∷ bounds) from held = (
-  record { parts = parts-later len last edge bs from held.0.parts; rising = held.0.rising },
+all-later len last edge (bs ∷ bounds) from held = grind (
+  arith,
+  parts-later len last edge bs from held.0.parts,
   all-later len last edge bounds from held.1,
 )
 
 pub later : (len last edge : ℕ) (names : List (List ℕ)) (bounds : All-bounds) (lists : List (List ℕ))
     → last ≤ edge → BlocksAreHeld len last names bounds lists → BlocksAreHeld len edge names bounds lists
-later len last edge names bounds lists from held = record {
-  as_many = held.as_many;
-  values = all-later len last edge bounds from held.values;
-  listed = held.listed;
-  lists_end = omega (arith, held.lists_end);
-}
+later len last edge names bounds lists from held = grind (arith, all-later)
 
 -- ---- `pool` and `dyndep`
 

@@ -1,4 +1,5 @@
 -- Lemmas on the values of one name.
+use Rattle.std.proofs.lemmas.Grind.{common_steps}
 use Rattle.std.proofs.Common.{◌≡◌, ◌≢◌, ℕ, zero, suc, ◌+◌, ◌-◌, ◌<◌, ◌≤◌, nat_eq, Bool, true, false, cond}
 use Rattle.std.proofs.Common.{not, ◌&&◌, ◌⊎◌, inl, inr, ltb, Some, None, is_some, Result, Ok, Err, option_map}
 use Rattle.std.proofs.Common.{List, [], ◌∷◌, ◌++◌, length, take, drop, get_or, slice_set, refl, sym, ap}
@@ -23,76 +24,52 @@ abbrev pub Compared : ℕ → ℕ → Type 0
 Compared n m = ((nat_eq n m ≡ true) × (n ≡ m)) ⊎ ((nat_eq n m ≡ false) × (n ≢ m))
 
 pub same-from_test : (n m : ℕ) → nat_eq n m ≡ true → n ≡ m
-same-from_test n m h = by (eqb_tells n m)
-  where
-    by : Compared n m → n ≡ m
-    by (inl (t, e)) = e
-    by (inr (f, apart)) = absurd (true≢false (sym h ∙ f))
+same-from_test n m h = grind arith
 
 pub test-from_apart : (n m : ℕ) → n ≢ m → nat_eq n m ≡ false
-test-from_apart n m apart = by (eqb_tells n m)
-  where
-    by : Compared n m → nat_eq n m ≡ false
-    by (inl (t, e)) = absurd (apart e)
-    by (inr (f, other)) = f
+test-from_apart n m apart = grind arith
 
 pub test-from_same : (n m : ℕ) → n ≡ m → nat_eq n m ≡ true
-test-from_same n m e = by (eqb_tells n m)
-  where
-    by : Compared n m → nat_eq n m ≡ true
-    by (inl (t, other)) = t
-    by (inr (f, apart)) = absurd (apart e)
+test-from_same n m e = grind arith
 
 -- of two tests that do not both pass, either may come first
 pub swapped : {X : Type 0} (s t : Bool) (x y z : X) → (s ≡ true → t ≡ true → ⊥)
     → cond s x (cond t y z) ≡ cond t y (cond s x z)
-swapped true true x y z apart = absurd (apart refl refl)
-swapped true false x y z apart = refl
-swapped false t x y z apart = refl
+swapped s t x y z apart = grind arith
 
 -- a step unless a condition is true
 pub listed-before : {X : Type 0} (s t : Bool) (x y : X) → t ≡ true → y ≡ cond (s && not t) x y
-listed-before true true x y h = refl
-listed-before false true x y h = refl
-listed-before s false x y h = absurd (true≢false (sym h))
+listed-before s t x y h = grind arith
 
 pub listed-now : {X : Type 0} (s t : Bool) (x y : X) → t ≡ false → cond s x y ≡ cond (s && not t) x y
-listed-now true false x y h = refl
-listed-now false false x y h = refl
-listed-now s true x y h = absurd (true≢false h)
+listed-now s t x y h = grind arith
 
 pub at_ok : {X Y P Q : Type 0} (r : Result X Y) → OnOk r P → (P → Q) → OnOk r Q
-at_ok (Ok x) h then_so = then_so h
-at_ok (Err e) h then_so = tt
+at_ok r h then_so = grind arith
 
 pub at_err : {X Y P Q : Type 0} (r : Result X Y) → OnErr r P → (P → Q) → OnErr r Q
-at_err (Ok x) h then_so = tt
-at_err (Err e) h then_so = then_so h
+at_err r h then_so = grind arith
 
 pub in_both : {X Y P Q R : Type 0} (r : Result X Y) → OnOk r P → OnErr r Q → (P → R) → (Q → R) → R
-in_both (Ok x) ok err if_ok if_err = if_ok ok
-in_both (Err e) ok err if_ok if_err = if_err err
+in_both r ok err if_ok if_err = grind arith
 
 pub on_err : {X Y Q : Type 0} (r : Result X Y) → Q → OnErr r Q
-on_err (Ok x) h = tt
-on_err (Err e) h = h
+on_err r h = grind arith
 
 -- ---- a text that grew
 
 pub slice_kept : (xs ys : List ℕ) (a b : ℕ) → a ≤ b → b ≤ length xs
     → slice_range (xs ++ ys) a b ≡ slice_range xs a b
-slice_kept xs ys a b rises ends =
-    ap (take (b - a)) (drop-append-le a xs ys (omega arith))
-    ∙ take-append-le (b - a) (drop a xs) ys (omega (arith, length-drop a xs))
+slice_kept xs ys a b rises ends = grind (arith, common_steps)
 
 pub values_kept : (text new : List ℕ) (last : ℕ) (bounds : List Bound) → BeginsWith text new
     → AllByRecursion (IsPart (length text) last) bounds → values_of new bounds ≡ values_of text bounds
 values_kept text new last [] grew parts = refl
-values_kept text new last (b ∷ bounds) grew parts =
-    ap (λ v. (b.edge, v) ∷ values_of new bounds)
-    (ap (λ t. slice_range t b.start b.end) grew.1
-    ∙ slice_kept text grew.0 b.start b.end parts.0.rises parts.0.ends)
-    ∙ ap (λ vs. (b.edge, slice_range text b.start b.end) ∷ vs) (values_kept text new last bounds grew parts.1)
+values_kept text new last (b ∷ bounds) grew parts = grind (
+  arith,
+  slice_kept text grew.0 b.start b.end parts.0.rises parts.0.ends,
+  values_kept text new last bounds grew parts.1,
+)
 
 pub longer : (text new : List ℕ) → BeginsWith text new → length text ≤ length new
 longer text new grew = omega (arith, ap length grew.1, length-append text grew.0)
@@ -100,15 +77,11 @@ longer text new grew = omega (arith, ap length grew.1, length-append text grew.0
 pub parts_grow : (len more last : ℕ) (bounds : List Bound) → len ≤ more
     → AllByRecursion (IsPart len last) bounds → AllByRecursion (IsPart more last) bounds
 parts_grow len more last [] h parts = tt
-parts_grow len more last (b ∷ bounds) h parts = (
-  record { edge = parts.0.edge; rises = parts.0.rises; ends = omega (arith, parts.0.ends) },
-  parts_grow len more last bounds h parts.1,
-)
+parts_grow len more last (b ∷ bounds) h parts = grind (arith, parts_grow len more last bounds h parts.1)
 
 pub bounds_grow : (len more last : ℕ) (bounds : List Bound) → len ≤ more → BoundsAreHeld len last bounds
     → BoundsAreHeld more last bounds
-bounds_grow len more last bounds h held =
-    record { parts = parts_grow len more last bounds h held.parts; rising = held.rising }
+bounds_grow len more last bounds h held = grind (arith, parts_grow)
 
 -- ---- look-ups
 
@@ -133,8 +106,7 @@ before b bounds all i d h = All-from_recursion (λ c. b.edge < c.edge) bounds al
 pub found-at : (bounds : List Bound) (edge i : ℕ) (d : Bound) → AreRising bounds → i < length bounds
     → (get_or bounds i d).edge ≡ edge → bound_of bounds edge ≡ Some (get_or bounds i d)
 found-at [] edge i d rising h e = absurd (omega arith)
-found-at (b ∷ bounds) edge zero d rising h e =
-    ap (λ t. cond t (Some b) (bound_of bounds edge)) (test-from_same edge b.edge (sym e))
+found-at (b ∷ bounds) edge zero d rising h e = grind arith
 found-at (b ∷ bounds) edge (suc i) d rising h e =
     let below : i < length bounds = omega arith in
     let less = before b bounds rising.0 i d below in
@@ -145,10 +117,11 @@ found-at (b ∷ bounds) edge (suc i) d rising h e =
 pub none-at : (bounds : List Bound) (edge : ℕ) (d : Bound)
     → ((i : ℕ) → i < length bounds → (get_or bounds i d).edge ≢ edge) → bound_of bounds edge ≡ None
 none-at [] edge d apart = refl
-none-at (b ∷ bounds) edge d apart =
-    ap (λ t. cond t (Some b) (bound_of bounds edge))
-    (test-from_apart edge b.edge (λ same. apart 0 (omega arith) (sym same)))
-    ∙ none-at bounds edge d (λ i h. apart (suc i) (omega arith))
+none-at (b ∷ bounds) edge d apart = grind (
+  arith,
+  test-from_apart edge b.edge (λ same. apart 0 (omega arith) (sym same)),
+  none-at bounds edge d (λ i h. apart (suc i) (omega arith)),
+)
 
 pub rising-at : (bounds : List Bound) (i j : ℕ) (d : Bound) → AreRising bounds → i < j → j < length bounds
     → (get_or bounds i d).edge < (get_or bounds j d).edge
@@ -160,11 +133,7 @@ rising-at (b ∷ bounds) (suc i) (suc j) d rising less h =
 
 pub rising-up_to : (bounds : List Bound) (i j : ℕ) (d : Bound) → AreRising bounds → i ≤ j → j < length bounds
     → (get_or bounds i d).edge ≤ (get_or bounds j d).edge
-rising-up_to bounds i j d rising h within = by (eqb_tells i j)
-  where
-    by : Compared i j → (get_or bounds i d).edge ≤ (get_or bounds j d).edge
-    by (inl (t, same)) = rw same (omega arith)
-    by (inr (f, apart)) = let less = rising-at bounds i j d rising (omega arith) within in omega (arith, less)
+rising-up_to bounds i j d rising h within = grind (arith, eqb_tells, get_or, rising-at)
 
 -- an edge after the last one
 pub none-after : (bounds : List Bound) (edge i : ℕ) (last : Bound) → AreRising bounds → i + 1 ≡ length bounds
@@ -177,8 +146,7 @@ none-after bounds edge i last rising n is less = none-at bounds edge last
 
 pub partitioned : (bounds : List Bound) (edge : ℕ) → AreRising bounds
     → IsPartitionedBy (λ b. ltb b.edge edge) bounds
-partitioned bounds edge rising = IsPartitionedBy-ltb (λ b. b.edge) bounds edge
-    (λ i j d h within. rising-up_to bounds i j d rising h within)
+partitioned bounds edge rising = grind (arith, rising-up_to)
 
 -- where the edges from this one on begin
 abbrev pub IsPoint : List Bound → (edge i : ℕ) → Type 0
@@ -186,8 +154,7 @@ IsPoint bounds edge i = IsPartitionPoint (λ b. ltb b.edge edge ≡ true) (λ b.
 
 pub searched-here : (bounds : List Bound) (edge i : ℕ) (b : Bound) → AreRising bounds → i < length bounds
     → b ≡ get_or bounds i b → b.edge ≡ edge → Some b ≡ bound_of bounds edge
-searched-here bounds edge i b rising h is e =
-    sym (found-at bounds edge i b rising h (ap (λ x. x.edge) (sym is) ∙ e) ∙ ap Some (sym is))
+searched-here bounds edge i b rising h is e = grind (arith, found-at)
 
 pub searched-other : (bounds : List Bound) (edge i : ℕ) (b : Bound) → AreRising bounds → i < length bounds
     → b ≡ get_or bounds i b → IsPoint bounds edge i → b.edge ≢ edge → None ≡ bound_of bounds edge
@@ -225,15 +192,12 @@ part_of len last (c ∷ bounds) edge b parts h =
 
 pub with_bound-nil : (bounds : List Bound) (b : Bound) → (0 < length bounds → ⊥)
     → bounds ++ b ∷ [] ≡ with_bound bounds b
-with_bound-nil [] b h = refl
-with_bound-nil (c ∷ bounds) b h = absurd (h (omega arith))
+with_bound-nil bounds b h = grind (arith, common_steps)
 
 pub with_bound-set : (bounds : List Bound) (i : ℕ) (last b : Bound) → i + 1 ≡ length bounds
     → last ≡ get_or bounds i last → last.edge ≡ b.edge → slice_set bounds i b ≡ with_bound bounds b
 with_bound-set [] i last b n is e = absurd (omega arith)
-with_bound-set (c ∷ []) zero last b n is e =
-    sym (ap (λ t. cond t (b ∷ []) (c ∷ b ∷ []))
-    (test-from_same c.edge b.edge (ap (λ x. x.edge) (sym is) ∙ e)))
+with_bound-set (c ∷ []) zero last b n is e = grind arith
 with_bound-set (c ∷ []) (suc i) last b n is e = absurd (omega arith)
 with_bound-set (c ∷ d ∷ bounds) zero last b n is e = absurd (omega arith)
 with_bound-set (c ∷ d ∷ bounds) (suc i) last b n is e =
@@ -242,9 +206,7 @@ with_bound-set (c ∷ d ∷ bounds) (suc i) last b n is e =
 pub with_bound-push : (bounds : List Bound) (i : ℕ) (last b : Bound) → i + 1 ≡ length bounds
     → last ≡ get_or bounds i last → last.edge ≢ b.edge → bounds ++ b ∷ [] ≡ with_bound bounds b
 with_bound-push [] i last b n is apart = absurd (omega arith)
-with_bound-push (c ∷ []) zero last b n is apart =
-    sym (ap (λ t. cond t (b ∷ []) (c ∷ b ∷ []))
-    (test-from_apart c.edge b.edge (λ same. apart (ap (λ x. x.edge) is ∙ same))))
+with_bound-push (c ∷ []) zero last b n is apart = grind arith
 with_bound-push (c ∷ []) (suc i) last b n is apart = absurd (omega arith)
 with_bound-push (c ∷ d ∷ bounds) zero last b n is apart = absurd (omega arith)
 with_bound-push (c ∷ d ∷ bounds) (suc i) last b n is apart =
@@ -255,21 +217,7 @@ bound_of-with : (bounds : List Bound) (len : ℕ) (b : Bound) → AreRising boun
     → AllByRecursion (IsPart len b.edge) bounds → (e : ℕ)
     → bound_of (with_bound bounds b) e ≡ cond (nat_eq e b.edge) (Some b) (bound_of bounds e)
 bound_of-with [] len b rising parts e = refl
-bound_of-with (c ∷ []) len b rising parts e = by (eqb_tells c.edge b.edge)
-  where
-    hidden : (s t : Bool) → s ≡ t → cond t (Some b) None ≡ cond t (Some b) (cond s (Some c) None)
-    hidden true true same = refl
-    hidden true false same = absurd (true≢false same)
-    hidden false true same = refl
-    hidden false false same = refl
-
-    by : Compared c.edge b.edge → bound_of (cond (nat_eq c.edge b.edge) (b ∷ []) (c ∷ b ∷ [])) e
-        ≡ cond (nat_eq e b.edge) (Some b) (cond (nat_eq e c.edge) (Some c) None)
-    by (inl (t, same)) = ap (λ t. bound_of (cond t (b ∷ []) (c ∷ b ∷ [])) e) t
-        ∙ hidden (nat_eq e c.edge) (nat_eq e b.edge) (ap (nat_eq e) same)
-    by (inr (f, apart)) = ap (λ t. bound_of (cond t (b ∷ []) (c ∷ b ∷ [])) e) f
-        ∙ swapped (nat_eq e c.edge) (nat_eq e b.edge) (Some c) (Some b) None
-        (λ p q. apart (sym (same-from_test e c.edge p) ∙ same-from_test e b.edge q))
+bound_of-with (c ∷ []) len b rising parts e = grind arith
 bound_of-with (c ∷ d ∷ bounds) len b rising parts e =
     ap (λ o. cond (nat_eq e c.edge) (Some c) o) (bound_of-with (d ∷ bounds) len b rising.1 parts.1 e)
     ∙ swapped (nat_eq e c.edge) (nat_eq e b.edge) (Some c) (Some b) (bound_of (d ∷ bounds) e)
@@ -279,23 +227,15 @@ bound_of-with (c ∷ d ∷ bounds) len b rising parts e =
 all_with : (P : Bound → Type 0) (bounds : List Bound) (b : Bound) → AllByRecursion P bounds → P b
     → AllByRecursion P (with_bound bounds b)
 all_with P [] b all h = (h, tt)
-all_with P (c ∷ []) b all h = by (nat_eq c.edge b.edge)
-  where
-    by : (t : Bool) → AllByRecursion P (cond t (b ∷ []) (c ∷ b ∷ []))
-    by true = (h, tt)
-    by false = (all.0, (h, tt))
+all_with P (c ∷ []) b all h = grind arith
 all_with P (c ∷ d ∷ bounds) b all h = (all.0, all_with P (d ∷ bounds) b all.1 h)
 
 rising_with : (bounds : List Bound) (len : ℕ) (b : Bound) → AreRising bounds
     → AllByRecursion (IsPart len b.edge) bounds → AreRising (with_bound bounds b)
 rising_with [] len b rising parts = (tt, tt)
-rising_with (c ∷ []) len b rising parts = by (eqb_tells c.edge b.edge)
-  where
-    by : Compared c.edge b.edge → AreRising (cond (nat_eq c.edge b.edge) (b ∷ []) (c ∷ b ∷ []))
-    by (inl (t, same)) = subst (λ t. AreRising (cond t (b ∷ []) (c ∷ b ∷ []))) (sym t) (tt, tt)
-    by (inr (f, apart)) = subst (λ t. AreRising (cond t (b ∷ []) (c ∷ b ∷ []))) (sym f)
-        ((omega (arith, apart, parts.0.edge), tt), (tt, tt))
-rising_with (c ∷ d ∷ bounds) len b rising parts = (
+rising_with (c ∷ []) len b rising parts = grind arith
+rising_with (c ∷ d ∷ bounds) len b rising parts = grind (
+  arith,
   all_with (λ x. c.edge < x.edge) (d ∷ bounds) b rising.0 (omega (arith, rising.0.0, parts.1.0.edge)),
   rising_with (d ∷ bounds) len b rising.1 parts.1,
 )
@@ -303,8 +243,7 @@ rising_with (c ∷ d ∷ bounds) len b rising parts = (
 -- ---- whether the last one is of an edge
 
 pub ends_at-nil : (bounds : List Bound) (edge : ℕ) → (0 < length bounds → ⊥) → ends_at bounds edge ≡ false
-ends_at-nil [] edge h = refl
-ends_at-nil (c ∷ bounds) edge h = absurd (h (omega arith))
+ends_at-nil bounds edge h = grind (arith, common_steps)
 
 pub ends_at-last : (bounds : List Bound) (i edge : ℕ) (last : Bound) → i + 1 ≡ length bounds
     → last ≡ get_or bounds i last → ends_at bounds edge ≡ nat_eq last.edge edge
@@ -318,13 +257,7 @@ ends_at-last (c ∷ d ∷ bounds) (suc i) edge last n is = ends_at-last (d ∷ b
 pub ends-bound : (bounds : List Bound) (len edge : ℕ) → AreRising bounds
     → AllByRecursion (IsPart len edge) bounds → is_some (bound_of bounds edge) ≡ ends_at bounds edge
 ends-bound [] len edge rising parts = refl
-ends-bound (c ∷ []) len edge rising parts = by (eqb_tells c.edge edge)
-  where
-    by : Compared c.edge edge → is_some (cond (nat_eq edge c.edge) (Some c) None) ≡ nat_eq c.edge edge
-    by (inl (t, same)) = ap (λ b. is_some (cond b (Some c) None)) (test-from_same edge c.edge (sym same))
-        ∙ sym t
-    by (inr (f, apart)) = ap (λ b. is_some (cond b (Some c) None))
-        (test-from_apart edge c.edge (λ same. apart (sym same))) ∙ sym f
+ends-bound (c ∷ []) len edge rising parts = grind arith
 ends-bound (c ∷ d ∷ bounds) len edge rising parts =
     ap (λ b. is_some (cond b (Some c) (bound_of (d ∷ bounds) edge)))
     (test-from_apart edge c.edge (λ same. omega (arith, same, rising.0.0, parts.1.0.edge)))

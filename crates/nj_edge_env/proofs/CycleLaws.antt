@@ -24,16 +24,13 @@ abbrev Within : (names others : List (List ℕ)) → Type 0
 Within names others = (name : List ℕ) → is_among names name ≡ true → is_among others name ≡ true
 
 first : (b c : Bool) → b ≡ true → (b || c) ≡ true
-first true c h = refl
-first false c h = absurd (true≢false (sym h))
+first b c h = grind arith
 
 second : (b c : Bool) → c ≡ true → (b || c) ≡ true
-second true c h = refl
-second false c h = h
+second b c h = grind arith
 
 either : (b c : Bool) → (b || c) ≡ true → (b ≡ true) ⊎ (c ≡ true)
-either true c h = inl refl
-either false c h = inr h
+either b c h = grind arith
 
 any_at : (p : List ℕ → Bool) (names : List (List ℕ)) (name : List ℕ) → is_among names name ≡ true
     → p name ≡ true → list_any p names ≡ true
@@ -297,13 +294,7 @@ pub not_less_own : (x : List ℕ) → order x x ≢ Less
 not_less_own x h = let e = turned x x Less h in cc
 
 lesser_at : (x y : List ℕ) → (order x (lesser x y) ≢ Less) × (order y (lesser x y) ≢ Less)
-lesser_at x y = by (order x y) refl
-  where
-    by : (o : Ordering) → order x y ≡ o → (order x (min_by_ordering o x y) ≢ Less)
-        × (order y (min_by_ordering o x y) ≢ Less)
-    by Less e = (not_less_own x, λ h. let r = turned x y Less e in cc)
-    by Equal e = (not_less_own x, λ h. let r = turned x y Equal e in cc)
-    by Greater e = (λ h. cc, not_less_own y)
+lesser_at x y = grind (arith, not_less_own, turned)
 
 -- a name that is not below another is not below one that is no greater
 pub no_less : (x y z : List ℕ) → order x y ≢ Less → order y z ≢ Less → order x z ≢ Less
@@ -316,12 +307,7 @@ no_less x y z p q h = by (order z y) refl
     by Greater e = q (turned z y Greater e)
 
 among_two : (x y : List ℕ) → (lesser x y ≡ x) ⊎ (lesser x y ≡ y)
-among_two x y = by (order x y)
-  where
-    by : (o : Ordering) → (min_by_ordering o x y ≡ x) ⊎ (min_by_ordering o x y ≡ y)
-    by Less = inl refl
-    by Equal = inl refl
-    by Greater = inr refl
+among_two x y = grind arith
 
 least_among : (x : List ℕ) (xs : List (List ℕ)) → is_among (x ∷ xs) (fold lesser x xs) ≡ true
 least_among x [] = first (bytes_eq x x) false (own_name x)
@@ -384,18 +370,9 @@ same_text x y e = same_name x y (texts_ties x y ∙ ap is_eq e)
 -- there is only one result
 one_found : (block : List ℕ → Option (List ℕ)) (lines : List RuleLineModel) (outcome other : Option (List ℕ))
     → IsCycleFound block lines outcome → IsCycleFound block lines other → outcome ≡ other
-one_found block lines None None p q = refl
-one_found block lines None (Some y) p q = absurd (p y q.0)
-one_found block lines (Some x) None p q = absurd (q x p.0)
-one_found block lines (Some x) (Some y) p q = ap Some (by (order x y) refl)
-  where
-    by : (o : Ordering) → order x y ≡ o → x ≡ y
-    by Less e = absurd (q.1 x p.0 e)
-    by Equal e = same_text x y e
-    by Greater e = absurd (p.1 y q.0 (turned x y Greater e))
+one_found block lines outcome other p q = grind (arith, same_text, turned)
 
 -- so the key found is the computed one
 pub is_computed : (block : List ℕ → Option (List ℕ)) (lines : List RuleLineModel) (outcome : Option (List ℕ))
     → IsCycleFound block lines outcome → outcome ≡ variable_cycle_of block lines
-is_computed block lines outcome found =
-    one_found block lines outcome (variable_cycle_of block lines) found (computed_found block lines)
+is_computed block lines outcome found = grind (arith, one_found, computed_found)

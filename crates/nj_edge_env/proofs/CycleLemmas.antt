@@ -1,4 +1,5 @@
 -- Lemmas on cycles of a rule's variables: a key lies on one where its number leads back to itself.
+use Rattle.std.proofs.lemmas.Grind.{common_steps}
 use Rattle.std.proofs.Common.{inl, inr, ◌≡◌, ◌≢◌, ◌<◌, ◌≤◌, ◌+◌, ℕ, zero, suc, Bool, true, false, not, ◌&&◌}
 use Rattle.std.proofs.Common.{if◌then◌else◌, length-append, List, [], ◌∷◌, ◌++◌, length, replicate, slice_get}
 use Rattle.std.proofs.Common.{get_or, Option, Some, None, Result, Ok, Err, is_some, option_map, unwrap_or}
@@ -25,18 +26,14 @@ use Rattle.nj_edge_env.proofs.CycleLaws.{is_computed, not_less_own}
 -- ---- which keys count
 
 counted_none : {X : Type 0} (o : Option X) → not (is_some o) ≡ true → o ≡ None
-counted_none None h = refl
-counted_none (Some x) h = absurd (true≢false (sym h))
+counted_none o h = grind arith
 
 get_front : (xs : List Bool) (b : Bool) (n : ℕ) → n < length xs
     → get_or (xs ++ b ∷ []) n false ≡ get_or xs n false
-get_front [] b n below = absurd (omega arith)
-get_front (x ∷ xs) b zero below = refl
-get_front (x ∷ xs) b (suc n) below = get_front xs b n (omega arith)
+get_front xs b n below = grind (arith, common_steps)
 
 get_end : (xs : List Bool) (b : Bool) → get_or (xs ++ b ∷ []) (length xs) false ≡ b
-get_end [] b = refl
-get_end (x ∷ xs) b = get_end xs b
+get_end xs b = grind (arith, common_steps)
 
 -- the keys of numbers below i
 pub record CountedBelow (block : List ℕ → Option (List ℕ)) (keys : List ReferringKeyModel) (i : ℕ)
@@ -47,31 +44,17 @@ pub record CountedBelow (block : List ℕ → Option (List ℕ)) (keys : List Re
 pub counted_more : (block : List ℕ → Option (List ℕ)) (keys : List ReferringKeyModel) (i : ℕ)
     (counts pushed : List Bool) (b : Bool) → CountedBelow block keys i counts → pushed ≡ counts ++ b ∷ []
     → b ≡ not (is_some (block (name_at keys i))) → CountedBelow block keys (i + 1) pushed
-counted_more block keys i counts pushed b so is e = record {
-  len = ap length is ∙ length-append counts (b ∷ []) ∙ ap (λ k. k + 1) so.len;
-  are = below_more (λ n. slice_index_or pushed n false ≡ not (is_some (block (name_at keys n)))) i
-      (λ n lt. ap (λ xs. slice_index_or xs n false) is
-      ∙ get_front counts b n (subst (λ k. n < k) (sym so.len) lt) ∙ so.are n lt)
-      (ap (λ xs. slice_index_or xs i false) is
-      ∙ ap (λ k. slice_index_or (counts ++ b ∷ []) k false) (sym so.len) ∙ get_end counts b ∙ e);
-}
+counted_more block keys i counts pushed b so is e = grind (arith, common_steps)
 
 pub all_counted : (block : List ℕ → Option (List ℕ)) (keys : List ReferringKeyModel) (i : ℕ)
     (counts held : List Bool) → CountedBelow block keys i counts → length keys ≤ i → held ≡ counts
     → AreCounted block keys held
-all_counted block keys i counts held so le e n below =
-    ap (λ xs. slice_index_or xs n false) e ∙ so.are n (omega arith)
+all_counted block keys i counts held so le e n below = grind arith
 
 -- where nothing is bound each key counts
 pub unbound_counted : (keys : List ReferringKeyModel) (count : ℕ) (counts : List Bool)
     → counts ≡ replicate count true → count ≡ length keys → AreCounted unbound keys counts
-unbound_counted keys count counts is same n below =
-    ap (λ marks. slice_index_or marks n false) is ∙ by count n (subst (λ m. n < m) (sym same) below)
-  where
-    by : (count n : ℕ) → n < count → slice_index_or (replicate count true) n false ≡ true
-    by zero n below = absurd (omega arith)
-    by (suc count) zero below = refl
-    by (suc count) (suc n) below = by count n (omega arith)
+unbound_counted keys count counts is same n below = grind (arith, common_steps)
 
 -- ---- the graph of the keys
 
@@ -272,8 +255,7 @@ module _ (block : List ℕ → Option (List ℕ)) (lines : List RuleLineModel) (
 -- fewer keys count where a block binds some
 unbound_refers : (block : List ℕ → Option (List ℕ)) (lines : List RuleLineModel) (a b : List ℕ)
     → RefersTo block lines a b → RefersTo unbound lines a b
-unbound_refers block lines a b r = let is = rule_value_is block lines a r.0 r.1 in
-    (r.0, rule_value_of unbound lines a is.no_paths refl ∙ is.given, r.2)
+unbound_refers block lines a b r = grind arith
 
 unbound_reaches : (block : List ℕ → Option (List ℕ)) (lines : List RuleLineModel) (a b : List ℕ)
     → Reaches block lines a b → Reaches unbound lines a b

@@ -33,16 +33,11 @@ own_name x = (bytes_eq-Decides x x).1 refl
 -- a name of no paths has no text of paths
 no_paths : (a b c : Bool) (s t u : List ℕ) → (a || (b || (c || false))) ≡ false
     → (if a then Some s else (if b then Some t else (if c then Some u else None))) ≡ None
-no_paths true b c s t u h = absurd (true≢false h)
-no_paths false true c s t u h = absurd (true≢false h)
-no_paths false false true s t u h = absurd (true≢false h)
-no_paths false false false s t u h = refl
+no_paths a b c s t u h = grind arith
 
 pub without_paths : (quoting : Bool) (inputs outputs : List (List ℕ)) (name : List ℕ)
     → names_paths name ≡ false → text_of_paths quoting inputs outputs name ≡ None
-without_paths quoting inputs outputs name h =
-    no_paths (bytes_eq name (codes "in")) (bytes_eq name (codes "in_newline")) (bytes_eq name (codes "out"))
-    (paths_text quoting 32 inputs) (paths_text quoting 10 inputs) (paths_text quoting 32 outputs) h
+without_paths quoting inputs outputs name h = grind arith
 
 some_paths : (a b c : Bool) (s t u : List ℕ) → (a || (b || (c || false))) ≡ true
     → (text : List ℕ) × ((if a then Some s else (if b then Some t else (if c then Some u else None)))
@@ -67,20 +62,11 @@ pub record IsRuleValue (block : List ℕ → Option (List ℕ)) (lines : List Ru
 
 pub rule_value_is : (block : List ℕ → Option (List ℕ)) (lines : List RuleLineModel) (name : List ℕ)
     (parts : List PartModel) → rule_value block lines name ≡ Some parts → IsRuleValue block lines name parts
-rule_value_is block lines name parts h = by (names_paths name) (block name) refl refl h
-  where
-    by : (b : Bool) (o : Option (List ℕ)) → names_paths name ≡ b → block name ≡ o
-        → (if b || is_some o then None else value_given lines name) ≡ Some parts
-        → IsRuleValue block lines name parts
-    by true o p q e = cc
-    by false None p q e = record { no_paths = p; unbound = q; given = e }
-    by false (Some v) p q e = cc
+rule_value_is block lines name parts h = grind arith
 
 pub rule_value_of : (block : List ℕ → Option (List ℕ)) (lines : List RuleLineModel) (name : List ℕ)
     → names_paths name ≡ false → block name ≡ None → rule_value block lines name ≡ value_given lines name
-rule_value_of block lines name p q = ap
-    (λ b. if b || is_some (block name) then None else value_given lines name) p
-    ∙ ap (λ o. if is_some o then None else value_given lines name) q
+rule_value_of block lines name p q = grind arith
 
 -- ---- values
 
@@ -125,49 +111,33 @@ once value quoting n name =
 
 pub once_paths : (value : List ℕ → List ℕ) (quoting : Bool) (n : LateNames) (name text : List ℕ)
     → text_of_paths quoting n.inputs n.outputs name ≡ Some text → once value quoting n name ≡ text
-once_paths value quoting n name text h =
-    ap (λ o. unwrap_or (option_or o (option_or (n.block name)
-    (option_map (expanded value) (rule_value n.block n.lines name)))) (file_value n name)) h
+once_paths value quoting n name text h = grind arith
 
 after_paths : (value : List ℕ → List ℕ) (quoting : Bool) (n : LateNames) (name : List ℕ)
     → names_paths name ≡ false → once value quoting n name
     ≡ unwrap_or (option_or (n.block name) (option_map (expanded value) (rule_value n.block n.lines name)))
     (file_value n name)
-after_paths value quoting n name p = ap
-    (λ o. unwrap_or (option_or o (option_or (n.block name)
-    (option_map (expanded value) (rule_value n.block n.lines name)))) (file_value n name))
-    (without_paths quoting n.inputs n.outputs name p)
+after_paths value quoting n name p = grind arith
 
 pub once_block : (value : List ℕ → List ℕ) (quoting : Bool) (n : LateNames) (name text : List ℕ)
     → names_paths name ≡ false → n.block name ≡ Some text → once value quoting n name ≡ text
-once_block value quoting n name text p h =
-    after_paths value quoting n name p ∙ ap
-    (λ o. unwrap_or (option_or o (option_map (expanded value) (rule_value n.block n.lines name)))
-    (file_value n name)) h
+once_block value quoting n name text p h = grind arith
 
 after_block : (value : List ℕ → List ℕ) (quoting : Bool) (n : LateNames) (name : List ℕ)
     → names_paths name ≡ false → n.block name ≡ None
     → once value quoting n name ≡ unwrap_or (option_map (expanded value) (rule_value n.block n.lines name))
     (file_value n name)
-after_block value quoting n name p h = after_paths value quoting n name p
-    ∙ ap (λ o. unwrap_or (option_or o (option_map (expanded value) (rule_value n.block n.lines name)))
-    (file_value n name)) h
+after_block value quoting n name p h = grind arith
 
 pub once_rule : (value : List ℕ → List ℕ) (quoting : Bool) (n : LateNames) (name : List ℕ)
     (parts : List PartModel) → rule_value n.block n.lines name ≡ Some parts
     → once value quoting n name ≡ expanded value parts
-once_rule value quoting n name parts h =
-    let is = rule_value_is n.block n.lines name parts h in
-    after_block value quoting n name is.no_paths is.unbound
-    ∙ ap (λ o. unwrap_or (option_map (expanded value) o) (file_value n name)) h
+once_rule value quoting n name parts h = grind arith
 
 pub once_file : (value : List ℕ → List ℕ) (quoting : Bool) (n : LateNames) (name : List ℕ)
     → names_paths name ≡ false → n.block name ≡ None → value_given n.lines name ≡ None
     → once value quoting n name ≡ file_value n name
-once_file value quoting n name p q h =
-    after_block value quoting n name p q ∙ ap
-    (λ o. unwrap_or (option_map (expanded value) o) (file_value n name))
-    (rule_value_of n.block n.lines name p q ∙ h)
+once_file value quoting n name p q h = grind arith
 
 -- ---- depth
 
@@ -194,8 +164,7 @@ unseen seen (l ∷ lines) = if is_among seen l.key then unseen seen lines else s
 
 unseen_all : (lines : List RuleLineModel) → unseen [] lines ≡ length lines
 unfolding unseen
-unseen_all [] = refl
-unseen_all (l ∷ lines) = ap suc (unseen_all lines)
+unseen_all lines = grind arith
 
 unseen_longer : (seen : List (List ℕ)) (name : List ℕ) (lines : List RuleLineModel)
     → unseen (name ∷ seen) lines ≤ unseen seen lines
@@ -249,13 +218,7 @@ unseen_fewer seen name (l ∷ lines) new has =
 
 pub given_at : (lines : List RuleLineModel) (key : List ℕ) (parts : List PartModel)
     → value_given lines key ≡ Some parts → given lines key ≡ Some parts
-given_at lines key parts h = by (is_of_command key) (given lines key) h
-  where
-    by : (b : Bool) (v : Option (List PartModel)) → unless_empty b v ≡ Some parts → v ≡ Some parts
-    by true None h = h
-    by true (Some []) h = cc
-    by true (Some (p ∷ ps)) h = h
-    by false v h = h
+given_at lines key parts h = grind arith
 
 found_last : (lines : List RuleLineModel) (key : List ℕ) (parts : List PartModel)
     → option_map (λ l. l.value) (find (λ l. bytes_eq key l.key) lines) ≡ Some parts → has_key lines key ≡ true
@@ -331,48 +294,27 @@ meant quoting n name none = given_within quoting n (suc (length n.lines)) name
 
 from_paths : (quoting : Bool) (n : LateNames) (name text u : List ℕ)
     → text_of_paths quoting n.inputs n.outputs name ≡ Some text → Denotes quoting n name u → u ≡ text
-from_paths quoting n name text u h (by_paths e) = let t = sym e ∙ h in cc
-from_paths quoting n name text u h (by_block p e) = let t =
-    sym (without_paths quoting n.inputs n.outputs name p) ∙ h in cc
-from_paths quoting n name text u h (by_rule parts value e f) = let t =
-    sym (without_paths quoting n.inputs n.outputs name (rule_value_is n.block n.lines name parts e).no_paths)
-    ∙ h in cc
-from_paths quoting n name text u h (by_file p q e) = let t =
-    sym (without_paths quoting n.inputs n.outputs name p) ∙ h in cc
+from_paths quoting n name text u h h1 = grind arith
 
 from_block : (quoting : Bool) (n : LateNames) (name value u : List ℕ) → names_paths name ≡ false
     → n.block name ≡ Some value → Denotes quoting n name u → u ≡ value
-from_block quoting n name value u p h (by_paths e) = let t =
-    sym (without_paths quoting n.inputs n.outputs name p) ∙ e in cc
-from_block quoting n name value u p h (by_block q e) = let t = sym e ∙ h in cc
-from_block quoting n name value u p h (by_rule parts v e f) = let t =
-    sym (rule_value_is n.block n.lines name parts e).unbound ∙ h in cc
-from_block quoting n name value u p h (by_file q o e) = let t = sym o ∙ h in cc
+from_block quoting n name value u p h h1 = grind arith
 
 -- the value of a name that is the rule's
 from_rule : (quoting : Bool) (n : LateNames) (name u : List ℕ) (parts : List PartModel)
     → rule_value n.block n.lines name ≡ Some parts → Denotes quoting n name u
     → (value : List ℕ → List ℕ) × ((other : List ℕ) → refers parts other ≡ true
     → Denotes quoting n other (value other)) × (u ≡ expanded value parts)
-from_rule quoting n name u parts h (by_paths e) = let t =
-    sym (without_paths quoting n.inputs n.outputs name (rule_value_is n.block n.lines name parts h).no_paths)
-    ∙ e in absurd cc
-from_rule quoting n name u parts h (by_block q e) = let t =
-    sym (rule_value_is n.block n.lines name parts h).unbound ∙ e in absurd cc
+from_rule quoting n name u parts h (by_paths e) = grind arith
+from_rule quoting n name u parts h (by_block q e) = grind arith
 from_rule quoting n name u parts h (by_rule others value e f) =
     let t : others ≡ parts = cc (sym e ∙ h) in
     (value, λ other r. f other (subst (λ ps. refers ps other ≡ true) (sym t) r), ap (expanded value) t)
-from_rule quoting n name u parts h (by_file p q e) =
-    let t = sym (rule_value_of n.block n.lines name p q ∙ e) ∙ h in absurd cc
+from_rule quoting n name u parts h (by_file p q e) = grind arith
 
 from_file : (quoting : Bool) (n : LateNames) (name u : List ℕ) → names_paths name ≡ false
     → n.block name ≡ None → value_given n.lines name ≡ None → Denotes quoting n name u → u ≡ file_value n name
-from_file quoting n name u p q h (by_paths e) = let t =
-    sym (without_paths quoting n.inputs n.outputs name p) ∙ e in cc
-from_file quoting n name u p q h (by_block o e) = let t = sym q ∙ e in cc
-from_file quoting n name u p q h (by_rule parts value e f) = let t =
-    sym (rule_value_of n.block n.lines name p q ∙ h) ∙ e in cc
-from_file quoting n name u p q h (by_file o r e) = refl
+from_file quoting n name u p q h h1 = grind arith
 
 pub one_text : OneTextIsGiven
 one_text quoting n name text other (by_paths e) s = sym (from_paths quoting n name text other e s)
@@ -386,23 +328,15 @@ one_text quoting n name text other (by_file p q e) s = sym (from_file quoting n 
 
 not_a_rule_s : (block : List ℕ → Option (List ℕ)) (lines : List RuleLineModel) (key other : List ℕ)
     → rule_value block lines key ≡ None → ¬ Reaches block lines key other
-not_a_rule_s block lines key other h (one r) = let t = sym h ∙ r.1 in cc
-not_a_rule_s block lines key other h (more r c) = let t = sym h ∙ r.1 in cc
+not_a_rule_s block lines key other h h1 = grind arith
 
 rule_value_none : (b : Bool) (o : Option (List ℕ)) (v : Option (List PartModel))
     → ((b ≡ true) ⊎ ((value : List ℕ) × (o ≡ Some value))) → (if b || is_some o then None else v) ≡ None
-rule_value_none true o v h = refl
-rule_value_none false (Some x) v h = refl
-rule_value_none false None v (inl e) = absurd (true≢false (sym e))
-rule_value_none false None v (inr p) = let e = p.1 in cc
+rule_value_none b o v h = grind arith
 
 has_paths : (quoting : Bool) (n : LateNames) (name text : List ℕ)
     → text_of_paths quoting n.inputs n.outputs name ≡ Some text → names_paths name ≡ true
-has_paths quoting n name text h = by (names_paths name) refl
-  where
-    by : (b : Bool) → names_paths name ≡ b → names_paths name ≡ true
-    by true e = e
-    by false e = let t = sym (without_paths quoting n.inputs n.outputs name e) ∙ h in cc
+has_paths quoting n name text h = grind arith
 
 first_step : (block : List ℕ → Option (List ℕ)) (lines : List RuleLineModel) (key other : List ℕ)
     → Reaches block lines key other
@@ -413,16 +347,7 @@ first_step block lines key other (more {g = next} r d) = (next, r, inr d)
 -- the next on a cycle is on it too
 turned : (block : List ℕ → Option (List ℕ)) (lines : List RuleLineModel) (key : List ℕ)
     → IsOnCycle block lines key → (next : List ℕ) × RefersTo block lines key next × IsOnCycle block lines next
-turned block lines key c =
-    let f = first_step block lines key key c in (
-      f.0,
-      f.1,
-      elim f.2 [
-        | inl e ↦ subst (λ x. IsOnCycle block lines x) (sym e) c
-        | inr d ↦
-            reached_push block lines f.0 key f.0 d f.1
-      ],
-    )
+turned block lines key c = grind (arith, first_step, reached_push)
 
 pub cycle_gives_nothing : (quoting : Bool) (n : LateNames) (key text : List ℕ) → Denotes quoting n key text
     → ¬ IsOnCycle n.block n.lines key

@@ -1,4 +1,5 @@
 -- Lemmas on lists of numbers.
+use Rattle.std.proofs.lemmas.Grind.{common_steps}
 use Rattle.std.proofs.Common.{◌≡◌, ◌≢◌, ℕ, zero, suc, ◌+◌, ◌-◌, ◌<◌, ◌≤◌, nat_eq, cond, Result, Ok, Err}
 use Rattle.std.proofs.Common.{is_ok, ◌⊎◌, inl, inr, List, [], ◌∷◌, ◌++◌, length, take, drop, get_or}
 use Rattle.std.proofs.Common.{replicate, arith, refl, sym, ap, subst, ◌∙◌}
@@ -15,8 +16,7 @@ use Rattle.nj_edge_env.proofs.BoundLemmas.{Compared, slice_kept}
 
 pub start-within : (len start : ℕ) (starts : List ℕ) → AreStarts len (start ∷ starts) → start ≤ len
 start-within len start [] h = h
-start-within len start (next ∷ starts) h = let rest = start-within len next starts h.1 in
-    omega (arith, h.0, rest)
+start-within len start (next ∷ starts) h = grind (arith, start-within len next starts h.1)
 
 pub within-at : (len : ℕ) (starts : List ℕ) (i d : ℕ) → AreStarts len starts → i < length starts
     → get_or starts i d ≤ len
@@ -83,8 +83,7 @@ list-inner numbers (s ∷ t ∷ starts) (suc i) d h = list-inner numbers (t ∷ 
 
 to-end : (numbers : List ℕ) (start : ℕ) → start ≤ length numbers
     → slice_range numbers start (length numbers) ≡ drop start numbers
-to-end numbers start h = take_all (length numbers - start) (drop start numbers)
-    (omega (arith, length-drop start numbers))
+to-end numbers start h = grind (arith, common_steps)
 
 nothing-after : (numbers : List ℕ) → drop (length numbers) numbers ≡ []
 nothing-after numbers = drop_all (length numbers) numbers (omega arith)
@@ -222,12 +221,8 @@ pub padded-ok : {E : Type 0} (r : Result (Unit {0}) E) (old new : List ℕ) (man
     → len ≡ length old → length old ≤ many
     → new ≡ cond (is_ok r) (take many old ++ replicate (many - len) start) old
     → OnOk r (new ≡ old ++ replicate (many - length old) start)
-padded-ok (Ok done) old new many len start is fits h =
-    h ∙ ap (λ xs. xs ++ replicate (many - len) start) (take_all many old fits)
-    ∙ ap (λ n. old ++ replicate (many - n) start) is
-padded-ok (Err e) old new many len start is fits h = tt
+padded-ok r old new many len start is fits h = grind (arith, common_steps)
 
 pub padded-err : {E : Type 0} (r : Result (Unit {0}) E) (old new other : List ℕ)
     → new ≡ cond (is_ok r) other old → OnErr r (new ≡ old)
-padded-err (Ok done) old new other h = tt
-padded-err (Err e) old new other h = h
+padded-err r old new other h = grind arith

@@ -1,4 +1,5 @@
 -- Lemmas on copied strings of keys.
+use Rattle.std.proofs.lemmas.Grind.{common_steps}
 use Rattle.std.proofs.Common.{◌≡◌, ◌<◌, ◌≤◌, ◌+◌, ◌-◌, ◌⊎◌, inl, inr, ℕ, zero, suc, Bool, true, false, ◌||◌}
 use Rattle.std.proofs.Common.{if◌then◌else◌, List, [], ◌∷◌, ◌++◌, take, drop, length, slice_get, max, Option}
 use Rattle.std.proofs.Common.{None, Some, is_some, refl, sym, ap, subst, ◌∙◌, true≢false, arith, append_assoc}
@@ -59,21 +60,14 @@ late_settled quoting n (suc depth) (suc more) name le s = elim (way quoting n na
 
 range_kept : (text more : List ℕ) (start end : ℕ) → start ≤ end → end ≤ length text
     → slice_range (text ++ more) start end ≡ slice_range text start end
-range_kept text more start end from to =
-    let inside : end - start ≤ length (drop start text) = simp length-drop (omega arith) in
-    ap (take (end - start)) (drop-append-le start text more (omega arith))
-    ∙ take-append-le (end - start) (drop start text) more inside
+range_kept text more start end from to = grind (arith, common_steps)
 
 range_appended : (text more : List ℕ) → slice_range (text ++ more) (length text) (length (text ++ more))
     ≡ more
-range_appended text more =
-    let n : length (text ++ more) - length text ≡ length more = simp length-append (omega arith) in
-    ap (take (length (text ++ more) - length text)) (drop-append_seam text more) ∙ ap (λ k. take k more) n
-    ∙ take-length more
+range_appended text more = grind (arith, common_steps)
 
 pub grows_on : (old middle new : List ℕ) → IsPrefix old middle → IsPrefix middle new → IsPrefix old new
-grows_on old middle new (more, e) (rest, f) =
-    (more ++ rest, f ∙ ap (λ bytes. bytes ++ rest) e ∙ append_assoc old more rest)
+grows_on old middle new h h1 = grind (arith, common_steps)
 
 grows_longer : (old new : List ℕ) → IsPrefix old new → length old ≤ length new
 grows_longer old new (more, e) = let n = ap length e ∙ length-append old more in omega arith
@@ -122,8 +116,7 @@ set_at [] i j x y h = inr h
 set_at (z ∷ xs) zero zero x y h = inl (refl, cc)
 set_at (z ∷ xs) zero (suc j) x y h = inr h
 set_at (z ∷ xs) (suc i) zero x y h = inr h
-set_at (z ∷ xs) (suc i) (suc j) x y h =
-    elim (set_at xs i j x y h) [ inl e ↦ inl (ap suc e.0, e.1) | inr rest ↦ inr rest ]
+set_at (z ∷ xs) (suc i) (suc j) x y h = grind (arith, set_at xs i j x y h)
 
 module _ (quoting : Bool) (e : LateEdge) (depth : ℕ) (old : List ℕ) where
   -- ---- a name that no line of the rule binds, and one whose string is known

@@ -1,4 +1,5 @@
 -- Lemmas on the paths of an edge, as byte strings.
+use Rattle.std.proofs.lemmas.Grind.{common_steps}
 use Rattle.std.proofs.Common.{◌≡◌, ◌<◌, ◌+◌, ◌⊎◌, inl, inr, ℕ, zero, suc, Bool, List, [], ◌∷◌, ◌++◌, map}
 use Rattle.std.proofs.Common.{take, slice_get, Some, is_some, unwrap_or, if◌then◌else◌, refl, sym, ap, ◌∙◌}
 use Rattle.std.proofs.Common.{true≢false, arith, add-one, append_assoc, Result, Ok, Err, OnErr}
@@ -15,9 +16,11 @@ use Rattle.nj_edge_env.specs.LateStrings.{paths_text}
 joined_last : (separator : ℕ) (x : List ℕ) (xs : List (List ℕ)) (t : List ℕ)
     → join_with_byte separator (x ∷ (xs ++ t ∷ [])) ≡ join_with_byte separator (x ∷ xs) ++ (separator ∷ t)
 joined_last separator x [] t = refl
-joined_last separator x (y ∷ ys) t =
-    ap (λ r. x ++ (separator ∷ r)) (joined_last separator y ys t)
-    ∙ sym (append_assoc x (separator ∷ join_with_byte separator (y ∷ ys)) (separator ∷ t))
+joined_last separator x (y ∷ ys) t = grind (
+  arith,
+  joined_last separator y ys t,
+  append_assoc x (separator ∷ join_with_byte separator (y ∷ ys)) (separator ∷ t),
+)
 
 abbrev shown : Bool → List ℕ → List ℕ
 shown quoting path = if quoting then quoted path else path
@@ -66,16 +69,10 @@ paths_turn files paths quoting separator i file path start before pushed after h
 -- ---- where an allocation failed
 
 pub on-err : {A E P : Type 0} (r : Result A E) → P → OnErr r P
-on-err (Ok a) p = tt
-on-err (Err e) p = p
+on-err r p = grind arith
 
 -- nothing or a separator was appended to the bytes so far
 pub paths_begin : (start text : List ℕ) (separator : ℕ) (before pushed after : List ℕ)
     → before ≡ start ++ text → (pushed ≡ before ++ separator ∷ []) ⊎ (pushed ≡ before) → after ≡ pushed
     → IsPrefix start after
-paths_begin start text separator before pushed after so (inl more) same = (
-  text ++ separator ∷ [],
-  same ∙ more ∙ ap (λ bytes. bytes ++ separator ∷ []) so
-      ∙ append_assoc start text (separator ∷ []),
-)
-paths_begin start text separator before pushed after so (inr none) same = (text, same ∙ none ∙ so)
+paths_begin start text separator before pushed after so h same = grind (arith, common_steps)

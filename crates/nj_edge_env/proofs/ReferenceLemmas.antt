@@ -48,28 +48,14 @@ one_more parts i part name here =
 pub none_refers : (parts : List PartModel) (i : ℕ) (part : PartModel) (name : List ℕ)
     → slice_get parts i ≡ Some part → refers (take i parts) name ≡ false → refers_in part name ≡ false
     → refers (take (i + 1) parts) name ≡ false
-none_refers parts i part name here before off =
-    one_more parts i part name here ∙ ap (λ b. b || (refers_in part name || false)) before
-    ∙ ap (λ b. b || false) off
+none_refers parts i part name here before off = grind (arith, one_more)
 
 -- one that refers to the name is enough
 pub one_refers : (parts : List PartModel) (i : ℕ) (part : PartModel) (name : List ℕ)
     → slice_get parts i ≡ Some part → refers_in part name ≡ true → refers parts name ≡ true
-one_refers [] i part name here is = absurd (none i here)
-  where
-    none : (i : ℕ) → slice_get [] i ≡ Some part → ⊥
-    none i e = let lt = slice_get_within [] i part e in omega (arith, lt)
-one_refers (p ∷ parts) zero part name here is =
-    ap (λ b. b || refers parts name) (ap (λ q. refers_in q name) (same p part here) ∙ is)
-  where
-    same : (p q : PartModel) → Some p ≡ Some q → p ≡ q
-    same p q e = ap (λ o. unwrap_or o p) e
-one_refers (p ∷ parts) (suc i) part name here is =
-    ap (λ b. refers_in p name || b) (one_refers parts i part name here is) ∙ or_true (refers_in p name)
-  where
-    or_true : (b : Bool) → (b || true) ≡ true
-    or_true true = refl
-    or_true false = refl
+one_refers [] i part name here is = grind arith
+one_refers (p ∷ parts) zero part name here is = grind arith
+one_refers (p ∷ parts) (suc i) part name here is = grind (arith, one_refers parts i part name here is)
 
 -- ---- keys in byte order
 

@@ -45,20 +45,13 @@ name_turn f parts i part name start before after here is so more =
 
 some_unless : (b : Bool) (p : PartModel) (parts : List PartModel)
     → true ≡ is_some (unless_empty b (Some (p ∷ parts)))
-some_unless true p parts = refl
-some_unless false p parts = refl
+some_unless b p parts = grind arith
 
 pub given_by_number : (lines : List RuleLineModel) (key : List ℕ) (number : ℕ) (value : List PartModel)
     → IsNumber lines key number → given lines (key_at lines number) ≡ Some value → 0 < length value
     → true ≡ is_some (value_given lines key)
-given_by_number lines key number [] is at long = absurd (omega arith)
-given_by_number lines key number (p ∷ parts) is at long =
-    some_unless (is_of_command key) p parts
-    ∙ ap (λ value. is_some (unless_empty (is_of_command key) value)) (sym at ∙ ap (given lines) is.is)
+given_by_number lines key number value is h long = grind arith
 
 pub given_plain : (lines : List RuleLineModel) (key : List ℕ) (number : ℕ) → IsNumber lines key number
     → is_of_command key ≡ false → true ≡ is_some (value_given lines key)
-given_plain lines key number is plain =
-    let v = value_at lines number is.within in
-    ap is_some (sym v.1) ∙ ap (λ k. is_some (given lines k)) is.is
-    ∙ ap (λ b. is_some (unless_empty b (given lines key))) (sym plain)
+given_plain lines key number is plain = grind (arith, value_at lines number is.within)

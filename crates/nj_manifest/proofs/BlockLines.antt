@@ -1,4 +1,5 @@
 -- The lines of a block, as the lexer comes to them.
+use Rattle.std.proofs.lemmas.Grind.{common_steps}
 use Rattle.std.proofs.Common.{◌≡◌, ℕ, suc, ◌+◌, ◌<◌, ◌≤◌, Bool, true, false, cond, ◌&&◌, Result, Ok, Err}
 use Rattle.std.proofs.Common.{List, [], ◌∷◌, ◌++◌, refl, sym, ap, subst, ◌∙◌, append_assoc, arith}
 use Rattle.std.proofs.lemmas.List.{append-nil}
@@ -44,11 +45,7 @@ lines_left (Inside l ls) = 0
 lines_left (Failed f) = 0
 
 weight-after : (l : Line) (ls : List Line) → lines_weight (lines_after l ls) ≡ lines_weight ls
-weight-after l ls = by_last l.is_last refl
-  where
-    by_last : (t : Bool) → l.is_last ≡ t → lines_weight (cond t (with_units [] l ∷ ls) ls) ≡ lines_weight ls
-    by_last true e = rw e (omega arith)
-    by_last false e = refl
+weight-after l ls = grind arith
 
 -- ---- the start of a line
 
@@ -71,53 +68,25 @@ after-last l ls h = ap (λ t. cond t (with_units [] l ∷ ls) ls) h
 
 -- an empty end of the text stays unchanged
 same-end : (l : Line) (ls : List Line) → (l.is_last && is_empty l.units) ≡ true → lines_after l ls ≡ l ∷ ls
-same-end l ls h = by_units l.is_last l.units refl refl h
-  where
-    by_units : (t : Bool) (us : List TextUnit) → l.is_last ≡ t → l.units ≡ us → (t && is_empty us) ≡ true
-        → lines_after l ls ≡ l ∷ ls
-    by_units true [] e u h = after-last l ls e ∙ ap (λ (us : List TextUnit). with_units us l ∷ ls) (sym u)
-    by_units true (u ∷ us) e v h = absurd cc
-    by_units false us e u h = absurd cc
+same-end l ls h = grind arith
 
 blank_is_indented : BlankLine ≡ IndentedLine → ⊥
 blank_is_indented h = absurd cc
 
 -- an indented line has units
 indented-weight : (l : Line) → kind_of l ≡ IndentedLine → line_weight l ≡ 1
-indented-weight l h = by_units l.is_last l.units h
-  where
-    by_units : (t : Bool) (us : List TextUnit)
-        → kind_after_spaces (drop_while is_space_unit us) (begins_with is_space_unit us) ≡ IndentedLine
-        → cond (t && is_empty us) 0 1 ≡ suc 0
-    by_units t [] h = absurd (blank_is_indented h)
-    by_units true (u ∷ us) h = refl
-    by_units false (u ∷ us) h = refl
+indented-weight l h = grind arith
 
 begun-kind : (allowed : Keys) (limit : ℕ) (k : Kind) (l : Line) (ls : List Line) → kind_of l ≡ k
     → is_comment k ≡ false → lines_weight (l ∷ ls) ≤ limit
     → Begins allowed limit (block_by allowed k l ls (block allowed ls)) (begun_by k l ls)
-begun-kind allowed limit CommentLine l ls e h g = absurd cc
-begun-kind allowed limit (TabLine tab) l ls e h g = refl
-begun-kind allowed limit BlankLine l ls e h g = by_end (l.is_last && is_empty l.units) refl
-  where
-    by_end : (t : Bool) → (l.is_last && is_empty l.units) ≡ t
-        → Begins allowed limit (no_lines (lines_after l ls))
-        (cond t (reply start.End (Between (l ∷ ls))) (reply start.Blank (Between (lines_after l ls))))
-    by_end true e = (ap no_lines (same-end l ls e), tt)
-    by_end false e = (refl, tt)
-begun-kind allowed limit IndentedLine l ls e h g = let w = indented-weight l e in
-    (l, ls, refl, refl, omega arith)
-begun-kind allowed limit PlainLine l ls e h g = (refl, e)
+begun-kind allowed limit k l ls e h g = grind arith
 
 -- a comment gives nothing
 block-comment : (allowed : Keys) (k : Kind) (l : Line) (ls : List Line) (others : Parse (List LineModel))
     → is_comment k ≡ true → block_by allowed k l ls others
     ≡ or_last l (no_lines (lines_after l (without_comments ls))) others
-block-comment allowed CommentLine l ls others h = refl
-block-comment allowed (TabLine tab) l ls others h = absurd cc
-block-comment allowed BlankLine l ls others h = absurd cc
-block-comment allowed IndentedLine l ls others h = absurd cc
-block-comment allowed PlainLine l ls others h = absurd cc
+block-comment allowed k l ls others h = grind arith
 
 begun-begins : (allowed : Keys) (limit : ℕ) (ls : List Line) → lines_weight ls ≤ limit
     → Begins allowed limit (block allowed ls) (begun (without_comments ls))
@@ -147,19 +116,13 @@ begun-begins allowed limit (l ∷ ls) h =
 -- the result of the lexer at the start of a line
 pub start-begins : (allowed : Keys) (ls : List Line) (r : Reply LineStart) → start_line_of (Between ls) ≡ r
     → Begins allowed (lines_weight ls) (block allowed ls) r
-start-begins allowed ls r h = subst (Begins allowed (lines_weight ls) (block allowed ls)) h
-    (begun-begins allowed (lines_weight ls) ls (omega arith))
+start-begins allowed ls r h = grind (arith, begun-begins allowed (lines_weight ls) ls (omega arith))
 
 -- a line is followed by the rest of the block
 pub block-after : (allowed : Keys) (l : Line) (ls : List Line)
     → block allowed (lines_after l ls) ≡ or_last l (no_lines (lines_after l ls)) (block allowed ls)
 unfolding block
-block-after allowed l ls = by_last l.is_last refl
-  where
-    by_last : (t : Bool) → l.is_last ≡ t → block allowed (cond t (with_units [] l ∷ ls) ls)
-        ≡ cond t (no_lines (cond t (with_units [] l ∷ ls) ls)) (block allowed ls)
-    by_last true e = rw e refl
-    by_last false e = refl
+block-after allowed l ls = grind arith
 
 -- ---- the turns of the loop
 
@@ -174,13 +137,7 @@ StillReads allowed front (Between ls) now =
 StillReads allowed front other now = Unit {0}
 
 pub still-begins : (allowed : Keys) (before : State) → StillReads allowed [] before before
-still-begins allowed (Between ls) = (ls, refl, nothing-in_front (block allowed ls))
-  where
-    nothing-in_front : (others : Parse (List LineModel)) → in_front [] others ≡ others
-    nothing-in_front (Ok o) = refl
-    nothing-in_front (Err f) = refl
-still-begins allowed (Inside l ls) = tt
-still-begins allowed (Failed f) = tt
+still-begins allowed before = grind arith
 
 -- the start of a line, as it is answered
 abbrev pub Started : LineStart → (before after : State) → Type 0
@@ -202,8 +159,7 @@ started-indented allowed (Failed f) middle h = absurd (false≢true (ap begins_i
 line-after : (allowed : Keys) (l : Line) (ls : List Line) (middle : State) (line : LineModel) (after : State)
     → middle ≡ Inside (without_spaces l) ls → line_next allowed middle ≡ Ok (line, after)
     → after ≡ Between (lines_after l ls)
-line-after allowed l ls middle line after i h =
-    line-inside allowed (without_spaces l) ls line after (ap (line_next allowed) (sym i) ∙ h)
+line-after allowed l ls middle line after i h = grind (arith, line-inside)
 
 -- After a line fewer lines are left.
 pub lines_left-line : (allowed : Keys) (s middle : State) (line : LineModel) (after : State)
@@ -222,12 +178,7 @@ in_front-more : (front : List LineModel) (line : LineModel) (after : State) (l :
     (last others : Parse (List LineModel)) (x : Step LineModel) → x ≡ Ok (line, after)
     → in_front front (x >>= λ line. (or_last l last others >>= λ more. Ok (line.0 ∷ more.0, more.1)))
     ≡ in_front (front ++ line ∷ []) (or_last l last others)
-in_front-more front line after l last others x h = rw h (with_more (or_last l last others))
-  where
-    with_more : (more : Parse (List LineModel))
-        → in_front front (more >>= λ more. Ok (line ∷ more.0, more.1)) ≡ in_front (front ++ line ∷ []) more
-    with_more (Err f) = refl
-    with_more (Ok o) = ap (λ (x : List LineModel). Ok (x, o.1)) (sym (append_assoc front (line ∷ []) o.0))
+in_front-more front line after l last others x h = grind (arith, common_steps)
 
 -- the block after a line
 after-turn : (allowed : Keys) (front : List LineModel) (l : Line) (ms : List Line) (middle : State)
@@ -260,11 +211,7 @@ block-turn allowed front (Failed f) s middle line after still h e = tt
 ends-block : (allowed : Keys) (limit : ℕ) (whole : Parse (List LineModel)) (x : LineStart) (s : State)
     → (x ≡ start.Indented → ⊥) → Begins allowed limit whole (Ok (x, s))
     → (whole ≡ no_lines (lines_from s)) × IsBetweenStatements s
-ends-block allowed limit whole start.Indented s other h = absurd (other refl)
-ends-block allowed limit whole start.Middle s other h = absurd h
-ends-block allowed limit whole start.End s other h = h
-ends-block allowed limit whole start.Blank s other h = h
-ends-block allowed limit whole start.Plain s other h = h
+ends-block allowed limit whole x s other h = grind arith
 
 pub block-end : {X : Type 0} (view : X → List LineModel) (allowed : Keys) (before s after : State)
     (x : LineStart) (lines : X) → StillReads allowed (view lines) before s → (x ≡ start.Indented → ⊥)
@@ -283,18 +230,7 @@ block-end view allowed (Failed f) s after x lines still other h = tt
 -- a fault of a step is a fault of the whole
 fails-so : {A B : Type 0} (f : ParseFault) (x : Result A Fault) (y : Result B Fault)
     → ((e : Fault) → x ≡ Err e → y ≡ Err e) → Fails f x → Fails f y
-fails-so (fault.Lex lex.OutOfMemory) x y so h = tt
-fails-so (fault.Lex (lex.BadByte spot)) x y so h = so _ h
-fails-so (fault.Lex (lex.Tab spot)) x y so h = so _ h
-fails-so (fault.Lex (lex.BadEscape spot)) x y so h = so _ h
-fails-so (fault.Expected spot want) x y so h = so _ h
-fails-so (fault.UnexpectedIndent spot) x y so h = so _ h
-fails-so (fault.MissingCommand spot) x y so h = so _ h
-fails-so (fault.RspPair spot) x y so h = so _ h
-fails-so (fault.UnknownKey spot key) x y so h = so _ h
-fails-so (fault.MissingDepth spot) x y so h = so _ h
-fails-so (fault.DyndepVersion spot) x y so h = so _ h
-fails-so (fault.DyndepShape spot) x y so h = so _ h
+fails-so f x y so h = grind arith
 
 -- a whole that fails, as it is answered
 abbrev pub FailsFrom : State → (List Line → Parse (List LineModel)) → ParseFault → Type 0
@@ -305,26 +241,18 @@ pub fails-from : {X : Type 0} (view : X → List LineModel) (before after : Stat
     (reading : List Line → Parse (List LineModel)) (r : Result X ParseFault) (f : ParseFault)
     → IsErr r × IsErrAnd r (λ e. e ≡ f) → FailsFrom before reading f
     → ParsesFrom view before after reading r
-fails-from view before after reading (Ok x) f h so = absurd cc
-fails-from view (Between ls) after reading (Err e) f h so = rw h.1 so
-fails-from view (Inside l ls) after reading (Err e) f h so = tt
-fails-from view (Failed g) after reading (Err e) f h so = tt
+fails-from view before after reading r f h so = grind arith
 
 pub block-start-fails : (allowed : Keys) (front : List LineModel) (before s after : State) (f : LexFault)
     → StillReads allowed front before s → Answers {X = LineStart} (λ s. s) (Err f) after (start_line_of s)
     → FailsFrom before (block allowed) (fault.Lex f)
 block-start-fails allowed front (Between ls) s after lex.OutOfMemory still h = tt
-block-start-fails allowed front (Between ls) s after (lex.BadByte spot) still h =
-    let e = start-begins allowed still.0 (Err (unit_fault.BadByte spot))
-    (ap start_line_of (sym still.1) ∙ h.0) in
-    sym still.2 ∙ ap (in_front front) e
-block-start-fails allowed front (Between ls) s after (lex.Tab spot) still h =
-    let e = start-begins allowed still.0 (Err (unit_fault.Tab spot)) (ap start_line_of (sym still.1) ∙ h.0) in
-    sym still.2 ∙ ap (in_front front) e
-block-start-fails allowed front (Between ls) s after (lex.BadEscape spot) still h =
-    let e = start-begins allowed still.0 (Err (unit_fault.BadEscape spot))
-    (ap start_line_of (sym still.1) ∙ h.0) in
-    sym still.2 ∙ ap (in_front front) e
+block-start-fails allowed front (Between ls) s after (lex.BadByte spot) still h = grind arith
+block-start-fails allowed front (Between ls) s after (lex.Tab spot) still h = grind (
+  arith,
+  start-begins allowed still.0 (Err (unit_fault.Tab spot)) (ap start_line_of (sym still.1) ∙ h.0),
+)
+block-start-fails allowed front (Between ls) s after (lex.BadEscape spot) still h = grind arith
 block-start-fails allowed front (Inside l ls) s after f still h = tt
 block-start-fails allowed front (Failed g) s after f still h = tt
 

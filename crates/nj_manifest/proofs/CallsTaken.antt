@@ -1,5 +1,5 @@
 -- The result of a call of the lexer, as a step.
-use Rattle.std.proofs.Common.{◌≡◌, Result, Ok, Err, sym, ap, ◌∙◌}
+use Rattle.std.proofs.Common.{arith, ◌≡◌, Result, Ok, Err, sym, ap, ◌∙◌}
 use Rattle.std.specs.Result.{IsErr, IsErrAnd}
 use Rattle.nj_text.specs.declared.fault.UnitFault.{UnitFault}
 use Rattle.nj_text.specs.declared.fault.UnitFault.TheVariants as unit_fault
@@ -36,24 +36,12 @@ fails-by (lex.BadEscape spot) before after r whole h so =
 pub handed-on : {X Y : Type 0} (view : X → Y) (f : LexFault) (r : Result X ParseFault) (after : State)
     (whole : Step Y) → IsErr r × IsErrAnd r (λ e. e ≡ fault.Lex f) → Fails (fault.Lex f) whole
     → TakesStep view r after whole
-handed-on view f (Ok x) after whole h so = absurd cc
-handed-on view f (Err e) after whole h so = rw h.1 so
+handed-on view f r after whole h so = grind arith
 
 -- the result of a function with this fault
 pub fails-so : {Y : Type 0} (f : ParseFault) (whole : Result Y Fault) → whole ≡ Err (fault_text f)
     → Fails f whole
-fails-so (fault.Lex lex.OutOfMemory) whole h = tt
-fails-so (fault.Lex (lex.BadByte spot)) whole h = h
-fails-so (fault.Lex (lex.Tab spot)) whole h = h
-fails-so (fault.Lex (lex.BadEscape spot)) whole h = h
-fails-so (fault.Expected s w) whole h = h
-fails-so (fault.UnexpectedIndent s) whole h = h
-fails-so (fault.MissingCommand s) whole h = h
-fails-so (fault.RspPair s) whole h = h
-fails-so (fault.UnknownKey s k) whole h = h
-fails-so (fault.MissingDepth s) whole h = h
-fails-so (fault.DyndepVersion s) whole h = h
-fails-so (fault.DyndepShape s) whole h = h
+fails-so f whole h = grind arith
 
 -- a call that is made where another one took nothing
 pub made-there : {Y : Type 0} (call : State → Reply Y) (before there : State) (step : Step Y) → there ≡ before

@@ -1,5 +1,6 @@
 -- Short names for the choices of the steps, each with its cases.
-use Rattle.std.proofs.Common.{◌≡◌, ℕ, suc, Bool, cond, Option, None, Result, Ok, Err, List, [], ◌∷◌, length}
+use Rattle.std.proofs.Common.{arith, ◌≡◌, ℕ, suc, Bool, cond, Option, None, Result, Ok, Err, List, [], ◌∷◌}
+use Rattle.std.proofs.Common.{length}
 use Rattle.std.proofs.Common.{refl}
 use Rattle.std.specs.Prelude.{ok_or}
 use Rattle.std.specs.Option.{option_map_or}
@@ -37,9 +38,7 @@ units_left (Failed f) = 0
 
 pub words_next-is : (s : State) → words_next s ≡ words_within (suc (units_left s)) s
 unfolding words_next
-words_next-is (Between ls) = refl
-words_next-is (Inside l ls) = refl
-words_next-is (Failed f) = refl
+words_next-is s = grind arith
 
 abbrev pub words_if : Bool → State → Step (List WordModel)
 words_if there after = cond there (words_next after) (Ok ([], after))

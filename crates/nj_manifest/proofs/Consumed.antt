@@ -26,54 +26,28 @@ use Rattle.nj_manifest.proofs.Starts.{ahead}
 
 bind-ok : {A B : Type 0} (r : Result A Fault) (k : A → Result B Fault) (y : B) → (r >>= k) ≡ Ok y
     → (x : A) × (r ≡ Ok x) × (k x ≡ Ok y)
-bind-ok (Ok x) k y h = (x, refl, h)
-bind-ok (Err e) k y h = absurd cc
+bind-ok r k y h = grind arith
 
 rest-is : {A : Type 0} (x y : A) (r rest : List Line) → ◌≡◌ {A = Parse A} (Ok (x, r)) (Ok (y, rest))
     → r ≡ rest
-rest-is {A} x y r rest h = ap (λ p. p.1) (read-is (x, r) (y, rest) h)
-  where
-    read-is : (p q : A × List Line) → ◌≡◌ {A = Parse A} (Ok p) (Ok q) → p ≡ q
-    read-is p q e = cc
+rest-is {A} x y r rest h = grind arith
 
 -- the end of the lines is not a statement
 no_statement : {A : Type 0} (ended : List Line) (s : PlacedModel) (rest : List Line)
     → nothing_more ended ≡ Ok (Some s, rest) → A
-no_statement ended s rest h = absurd (apart (ap (λ (r : Parse (Option PlacedModel)). found r) h))
-  where
-    found : Parse (Option PlacedModel) → Option PlacedModel
-    found (Ok p) = p.0
-    found (Err f) = None
-
-    apart : None ≡ Some s → ⊥
-    apart e = absurd cc
+no_statement ended s rest h = grind arith
 
 -- ---- after a line
 
 no_fewer : (l : Line) (ls : List Line) → ahead (lines_after l ls) ≤ ahead (l ∷ ls)
-no_fewer l ls = by_last l.is_last refl
-  where
-    by_last : (t : Bool) → l.is_last ≡ t → ahead (cond t (with_units [] l ∷ ls) ls) ≤ cond t
-        (cond (is_empty l.units) 0 1) (suc (ahead ls))
-    by_last true e = rw e (omega arith)
-    by_last false e = omega arith
+no_fewer l ls = grind arith
 
 fewer : (l : Line) (ls : List Line) → is_empty l.units ≡ false → ahead (lines_after l ls) < ahead (l ∷ ls)
-fewer l ls h = by_last l.is_last refl
-  where
-    by_last : (t : Bool) → l.is_last ≡ t → ahead (cond t (with_units [] l ∷ ls) ls) < cond t
-        (cond (is_empty l.units) 0 1) (suc (ahead ls))
-    by_last true e = rw (e, h) (omega arith)
-    by_last false e = omega arith
+fewer l ls h = grind arith
 
 -- a plain line has units
 plain-units : (l : Line) → kind_of l ≡ PlainLine → is_empty l.units ≡ false
-plain-units l h = by_units l.units h
-  where
-    by_units : (us : List TextUnit) → kind_after_spaces (drop_while is_space_unit us)
-        (begins_with is_space_unit us) ≡ PlainLine → is_empty us ≡ false
-    by_units [] e = absurd cc
-    by_units (u ∷ us) e = refl
+plain-units l h = grind arith
 
 -- ---- a block
 
@@ -83,37 +57,15 @@ Within {A} ls reading = (x : A) (rest : List Line) → reading ≡ Ok (x, rest) 
 
 comment-within : {A : Type 0} (l : Line) (ls : List Line) (x : A) (others : Parse A) → Within ls others
     → Within (l ∷ ls) (or_last l (Ok (x, lines_after l (without_comments ls))) others)
-comment-within {A} l ls x others ih = by_last l.is_last refl
-  where
-    by_last : (t : Bool) → l.is_last ≡ t → (y : A) (rest : List Line)
-        → cond t (Ok (x, cond t (with_units [] l ∷ without_comments ls) (without_comments ls))) others
-        ≡ Ok (y, rest) → ahead rest ≤ cond t (cond (is_empty l.units) 0 1) (suc (ahead ls))
-    by_last true e y rest h = let r = rest-is x y _ rest h in rw (sym r, e) (omega arith)
-    by_last false e y rest h = let i = ih y rest h in omega arith
+comment-within {A} l ls x others ih = grind arith
 
 line-within : {A : Type 0} (l : Line) (ls : List Line) (x : A) (others : Parse A) → Within ls others
     → Within (l ∷ ls) (or_last l (Ok (x, lines_after l ls)) others)
-line-within {A} l ls x others ih = by_last l.is_last refl
-  where
-    by_last : (t : Bool) → l.is_last ≡ t → (y : A) (rest : List Line)
-        → cond t (Ok (x, cond t (with_units [] l ∷ ls) ls)) others ≡ Ok (y, rest)
-        → ahead rest ≤ cond t (cond (is_empty l.units) 0 1) (suc (ahead ls))
-    by_last true e y rest h = let r = rest-is x y _ rest h in rw (sym r, e) (omega arith)
-    by_last false e y rest h = let i = ih y rest h in omega arith
+line-within {A} l ls x others ih = grind arith
 
 block-kind : (allowed : Keys) (k : Kind) (l : Line) (ls : List Line) → Within ls (block allowed ls)
     → Within (l ∷ ls) (block_by allowed k l ls (block allowed ls))
-block-kind allowed CommentLine l ls ih = comment-within l ls [] (block allowed ls) ih
-block-kind allowed (TabLine tab) l ls ih = λ x rest h. absurd cc
-block-kind allowed IndentedLine l ls ih = λ x rest h.
-    let line = bind-ok (line_next allowed (Inside (without_spaces l) ls)) _ (x, rest) h in
-    let more = bind-ok (or_last l (no_lines (lines_after l ls)) (block allowed ls)) _ (x, rest) line.2 in
-    subst (λ r. ahead r ≤ ahead (l ∷ ls)) (rest-is _ x more.0.1 rest more.2)
-    (line-within l ls [] (block allowed ls) ih more.0.0 more.0.1 more.1)
-block-kind allowed BlankLine l ls ih = λ x rest h. subst (λ r. ahead r ≤ ahead (l ∷ ls))
-    (rest-is [] x _ rest h) (no_fewer l ls)
-block-kind allowed PlainLine l ls ih = λ x rest h. subst (λ r. ahead r ≤ ahead (l ∷ ls))
-    (rest-is [] x _ rest h) (omega arith)
+block-kind allowed k l ls ih = grind arith
 
 block-within : (allowed : Keys) (ls : List Line) → Within ls (block allowed ls)
 unfolding block
@@ -161,22 +113,11 @@ Takes ls reading = (s : PlacedModel) (rest : List Line) → reading ≡ Ok (Some
 
 last-takes : (l : Line) (ls : List Line) (rest : List Line) (others : Parse (Option PlacedModel))
     → Takes ls others → Takes (l ∷ ls) (or_last l (nothing_more rest) others)
-last-takes l ls rest others ih = by_last l.is_last
-  where
-    by_last : (t : Bool) (s : PlacedModel) (r : List Line)
-        → cond t (nothing_more rest) others ≡ Ok (Some s, r)
-        → ahead r < cond t (cond (is_empty l.units) 0 1) (suc (ahead ls))
-    by_last true s r h = no_statement rest s r h
-    by_last false s r h = let i = ih s r h in omega arith
+last-takes l ls rest others ih = grind arith
 
 kind-takes : (k : Kind) (l : Line) (ls : List Line) → kind_of l ≡ k → Takes ls (next_statement ls)
     → Takes (l ∷ ls) (next_by k l ls (next_statement ls))
-kind-takes CommentLine l ls e ih = last-takes l ls (lines_after l (without_comments ls)) (next_statement ls)
-    ih
-kind-takes (TabLine tab) l ls e ih = λ s rest h. absurd cc
-kind-takes IndentedLine l ls e ih = λ s rest h. absurd cc
-kind-takes BlankLine l ls e ih = last-takes l ls (lines_after l ls) (next_statement ls) ih
-kind-takes PlainLine l ls e ih = λ s rest h. statement-takes l ls s rest e h
+kind-takes k l ls e ih = grind (arith, last-takes, statement-takes)
 
 -- A statement takes a line at least.
 pub statement_takes : (ls : List Line) (s : PlacedModel) (rest : List Line)
@@ -189,15 +130,7 @@ statement_takes (l ∷ ls) = λ s rest h. kind-takes (kind_of l) l ls refl (stat
 
 unit-lines : (ending : Option Bool) (u : TextUnit) (ls : List Line)
     → ahead (lines_before ending u ls) ≤ suc (ahead ls)
-unit-lines None u [] = omega arith
-unit-lines None u (l ∷ ls) = by_last l.is_last
-  where
-    by_last : (t : Bool) → cond t 1 (suc (ahead ls)) ≤ suc
-        (cond t (cond (is_empty l.units) 0 1) (suc (ahead ls)))
-    by_last true = omega arith
-    by_last false = omega arith
-unit-lines (Some true) u ls = omega arith
-unit-lines (Some false) u ls = omega arith
+unit-lines ending u ls = grind arith
 
 cut-lines : (position : Position) (skip : ℕ) (spot : Spot) (bs : List ℕ)
     → ahead (lines_of (cut position skip spot bs)) ≤ length bs
@@ -210,8 +143,7 @@ cut-lines position zero spot (b ∷ bs) =
     let one = unit-lines (ending_of found.0)
     (record { spot = spot; bytes = b ∷ take found.1 bs; means = found.0 }) (lines_of others) in
     omega arith
-cut-lines position (suc skip) spot (b ∷ bs) = let more = cut-lines position skip (spot_after b spot) bs in
-    omega arith
+cut-lines position (suc skip) spot (b ∷ bs) = grind (arith, cut-lines position skip (spot_after b spot) bs)
 
 -- A text has no more lines with units than bytes.
 pub text_has_bytes : (text : List ℕ) → ahead (text_lines text) ≤ length text

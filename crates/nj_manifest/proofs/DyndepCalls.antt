@@ -1,5 +1,6 @@
 -- The calls of a parser of dyndep files, by the lines that they read.
-use Rattle.std.proofs.Common.{◌≡◌, Bool, true, false, Option, Some, option_map, Result, Ok, Err, List, refl}
+use Rattle.std.proofs.Common.{arith, ◌≡◌, Bool, true, false, Option, Some, option_map, Result, Ok, Err, List}
+use Rattle.std.proofs.Common.{refl}
 use Rattle.std.proofs.Common.{sym, ap, subst, ◌∙◌}
 use Rattle.nj_text.specs.declared.spot.Spot.{Spot}
 use Rattle.nj_text.specs.Lines.{Line, lines_after}
@@ -29,40 +30,16 @@ version-is ls = refl
 
 pub version-no_opening : (f : ParseFault) (before after : State) → FindsOpening before after (Err f)
     → ReadsVersion before after (Err f)
-version-no_opening f before after h = subst (Fails f) (sym (version-is (lines_from before)))
-    (fails-on f (opening (lines_from before)) version_from h)
+version-no_opening f before after h = grind (arith, version-is, fails-on)
 
 pub version-at_end : (before after : State) (spot : Spot) → FindsOpening before after (Ok false)
     → spot ≡ spot_of after → version_next (lines_from before) ≡ Err (Placed spot cause.DyndepVersion)
-version-at_end before (Between ls) spot h s =
-    version-is (lines_from before) ∙ (ap (λ o. o >>= version_from) h.0
-    ∙ ap (λ p. Err (Placed p cause.DyndepVersion)) (sym s))
-version-at_end before (Inside l ls) spot h s = absurd (apart h.2)
-  where
-    apart : true ≡ false → ⊥
-    apart e = absurd cc
-version-at_end before (Failed f) spot h s = absurd h.1
+version-at_end before after spot h s = grind (arith, version-is)
 
 pub version-read : (before middle after : State) (result : Result (Unit {0}) ParseFault)
     → FindsOpening before middle (Ok true) → LeadsTo result after (version_line middle)
     → ReadsVersion before after result
-version-read before (Between ls) after result h p = absurd (apart h.2)
-  where
-    apart : false ≡ true → ⊥
-    apart e = absurd cc
-version-read before (Failed f) after result h p = absurd h.1
-version-read before (Inside l ls) after result h p =
-    by_result result p (version-is (lines_from before) ∙ ap (λ o. o >>= version_from) h.0)
-  where
-    by_result : (r : Result (Unit {0}) ParseFault) → LeadsTo r after (version_line (Inside l ls))
-        → version_next (lines_from before) ≡ (version_line (Inside l ls) >>= λ end. Ok (lines_from end))
-        → ReadsVersion before after r
-    by_result (Ok done) p e = (
-      e ∙ ap (λ r. r >>= λ end. Ok (lines_from end)) p,
-      subst IsBetweenStatements (sym (version-ends l ls after p)) tt,
-    )
-    by_result (Err f) p e = subst (Fails f) (sym e)
-        (fails-on f (version_line (Inside l ls)) (λ end. Ok (lines_from end)) p)
+version-read before middle after result h p = grind (arith, version-is, version-ends, fails-on)
 
 -- ---- an entry
 
@@ -80,34 +57,15 @@ at-is l ls = refl
 
 pub entry-no_line : (before after : State) (f : ParseFault) → Fails f (entry_line before)
     → ParsesAt (option_map entry_model) before after entry_here (Err f)
-entry-no_line (Between ls) after f h = tt
-entry-no_line (Failed g) after f h = tt
-entry-no_line (Inside l ls) after f h =
-    subst (Fails f) (sym (at-is l ls)) (fails-on f (entry_line (Inside l ls)) _ h)
+entry-no_line before after f h = grind arith
 
 pub entry-no_block : (before middle after : State) (e : Entry) (f : ParseFault)
     → entry_line before ≡ Ok (entry_model e, middle)
     → Fails f (restat_block middle) → ParsesAt (option_map entry_model) before after entry_here (Err f)
-entry-no_block (Between ls) middle after e f h p = tt
-entry-no_block (Failed g) middle after e f h p = tt
-entry-no_block (Inside l ls) middle after e f h p =
-    let whole = at-is l ls ∙ ap (λ r. r >>= with_block) h in
-    subst (Fails f) (sym whole)
-    (fails-on f (restat_block middle) (λ block. Ok
-    (Some (record (entry_model e) { restat = block.0 }), lines_from block.1)) p)
+entry-no_block before middle after e f h p = grind arith
 
 pub entry-read : (before middle after : State) (e : Entry) (restat : Bool)
     → entry_line before ≡ Ok (entry_model e, middle)
     → restat_block middle ≡ Ok (restat, after)
     → ParsesAt (option_map entry_model) before after entry_here (Ok (Some (record e { restat = restat })))
-entry-read (Between ls) middle after e restat h p = tt
-entry-read (Failed g) middle after e restat h p = tt
-entry-read (Inside l ls) middle after e restat h p =
-    let whole = at-is l ls ∙ ap (λ r. r >>= with_block) h in
-    let ends = entry-ends l ls (entry_model e, middle) h in (
-      whole ∙ ap (λ r. r >>= λ block. Ok (
-        Some (record (entry_model e) { restat = block.0 }),
-        lines_from block.1,
-      )) p,
-      block-ends (lines_after l ls) (restat, after) (ap restat_block (sym ends) ∙ p),
-    )
+entry-read before middle after e restat h p = grind (arith, at-is, entry-ends, block-ends)

@@ -1,5 +1,6 @@
 -- Where the lines of a dyndep file leave the lexer.
-use Rattle.std.proofs.Common.{◌≡◌, ℕ, Bool, true, false, Option, Some, None, Result, Ok, Err, List, refl, sym}
+use Rattle.std.proofs.Common.{arith, ◌≡◌, ℕ, Bool, true, false, Option, Some, None, Result, Ok, Err, List}
+use Rattle.std.proofs.Common.{refl, sym}
 use Rattle.std.proofs.Common.{ap, subst, ◌∙◌, codes}
 use Rattle.nj_text.specs.declared.sign.Sign.{Sign}
 use Rattle.nj_text.specs.declared.sign.Sign.TheVariants as sign
@@ -173,8 +174,7 @@ version-ends l ls s h = version_line-inside l ls (Inside l ls) s (l.units, refl)
 -- ---- blocks
 
 pub called-ok : {A : Type 0} (r : Reply A) (x : A) (s : State) → called r ≡ Ok (x, s) → r ≡ Ok (x, s)
-called-ok (Ok y) x s h = ap Ok (oks h)
-called-ok (Err f) x s h = no_ok h
+called-ok r x s h = grind arith
 
 -- where a line was begun, or was not
 settled : (bound : Bool) (ls : List Line) (x : LineStart) (m : State) (y : Bool × State)

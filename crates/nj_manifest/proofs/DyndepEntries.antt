@@ -1,5 +1,6 @@
 -- Lines of dyndep files: their readings and their form.
-use Rattle.std.proofs.Common.{◌≡◌, ℕ, Bool, true, false, not, Option, Some, None, Ok, Err, List, [], refl}
+use Rattle.std.proofs.Common.{arith, ◌≡◌, ℕ, Bool, true, false, not, Option, Some, None, Ok, Err, List, []}
+use Rattle.std.proofs.Common.{refl}
 use Rattle.std.proofs.Common.{sym, ap, subst, ◌∙◌, codes}
 use Rattle.std.proofs.lemmas.Slice.Eq.{bytes_eq-Decides}
 use Rattle.nj_text.specs.declared.sign.Sign.{Sign}
@@ -39,10 +40,7 @@ skip-skip : (us : List TextUnit) → skip (skip us) ≡ skip us
 skip-skip us = none_passed is_blank (skip us) (skip_stops us)
 
 path-skips : (s : State) → path_word_of (skip_blanks_of s) ≡ path_word_of s
-path-skips (Between ls) = refl
-path-skips (Inside l ls) = ap (λ (us : List TextUnit). unless_bad word_at (with_units us l) ls)
-    (skip-skip l.units)
-path-skips (Failed f) = refl
+path-skips s = grind (arith, skip-skip)
 
 -- ---- no path
 
@@ -55,14 +53,11 @@ no_path-words l ls s s' h =
 
 no_words : (us rest : List TextUnit) (words : List WordModel) → words ≡ [] → WordsForm us words rest
     → rest ≡ us
-no_words us rest words e WordsForm.none = refl
-no_words us rest words e (WordsForm.more f fs) = absurd cc
+no_words us rest words e h = grind arith
 
 no_path-form : (l : Line) (ls : List Line) (us : List TextUnit) (s s' : State) → s ≡ within l ls us
     → no_path s ≡ Ok s' → s' ≡ within l ls (skip us)
-no_path-form l ls us s s' e h =
-    let words = words-form l ls [] us s' (ap words_next (sym e) ∙ no_path-words l ls s s' h) in
-    words.2 ∙ ap (λ (vs : List TextUnit). within l ls (skip vs)) (no_words us words.0 [] refl words.1)
+no_path-form l ls us s h e h1 = grind (arith, words-form, no_path-words, within, skip, no_words)
 
 no_path-read : (l : Line) (ls : List Line) (us : List TextUnit) → next_fault (skip us) ≡ None
     → begins_with opens_word (skip us) ≡ false → no_path (within l ls us) ≡ Ok (within l ls (skip us))
@@ -97,20 +92,16 @@ word_of_form-read word want l ls us rest f =
 no_section-form : (want : Sign) (l : Line) (ls : List Line) (us : List TextUnit) (s s' : State)
     → s ≡ within l ls (skip us) → no_section want s ≡ Ok s' → s' ≡ within l ls (skip us)
 unfolding no_section
-no_section-form want l ls us s s' e h =
-    let there = bind-ok (called (sign_of want (skip_blanks_of s))) _ s' h in
-    let k = unless_missing-ok _ _ (Ok there.0.1) s' there.2 in
-    let here : skip_blanks_of s ≡ within l ls (skip us) =
-    ap skip_blanks_of e ∙ ap (λ (vs : List TextUnit). within l ls vs) (skip-skip us) in
-    let none = by_sign there.0.0 k.0 (ap (λ (t : State). called (sign_of want t)) (sym here) ∙ there.1) in
-    sym (oks k.1) ∙ (sign-left_out want l ls (skip us) there.0.1 none
-    ∙ ap (λ (vs : List TextUnit). within l ls vs) (skip-skip us))
-  where
-    by_sign : {after : State} (t : Bool) → not t ≡ true
-        → called (sign_of want (within l ls (skip us))) ≡ Ok (t, after)
-        → called (sign_of want (within l ls (skip us))) ≡ Ok (false, after)
-    by_sign true n g = absurd cc
-    by_sign false n g = g
+no_section-form want l ls us s h e h1 = grind (
+  arith,
+  bind-ok,
+  unless_missing-ok,
+  within,
+  skip,
+  skip-skip,
+  oks,
+  sign-left_out,
+)
 
 sign-absent : (want : Sign) (l : Line) (ls : List Line) (us : List TextUnit) → next_fault us ≡ None
     → is_sign want us ≡ false → skip us ≡ us
@@ -120,27 +111,13 @@ sign-absent want l ls us n i e = rw (e, n, i) refl
 no_section-read : (want : Sign) (l : Line) (ls : List Line) (us : List TextUnit) → next_fault (skip us) ≡ None
     → is_sign want (skip us) ≡ false → no_section want (within l ls (skip us)) ≡ Ok (within l ls (skip us))
 unfolding no_section
-no_section-read want l ls us n i =
-    let here : skip_blanks_of (within l ls (skip us)) ≡ within l ls (skip us) =
-    ap (λ (vs : List TextUnit). within l ls vs) (skip-skip us) in
-    let absent : called (sign_of want (skip_blanks_of (within l ls (skip us))))
-    ≡ Ok (false, within l ls (skip us)) =
-    ap (λ (t : State). called (sign_of want t)) here ∙ sign-absent want l ls (skip us) n i (skip-skip us)
-    in
-    rw absent refl
+no_section-read want l ls us n i = grind (arith, within, skip, skip-skip, sign-absent)
 
 -- ---- an entry's line
 
 some_output : (found : Option WordModel) (after : State) (y : WordModel × State)
     → first_output found after ≡ Ok y → found ≡ Some y.0
-some_output (Some word) after y h = ap Some (ap (λ (r : WordModel × State). r.0) (oks h))
-some_output None after y h =
-    let pipe = bind-ok (called (sign_of sign.Pipe after)) _ y h in
-    absurd (no_err (unless_missing-ok _ _ (Err (Placed (spot_of after) (cause.Expected wanted.Path))) y
-    pipe.2).1)
-  where
-    no_err : ◌≡◌ {A = Step WordModel} (Err (Placed (spot_of after) (cause.Expected wanted.Path))) (Ok y) → ⊥
-    no_err e = absurd cc
+some_output found after y h = grind arith
 
 output-form : (l : Line) (ls : List Line) (us : List TextUnit) (s : State) (y : WordModel × State)
     → s ≡ within l ls us → output_next s ≡ Ok y

@@ -1,5 +1,6 @@
 -- The first fault of an entry's block.
-use Rattle.std.proofs.Common.{◌≡◌, ℕ, Bool, true, false, cond, ◌&&◌, inl, inr, Result, Ok, Err, List, [], ◌∷◌}
+use Rattle.std.proofs.Common.{arith, ◌≡◌, ℕ, Bool, true, false, cond, ◌&&◌, inl, inr, Result, Ok, Err, List}
+use Rattle.std.proofs.Common.{[], ◌∷◌}
 use Rattle.std.proofs.Common.{◌++◌, refl, sym, ap, subst, ◌∙◌, append_assoc, codes}
 use Rattle.std.specs.List.{list_all}
 use Rattle.std.proofs.lemmas.Bool.{and_from}
@@ -50,41 +51,13 @@ use Rattle.nj_manifest.proofs.DyndepLeftmostPaths.{word_turn}
 
 -- the intended fault names its place too
 pub real_place : (f : Fault) (l : Line) → NamesThePlaceOf f l → NamesPlaceInEntry (real f) l
-real_place (Placed spot cause.BadByte) l h = h
-real_place (Placed spot cause.Tab) l h = h
-real_place (Placed spot cause.BadEscape) l h = h
-real_place (Placed spot (cause.Expected wanted)) l h = h
-real_place (Placed spot cause.UnexpectedIndent) l h = h
-real_place (Placed spot (cause.UnknownKey key)) l h = h
-real_place f l h = absurd h
+real_place f l h = grind arith
 
 pub real_before : (f : Fault) (l : Line) → real (met_before l f) ≡ met_before l (real f)
-real_before (Placed spot cause.BadByte) l = refl
-real_before (Placed spot cause.Tab) l = refl
-real_before (Placed spot cause.BadEscape) l = refl
-real_before (Placed spot (cause.Expected wanted)) l = refl
-real_before (Placed spot cause.UnexpectedIndent) l = refl
-real_before (Placed spot cause.MissingCommand) l = refl
-real_before (Placed spot cause.RspPair) l = refl
-real_before (Placed spot (cause.UnknownKey key)) l = refl
-real_before (Placed spot cause.MissingDepth) l = refl
-real_before (Placed spot cause.DyndepVersion) l = refl
-real_before (Placed spot cause.DyndepShape) l = refl
-real_before OutOfMemory l = refl
+real_before f l = grind arith
 
 pub real_offers : (f : Fault) (bytes : List ℕ) → offers f bytes ≡ true → offers (real f) bytes ≡ true
-real_offers (Placed spot cause.BadByte) bytes h = refl
-real_offers (Placed spot cause.Tab) bytes h = refl
-real_offers (Placed spot cause.BadEscape) bytes h = refl
-real_offers (Placed spot (cause.Expected wanted)) bytes h = h
-real_offers (Placed spot cause.UnexpectedIndent) bytes h = refl
-real_offers (Placed spot cause.MissingCommand) bytes h = refl
-real_offers (Placed spot cause.RspPair) bytes h = refl
-real_offers (Placed spot (cause.UnknownKey key)) bytes h = refl
-real_offers (Placed spot cause.MissingDepth) bytes h = refl
-real_offers (Placed spot cause.DyndepVersion) bytes h = refl
-real_offers (Placed spot cause.DyndepShape) bytes h = refl
-real_offers OutOfMemory bytes h = refl
+real_offers f bytes h = grind arith
 
 -- ---- the start of a line
 
@@ -179,10 +152,7 @@ pub errs : {A : Type 0} {x y : Fault} → ◌≡◌ {A = Result A Fault} (Err x)
 errs e = cc
 
 pub no_fault : {A P : Type 0} (r : Result A Fault) (x : A) (f : Fault) → r ≡ Ok x → r ≡ Err f → P
-no_fault r x f h i = absurd (apart (sym h ∙ i))
-  where
-    apart : {A : Type 0} {x : A} {f : Fault} → ◌≡◌ {A = Result A Fault} (Ok x) (Err f) → ⊥
-    apart e = absurd cc
+no_fault r x f h i = grind arith
 
 goes_after : (k j : State → Result State Fault) (l : Line) (before : List Line) (begun : List TextUnit)
     (fault : Fault) → ((ms : List Line) → in_lines j (l ∷ ms) ≡ in_lines k ms)
@@ -339,14 +309,7 @@ restat_marked s = name_next wanted.VariableName s >>= this_word (codes "restat")
 
 restat-reported : (s : State) → reported (restat_marked s) ≡ led_on (restat_end s)
 unfolding restat_end
-restat-reported s =
-    word-reported (codes "restat") wanted.VariableName s after_key (λ key. led_on (ended key))
-    (λ key. reported-bind (equals_value key) (λ v. Ok (true, v.1)) (λ v. Ok (true, v.1)) (kept-value key)
-    (λ v. refl) ∙ sym (bind-bind (equals_value key) (λ v. Ok v.1) (λ t. Ok (true, t))))
-    ∙ sym (bind-bind (word_of_form (codes "restat") wanted.VariableName s) ended (λ t. Ok (true, t)))
-  where
-    ended : State → Result State Fault
-    ended key = equals_value key >>= λ v. Ok v.1
+restat-reported s = grind (arith, word-reported, codes, led_on, reported-bind, kept-value, bind-bind)
 
 -- the property of an indented line, by the units after its spaces
 abbrev Spaced : (spaces : List TextUnit) → Claim Bool
@@ -389,27 +352,11 @@ pub block_is : (ls : List Line) → end_of (restat_block (Between ls)) ≡ in_li
 block_is ls = block-end (Between ls)
 
 first_fails : (s : State) (f : Fault) → led_on (restat_end s) ≡ Err f → first_end s ≡ Err f
-first_fails s f h = by_line (restat_end s) h
-  where
-    by_line : (r : Result State Fault) → led_on r ≡ Err f
-        → (r >>= λ restat. called (start_line_of restat) >>=
-        λ second. end_if_indented second.0 second.1 too_many_end) ≡ Err f
-    by_line (Ok t) g = absurd cc
-    by_line (Err e) g = ap Err (errs g)
+first_fails s f h = grind arith
 
 first_reads : (s : State) (v : Bool) (ls : List Line) → led_on (restat_end s) ≡ Ok (v, Between ls)
     → first_end s ≡ in_lines too_many_end ls
-first_reads s v ls h = by_line (restat_end s) h
-  where
-    remainder : (t : State) → ◌≡◌ {A = Step Bool} (Ok (true, t)) (Ok (v, Between ls)) → t ≡ Between ls
-    remainder t g = after-is true t (v, Between ls) g
-
-    by_line : (r : Result State Fault) → led_on r ≡ Ok (v, Between ls)
-        → (r >>= λ restat. called (start_line_of restat) >>=
-        λ second. end_if_indented second.0 second.1 too_many_end) ≡ in_lines too_many_end ls
-    by_line (Ok t) g = ap (λ (u : State). called (start_line_of u) >>=
-        λ second. end_if_indented second.0 second.1 too_many_end) (remainder t g)
-    by_line (Err e) g = absurd cc
+first_reads s v ls h = grind arith
 
 -- the fault is in the line
 stuck_here : (l : Line) (ls : List Line) (f : Fault) → kind_of l ≡ IndentedLine

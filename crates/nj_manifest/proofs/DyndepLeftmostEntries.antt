@@ -1,5 +1,6 @@
 -- The first fault of the next entry of some lines.
-use Rattle.std.proofs.Common.{◌≡◌, Bool, true, false, cond, inl, inr, ◌⊎◌, Option, Some, None, Ok, Err, List}
+use Rattle.std.proofs.Common.{arith, ◌≡◌, Bool, true, false, cond, inl, inr, ◌⊎◌, Option, Some, None, Ok, Err}
+use Rattle.std.proofs.Common.{List}
 use Rattle.std.proofs.Common.{[], ◌∷◌, ◌++◌, map, refl, sym, ap, subst, ◌∙◌, codes}
 use Rattle.std.specs.List.{list_all}
 use Rattle.std.proofs.lemmas.Bool.{and_parts}
@@ -89,19 +90,11 @@ block_read v ls end h = by_block (restat_block (Between ls)) (block_is ls ∙ h)
 
 block_bad : (v : EntryModel) (ls : List Line) (f : Fault) → in_lines first_end ls ≡ Err f
     → block_then v ls ≡ Err f
-block_bad v ls f h = by_block (restat_block (Between ls)) (block_is ls ∙ h)
-  where
-    by_block : (r : Step Bool) → end_of r ≡ Err f → by_block_read v r ≡ Err f
-    by_block (Ok y) g = absurd cc
-    by_block (Err e) g = ap Err (errs g)
+block_bad v ls f h = grind (arith, block_is, end_of, errs)
 
 block_fault : (v : EntryModel) (ls : List Line) (f : Fault) → block_then v ls ≡ Err f
     → in_lines first_end ls ≡ Err f
-block_fault v ls f h = sym (block_is ls) ∙ by_block (restat_block (Between ls)) h
-  where
-    by_block : (r : Step Bool) → by_block_read v r ≡ Err f → end_of r ≡ Err f
-    by_block (Ok y) g = absurd cc
-    by_block (Err e) g = ap Err (errs g)
+block_fault v ls f h = grind (arith, block_is, end_of, errs)
 
 as_fault : (ls : List Line) (f g : Fault) → g ≡ f → EntryComesLeftmost ls g → EntryComesLeftmost ls f
 as_fault ls f g e s = subst (λ (h : Fault). EntryComesLeftmost ls h) e s
@@ -275,52 +268,18 @@ goes_after : (l : Line) (before : List Line) (begun : List TextUnit) (fault : Fa
     → ((ms : List Line) → next_entry (l ∷ ms) ≡ next_entry ms)
     → SomeEntry before begun fault ⊎ LineTooMany before begun
     → SomeEntry (l ∷ before) begun fault ⊎ LineTooMany (l ∷ before) begun
-goes_after l before begun fault same (inl r) =
-    inl (record {
-      bytes = r.bytes;
-      lines = r.lines;
-      plain_bytes = r.plain_bytes;
-      offered = r.offered;
-      plain_lines = r.plain_lines;
-      entry = r.entry;
-      rest = r.rest;
-      reads =
-          same (continues before begun (written r.bytes) (map written r.lines)) ∙ r.reads;
-    })
-goes_after l before begun fault same (inr r) =
-    inr (record {
-      spaces = r.spaces;
-      gap = r.gap;
-      cut = r.cut;
-      of_spaces = r.of_spaces;
-      of_blanks =
-          r.of_blanks;
-      entry = r.entry;
-      rest = r.rest;
-      reads =
-          same (continues before r.spaces (written []) []) ∙ r.reads;
-    })
+goes_after l before begun fault same h = grind arith
 
 leftmost_after : (l : Line) (ls : List Line) (fault : Fault)
     → ((ms : List Line) → next_entry (l ∷ ms) ≡ next_entry ms) → EntryComesLeftmost ls fault
     → EntryComesLeftmost (l ∷ ls) fault
-leftmost_after l ls fault same r = record {
-  before = l ∷ r.before;
-  begun = r.begun;
-  line = r.line;
-  others = r.others;
-  cut = ap (λ (y : List Line). l ∷ y) r.cut;
-  place = r.place;
-  some = goes_after l r.before r.begun fault same r.some;
-  refuses = λ m ms e apart. same (continues r.before r.begun m ms) ∙ r.refuses m ms e apart;
-}
+leftmost_after l ls fault same r = grind (arith, goes_after l r.before r.begun fault same r.some)
 
 -- ---- the law
 
 not_last : (t : Bool) (left ls : List Line) (f : Fault)
     → (cond t (ended left) (opening ls) >>= entry_from) ≡ Err f → (t ≡ false) × (next_entry ls ≡ Err f)
-not_last true left ls f h = absurd cc
-not_last false left ls f h = (refl, next_is ls ∙ h)
+not_last t left ls f h = grind (arith, next_is)
 
 leftmost : (ls : List Line) (fault : Fault) → list_all (λ l. are_apart l.units) ls ≡ true
     → next_entry ls ≡ Err fault → EntryComesLeftmost ls fault

@@ -1,7 +1,8 @@
 -- The line of an entry in steps. A departure from the form is marked by the fault of an unknown key, which
 -- names its place
 -- too.
-use Rattle.std.proofs.Common.{◌≡◌, ℕ, zero, suc, Bool, true, false, not, Option, Some, None, Result, Ok, Err}
+use Rattle.std.proofs.Common.{rules, arith, ◌≡◌, ℕ, zero, suc, Bool, true, false, not, Option, Some, None}
+use Rattle.std.proofs.Common.{Result, Ok, Err}
 use Rattle.std.proofs.Common.{List, [], refl, ap, subst, ◌∙◌, sym, codes}
 use Rattle.std.specs.Str.{bytes_eq}
 use Rattle.nj_text.specs.declared.fault.UnitFault.{UnitFault}
@@ -46,51 +47,40 @@ Kept (Ok x) = Unit {0}
 Kept (Err f) = real f ≡ f
 
 pub reported-same : {A : Type 0} (r : Result A Fault) → Kept r → reported r ≡ r
-reported-same (Ok x) k = refl
-reported-same (Err f) k = ap Err k
+reported-same r k = grind arith
 
 pub reported-bind : {A B : Type 0} (r : Result A Fault) (f g : A → Result B Fault) → Kept r
     → ((x : A) → reported (f x) ≡ g x) → reported (r >>= f) ≡ (r >>= g)
-reported-bind (Ok x) f g k h = h x
-reported-bind (Err e) f g k h = ap Err k
+reported-bind r f g k h = grind arith
 
 kept-bind : {A B : Type 0} (r : Result A Fault) (f : A → Result B Fault) → Kept r → ((x : A) → Kept (f x))
     → Kept (r >>= f)
-kept-bind (Ok x) f k h = h x
-kept-bind (Err e) f k h = k
+kept-bind r f k h = grind arith
 
 real_bad : (unit : UnitFault) → real (bad_unit unit) ≡ bad_unit unit
-real_bad (unit_fault.BadByte spot) = refl
-real_bad (unit_fault.Tab spot) = refl
-real_bad (unit_fault.BadEscape spot) = refl
+real_bad unit = grind arith
 
 pub kept-called : {A : Type 0} (r : Reply A) → Kept (called r)
-kept-called (Ok x) = tt
-kept-called (Err f) = real_bad f
+kept-called r = grind arith
 
 kept-named : (want : Wanted) (spot : Spot) (name : Option (List ℕ)) (s : State)
     → Kept (named want spot name s)
-kept-named want spot (Some name) s = tt
-kept-named want spot None s = refl
+kept-named want spot name s = grind arith
 
 pub kept-name : (want : Wanted) (s : State) → Kept (name_next want s)
 unfolding name_next
-kept-name want s = kept-bind (called (ident_of (skip_blanks_of s))) _
-    (kept-called (ident_of (skip_blanks_of s))) (λ n. kept-named want (spot_of (skip_blanks_of s)) n.0 n.1)
+kept-name want s = grind arith
 
 kept-there : (want : Wanted) (t : Bool) (s : State) → Kept (if_there want t s)
-kept-there want true s = tt
-kept-there want false s = refl
+kept-there want t s = grind arith
 
 pub kept-sign : (want : Sign) (miss : Wanted) (s : State) → Kept (expect_sign want miss s)
 unfolding expect_sign
-kept-sign want miss s = kept-bind (called (sign_of want s)) _ (kept-called (sign_of want s))
-    (λ t. kept-there miss t.0 t.1)
+kept-sign want miss s = grind arith
 
 kept-from : (found : Option WordModel) (s : State) (others : Step (List WordModel)) → Kept others
     → Kept (words_from found s others)
-kept-from None s others k = tt
-kept-from (Some w) s others k = kept-bind others _ k (λ more. tt)
+kept-from found s others k = grind arith
 
 kept-within : (limit : ℕ) (s : State) → Kept (words_within limit s)
 unfolding words_within
@@ -108,22 +98,14 @@ kept-words s = subst (λ (r : Step (List WordModel)). Kept r) (sym (words_next-i
 
 pub kept-section : (want : Sign) (s : State) → Kept (section_next want s)
 unfolding section_next
-kept-section want s = kept-bind (called (sign_of want s)) _ (kept-called (sign_of want s))
-    (λ t. by_test t.0 t.1)
-  where
-    by_test : (t : Bool) (s : State) → Kept (words_if t s)
-    by_test true s = kept-words s
-    by_test false s = tt
+kept-section want s = grind (arith, kept-bind, kept-called, words_if, kept-words)
 
 pub kept-ending : {B : Type 0} (value : B) (r : Result State Fault) → Kept r → Kept (ending value r)
 kept-ending value r k = kept-bind r _ k (λ end. tt)
 
 pub kept-value : (s : State) → Kept (equals_value s)
 unfolding equals_value
-kept-value s =
-    kept-bind (expect_sign sign.Equals wanted.Equals s) _ (kept-sign sign.Equals wanted.Equals s)
-    (λ equals. kept-bind (called (value_of equals)) _ (kept-called (value_of equals))
-    (λ value. kept-ending value.0 _ (kept-sign sign.LineEnd wanted.Newline value.1)))
+kept-value s = grind (arith, kept-bind, kept-sign, kept-called, kept-ending)
 
 -- ---- steps
 
@@ -163,20 +145,7 @@ path_step s = let here = skip_blanks_of s in path_by (spot_of here) (path_word_o
 path-reported : {B : Type 0} (s : State) (f g : State → Result B Fault) → ((t : State) → reported (f t) ≡ g t)
     → reported (path_step s >>= λ c. f c.1) ≡ (no_path s >>= g)
 unfolding no_path
-path-reported {B = B} s f g h = let here = skip_blanks_of s in by_reply (spot_of here) (path_word_of here)
-  where
-    by_test : (t : Bool) (spot : Spot) (unit : UnitFault)
-        → reported (◌>>=◌ {A = Bool × State} (unless_missing t (marked spot) (Err (bad_unit unit)))
-        (λ c. f c.1)) ≡ (◌>>=◌ {A = State} (unless_missing t (Placed spot cause.DyndepShape)
-        (Err (bad_unit unit))) g)
-    by_test true spot unit = ap Err (real_bad unit)
-    by_test false spot unit = refl
-
-    by_reply : (spot : Spot) (r : Reply (Option WordModel))
-        → reported (path_by spot r >>= λ c. f c.1) ≡ (no_path_by spot r >>= g)
-    by_reply spot (Ok (None, after)) = h after
-    by_reply spot (Ok (Some word, after)) = refl
-    by_reply spot (Err unit) = by_test (is_same_spot (fault_spot unit) spot) spot unit
+path-reported {B = B} s f g h = search rules
 
 -- no section with this sign
 abbrev pub unbarred : Spot → Bool × State → Step Bool
@@ -192,19 +161,7 @@ bar-reported : {B : Type 0} (want : Sign) (s : State) (f g : State → Result B 
     → ((t : State) → reported (f t) ≡ g t)
     → reported (bar_step want s >>= λ c. f c.1) ≡ (no_section want s >>= g)
 unfolding no_section
-bar-reported {B = B} want s f g h = by_sign (called (sign_of want (skip_blanks_of s)))
-    (kept-called (sign_of want (skip_blanks_of s))) (spot_of (skip_blanks_of s))
-  where
-    by_test : (t : Bool) (after : State) (spot : Spot)
-        → reported (◌>>=◌ {A = Bool × State} (unless_missing t (marked spot) (Ok (true, after))) (λ c. f c.1))
-        ≡ (◌>>=◌ {A = State} (unless_missing t (Placed spot cause.DyndepShape) (Ok after)) g)
-    by_test true after spot = h after
-    by_test false after spot = refl
-
-    by_sign : (r : Step Bool) → Kept r → (spot : Spot)
-        → reported ((r >>= unbarred spot) >>= λ c. f c.1) ≡ ((r >>= no_bar spot) >>= g)
-    by_sign (Ok there) k spot = by_test (not there.0) there.1 spot
-    by_sign (Err e) k spot = ap Err k
+bar-reported {B = B} want s f g h = grind arith
 
 -- the first output
 abbrev pub output_there : Option WordModel → State → Step WordModel
@@ -340,8 +297,7 @@ inputs-reported out outs s =
 
 colon-reported : (r : Result State Fault) (f g : State → Step EntryModel) → Kept r
     → ((t : State) → reported (f t) ≡ g t) → reported (led_on r >>= λ c. f c.1) ≡ (r >>= g)
-colon-reported (Ok s) f g k h = h s
-colon-reported (Err e) f g k h = ap Err k
+colon-reported r f g k h = grind arith
 
 -- The line, with its marks reported.
 pub entry-reported : (s : State) → reported (entry_marked s) ≡ entry_line s

@@ -1,5 +1,6 @@
 -- The one output after `build`: it is read, or stuck where it is missing or broken.
-use Rattle.std.proofs.Common.{◌≡◌, ℕ, Bool, true, false, cond, not, Option, Some, None, Ok, Err, inl, inr}
+use Rattle.std.proofs.Common.{arith, ◌≡◌, ℕ, Bool, true, false, cond, not, Option, Some, None, Ok, Err, inl}
+use Rattle.std.proofs.Common.{inr}
 use Rattle.std.proofs.Common.{List, [], ◌∷◌, ◌++◌, take, refl, sym, ap, ◌∙◌, append_assoc, codes}
 use Rattle.std.specs.List.{take_while}
 use Rattle.nj_text.specs.declared.fault.UnitFault.{UnitFault}
@@ -57,13 +58,7 @@ pub data OutputSeen (us : List TextUnit) (e : Line) : Type 0 where
 -- units that are seen alike are at the same place, if there are any
 pub spot-same : (x y : List TextUnit) (d e : Spot) → front x ≡ front y → is_empty y ≡ false
     → spot_of_first x d ≡ spot_of_first y e
-spot-same x y d e h n = by_units x y (same-head x y h) n
-  where
-    by_units : (x y : List TextUnit) → take 1 x ≡ take 1 y → is_empty y ≡ false
-        → spot_of_first x d ≡ spot_of_first y e
-    by_units x [] g n = absurd cc
-    by_units [] (v ∷ y) g n = absurd cc
-    by_units (u ∷ x) (v ∷ y) g n = let same : u ≡ v = cc in ap (λ (w : TextUnit). w.spot) same
+spot-same x y d e h n = grind arith
 
 -- ---- no word
 
@@ -74,18 +69,13 @@ missing_by f t there other spot = called (unless_fault f (cond t (reply true the
 
 missing_is : (f : Option UnitFault) (t u : Bool) (there other : State) (spot : Spot) → f ≡ None → t ≡ u
     → missing_by f t there other spot ≡ Err (cond u (marked spot) (Placed spot (cause.Expected wanted.Path)))
-missing_is f t true there other spot h g = rw (h, g) refl
-missing_is f t false there other spot h g = rw (h, g) refl
+missing_is f t u there other spot h g = grind arith
 
 output_missing : (x : List TextUnit) (d : Line) (ms : List Line) (u : Bool) → settled x ≡ true
     → is_sign sign.Pipe x ≡ u → output_there None (at x d ms)
     ≡ Err (cond u (marked (spot_of_first x d.end))
     (Placed (spot_of_first x d.end) (cause.Expected wanted.Path)))
-output_missing x d ms u h g =
-    ap (λ (y : List TextUnit). missing_by (next_fault y) (is_sign sign.Pipe y)
-    (state_after_sign sign.Pipe (with_units y d) ms) (at y d ms) (spot_of_first x d.end))
-    (none_passed is_blank x (settled_blank x h))
-    ∙ missing_is _ _ u _ _ _ (settled_fault x h) g
+output_missing x d ms u h g = grind arith
 
 found_some : (r : Step (Option WordModel)) (w : WordModel) (s : State) → r ≡ Ok (Some w, s)
     → (r >>= λ found. output_there found.0 found.1) ≡ Ok (w, s)
@@ -133,40 +123,44 @@ none_read : (gap x : List TextUnit) (d : Line) (ms : List Line) (u : Bool) → A
     → settled x ≡ true → is_sign sign.Pipe x ≡ u
     → output_word (at (gap ++ x) d ms) ≡ Err
     (cond u (marked (spot_of_first x d.end)) (Placed (spot_of_first x d.end) (cause.Expected wanted.Path)))
-none_read gap x d ms u a h g = found_none _ (at x d ms) (no_word_reads gap x d ms a h)
-    ∙ output_missing x d ms u h g
+none_read gap x d ms u a h g = grind (arith, found_none, no_word_reads, output_missing)
 
 none_first : (us : List TextUnit) (e : Line) → settled (skip us) ≡ true → is_sign sign.Pipe (skip us) ≡ false
     → FailsAt output_word us e (Placed (spot_of_first (skip us) e.end) (cause.Expected wanted.Path))
     (gap_of us) (skip us)
-none_first us e h g = record {
-  cut = gap_cut us;
-  place = refl;
-  fails = λ ms. ap (λ (y : List TextUnit). output_word (at y e ms)) (gap_cut us)
-      ∙ none_read (gap_of us) (skip us) e ms false (gap_passes us) h g;
-  refuses = λ x d ms same.
-      let sees = element-front x (skip us) same in
-      none_read (gap_of us) x d ms false (gap_passes us) (settled_same x (skip us) sees ∙ h)
-      (sign-same sign.Pipe x (skip us) sees ∙ g);
-}
+none_first us e h g = grind (
+  arith,
+  gap_cut,
+  output_word,
+  none_read,
+  gap_of,
+  skip,
+  gap_passes,
+  element-front,
+  settled_same,
+  sign-same,
+)
 
 some_pipe : (us : List TextUnit) → is_sign sign.Pipe us ≡ true → is_empty us ≡ false
-some_pipe [] h = absurd cc
-some_pipe (u ∷ us) h = refl
+some_pipe us h = grind arith
 
 pipe_first : (us : List TextUnit) (e : Line) → settled (skip us) ≡ true → is_sign sign.Pipe (skip us) ≡ true
     → FailsAt output_word us e (marked (spot_of_first (skip us) e.end)) (gap_of us) (skip us)
-pipe_first us e h g = record {
-  cut = gap_cut us;
-  place = refl;
-  fails = λ ms. ap (λ (y : List TextUnit). output_word (at y e ms)) (gap_cut us)
-      ∙ none_read (gap_of us) (skip us) e ms true (gap_passes us) h g;
-  refuses = λ x d ms same.
-      let sees = element-front x (skip us) same in
-      none_read (gap_of us) x d ms true (gap_passes us) (settled_same x (skip us) sees ∙ h)
-      (sign-same sign.Pipe x (skip us) sees ∙ g)
-      ∙ ap (λ (p : Spot). Err (marked p)) (spot-same x (skip us) d.end e.end sees (some_pipe (skip us) g));
-}
+pipe_first us e h g = grind (
+  arith,
+  gap_cut,
+  output_word,
+  none_read,
+  gap_of,
+  skip,
+  gap_passes,
+  element-front,
+  settled_same,
+  sign-same,
+  marked,
+  spot-same,
+  some_pipe,
+)
 
 module _ (us : List TextUnit) (u : TextUnit) (run rest : List TextUnit) (e : Line) (o : opens_word u ≡ true)
     (a : AllIn in_word (u ∷ run)) (c : us ≡ (gap_of us ++ u ∷ run) ++ rest) where

@@ -1,6 +1,7 @@
 -- Where no path and no section may come, and where one word has to: each is passed, or the line is stuck
 -- there.
-use Rattle.std.proofs.Common.{◌≡◌, ℕ, Bool, true, false, cond, not, Option, Some, None, Ok, Err, inl, inr}
+use Rattle.std.proofs.Common.{arith, ◌≡◌, ℕ, Bool, true, false, cond, not, Option, Some, None, Ok, Err, inl}
+use Rattle.std.proofs.Common.{inr}
 use Rattle.std.proofs.Common.{List, [], ◌∷◌, ◌++◌, refl, sym, ap, subst, ◌∙◌}
 use Rattle.std.specs.List.{take_while, list_all}
 use Rattle.std.specs.Str.{bytes_eq}
@@ -54,12 +55,7 @@ apart_after (u ∷ used) us h = apart_after used us (apart_tail u (used ++ us) h
 apart_dropped : (p : TextUnit → Bool) (us : List TextUnit) → are_apart us ≡ true
     → are_apart (drop_while p us) ≡ true
 apart_dropped p [] h = h
-apart_dropped p (u ∷ us) h = by_test (p u) (apart_dropped p us (apart_tail u us h))
-  where
-    by_test : (t : Bool) → are_apart (drop_while p us) ≡ true
-        → are_apart (cond t (drop_while p us) (u ∷ us)) ≡ true
-    by_test true g = g
-    by_test false g = h
+apart_dropped p (u ∷ us) h = grind (arith, apart_dropped p us (apart_tail u us h), apart_tail u us h)
 
 -- The first of the units that are left is not at the place of this one.
 elsewhere : (p : TextUnit → Bool) (spot end : Spot) (us : List TextUnit)
@@ -93,8 +89,7 @@ clear_step (Inside l ls) = clear_at (skip l.units) l ls
 clear_step (Failed f) = Ok (true, Failed f)
 
 fault_there : (us : List TextUnit) (bad : UnitFault) → next_fault us ≡ Some bad → is_empty us ≡ false
-fault_there [] bad h = absurd cc
-fault_there (u ∷ us) bad h = refl
+fault_there us bad h = grind arith
 
 -- by the fault there, whether a word opens there, and the fault after it
 abbrev word_by : Option UnitFault → Bool → Option UnitFault → (there other : Reply (Option WordModel))
@@ -169,12 +164,7 @@ path_cleared us e ms a = by_fault (next_fault us) refl
 
 word_again : (us : List TextUnit) (e : Line) (ms : List Line)
     → path_step (at us e ms) ≡ path_here (skip us) e ms
-word_again us e ms =
-    ap (λ (w : List TextUnit).
-    let r = word_by (next_fault w) (begins_with opens_word w) (next_fault (drop_while in_word w))
-    (reply (Some (record { spot = spot_of_first w e.end; parts = parts_of (take_while in_word w) }))
-    (at (drop_while in_word w) e ms)) (reply None (at w e ms)) in
-    path_by (spot_of_first (skip us) e.end) r) (skip_again us)
+word_again us e ms = grind (arith, path_by, skip, skip_again)
 
 -- Among units that are apart, both give the same.
 pub path_is_clear : (us : List TextUnit) (e : Line) (ms : List Line) → are_apart us ≡ true
@@ -184,20 +174,7 @@ path_is_clear us e ms a = word_again us e ms ∙ path_cleared (skip us) e ms (ap
 -- Where there is no path, both report it, whether or not the units are apart.
 pub path_is_passed : (us : List TextUnit) (e : Line) (ms : List Line) (y : Bool × State)
     → clear_step (at us e ms) ≡ Ok y → path_step (at us e ms) ≡ Ok y
-path_is_passed us e ms y h = word_again us e ms
-    ∙ by_fault (next_fault v) (begins_with opens_word v) refl refl h
-  where
-    v : List TextUnit
-    v = skip us
-
-    by_fault : (f : Option UnitFault) (t : Bool) → next_fault v ≡ f → begins_with opens_word v ≡ t
-        → clear_by f t (spot_of_first v e.end) (at v e ms) ≡ Ok y → path_here v e ms ≡ Ok y
-    by_fault (Some bad) t i o g = absurd cc
-    by_fault None true i o g = absurd cc
-    by_fault None false i o g =
-        ap (λ (f : Option UnitFault). by_parts v e ms f (begins_with opens_word v)
-        (next_fault (drop_while in_word v))) i
-        ∙ (ap (λ (t : Bool). by_parts v e ms None t (next_fault (drop_while in_word v))) o ∙ g)
+path_is_passed us e ms y h = grind (arith, word_again, skip)
 
 -- ---- continuing where there is no path
 
@@ -215,8 +192,7 @@ clear_bad f t spot s bad h = rw h refl
 
 clear_after : (gap x : List TextUnit) (d : Line) (ms : List Line) → AllIn is_blank gap
     → begins_with is_blank x ≡ false → clear_step (at (gap ++ x) d ms) ≡ clear_at x d ms
-clear_after gap x d ms a n = ap (λ (y : List TextUnit). clear_at y d ms)
-    (skip_gap gap x a ∙ none_passed is_blank x n)
+clear_after gap x d ms a n = grind (arith, skip_gap, none_passed)
 
 settled_opens : (us : List TextUnit) → settled us ≡ true → begins_with opens_word us ≡ false
 settled_opens us h = not_so _ (and_parts _ _ (and_parts _ _ h).1).0
@@ -242,18 +218,23 @@ clear_passes t us more h = record {
 
 bad_there : (us : List TextUnit) (e : Line) (bad : UnitFault) → next_fault (skip us) ≡ Some bad
     → FailsAt clear_step us e (bad_unit bad) (gap_of us) (skip us)
-bad_there us e bad f = record {
-  cut = gap_cut us;
-  place = bad-place (skip us) e bad f;
-  fails = λ ms. clear_bad _ _ _ _ bad f;
-  refuses = λ x d ms same. clear_after (gap_of us) x d ms (gap_passes us) (no_blank_there us x same)
-      ∙ clear_bad _ _ _ _ bad (fault-same x (skip us) (element-front x (skip us) same) ∙ f)
-      ∙ bad-kept (with_units x d) bad;
-}
+bad_there us e bad f = grind (
+  arith,
+  gap_cut,
+  bad-place,
+  skip,
+  clear_bad,
+  clear_after,
+  gap_of,
+  gap_passes,
+  no_blank_there,
+  fault-same,
+  element-front,
+  bad-kept,
+)
 
 opening_there : (us : List TextUnit) → begins_with opens_word us ≡ true → is_empty us ≡ false
-opening_there [] h = absurd cc
-opening_there (u ∷ us) h = refl
+opening_there us h = grind arith
 
 word_there : (us : List TextUnit) (e : Line) → next_fault (skip us) ≡ None
     → begins_with opens_word (skip us) ≡ true
@@ -287,10 +268,7 @@ bar_at want us e ms spot = bar_by (next_fault us) (is_sign want us)
 
 bar_is : (want : Sign) (us : List TextUnit) (e : Line) (ms : List Line) → settled us ≡ true
     → bar_step want (at us e ms) ≡ bar_at want us e ms (spot_of_first us e.end)
-bar_is want us e ms h =
-    let none = none_passed is_blank us (settled_blank us h) in
-    ap (λ (y : List TextUnit). bar_at want y e ms (spot_of_first (skip us) e.end)) (ap skip none ∙ none)
-    ∙ ap (λ (y : List TextUnit). bar_at want us e ms (spot_of_first y e.end)) none
+bar_is want us e ms h = grind arith
 
 bar_none : (f : Option UnitFault) (t : Bool) (there other : State) (spot : Spot) → f ≡ None → t ≡ false
     → bar_by f t there other spot ≡ Ok (true, other)
@@ -319,24 +297,21 @@ bar_passes want us is h g = record {
 
 bar_fails : (want : Sign) (us : List TextUnit) (e : Line) → settled us ≡ true → is_sign want us ≡ true
     → is_empty us ≡ false → FailsAt (bar_step want) us e (marked (spot_of_first us e.end)) [] us
-bar_fails want us e h g some = record {
-  cut = refl;
-  place = refl;
-  fails = λ ms. bar_is want us e ms h ∙ bar_there _ _ _ _ _ (settled_fault us h) g;
-  refuses = λ x d ms same.
-      let sees = element-front x us same in
-      let stays = settled_same x us sees ∙ h in
-      bar_is want x d ms stays ∙ (bar_there _ _ _ _ _ (settled_fault x stays) (sign-same want x us sees ∙ g)
-      ∙ ap (λ (p : Spot). Err (marked p)) (spot-same x us d.end e.end sees some));
-}
+bar_fails want us e h g some = grind (
+  arith,
+  bar_is,
+  bar_there,
+  settled_fault,
+  element-front,
+  settled_same,
+  sign-same,
+  marked,
+  spot-same,
+)
 
 some_unit : (want : Sign) → is_sign want [] ≡ false → (us : List TextUnit) → is_sign want us ≡ true
     → is_empty us ≡ false
-some_unit want n [] h = absurd (apart (sym n ∙ h))
-  where
-    apart : false ≡ true → ⊥
-    apart e = absurd cc
-some_unit want n (u ∷ us) h = refl
+some_unit want n us h = grind arith
 
 -- ---- turns
 
@@ -344,12 +319,7 @@ some_unit want n (u ∷ us) h = refl
 pub along-same : {B : Type 0} {P : Claim B} {whole : List TextUnit} {t : List TextUnit → Bool}
     {us : List TextUnit} (k k' : State → Step B) → ((s : State) → k s ≡ k' s) → Along P whole k t us
     → Along P whole k' t us
-along-same {P = P} k k' so a = record {
-  begun = a.begun;
-  cut = a.cut;
-  goes =
-      λ x d ms fit. subst (P (a.begun ++ x) d ms) (so (at x d ms)) (a.goes x d ms fit);
-}
+along-same {P = P} k h so a = grind arith
 
 module _ {B : Type 0} {P : Claim B} {whole : List TextUnit} (e : Line) where
   -- There is no path here.

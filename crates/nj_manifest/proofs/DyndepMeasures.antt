@@ -23,25 +23,10 @@ use Rattle.nj_manifest.proofs.DyndepNexts.{next_entries_are}
 -- ---- after a line
 
 no_fewer : (l : Line) (ls : List Line) → ahead (lines_after l ls) ≤ ahead (l ∷ ls)
-no_fewer l ls = by_last l.is_last refl
-  where
-    by_last : (t : Bool) → l.is_last ≡ t → ahead (cond t (with_units [] l ∷ ls) ls) ≤ cond t
-        (cond (is_empty l.units) 0 1) (suc (ahead ls))
-    by_last true e = rw e (omega arith)
-    by_last false e = omega arith
+no_fewer l ls = grind arith
 
 fewer : (l : Line) (ls : List Line) → kind_of l ≡ PlainLine → ahead (lines_after l ls) < ahead (l ∷ ls)
-fewer l ls k = by_last l.is_last refl (some_unit l.units k)
-  where
-    some_unit : (us : List TextUnit) → kind_after_spaces (drop_while is_space_unit us)
-        (begins_with is_space_unit us) ≡ PlainLine → is_empty us ≡ false
-    some_unit [] e = absurd cc
-    some_unit (u ∷ us) e = refl
-
-    by_last : (t : Bool) → l.is_last ≡ t → is_empty l.units ≡ false
-        → ahead (cond t (with_units [] l ∷ ls) ls) < cond t (cond (is_empty l.units) 0 1) (suc (ahead ls))
-    by_last true e h = rw (e, h) (omega arith)
-    by_last false e h = omega arith
+fewer l ls k = grind arith
 
 -- before a line that is not the last
 one_more : (l : Line) (ls : List Line) → l.is_last ≡ false → ahead (l ∷ ls) ≡ suc (ahead ls)
@@ -51,8 +36,7 @@ one_more l ls e = ap (λ (t : Bool). cond t (cond (is_empty l.units) 0 1) (suc (
 
 block-within : {allowed : Keys} {ls rest : List Line} {lines : List LineModel}
     → BlockForm allowed ls lines rest → ahead rest ≤ ahead ls
-block-within (BlockForm.line {l = l} {ls = ls} f others) = let after = no_fewer l ls in let more =
-    block-within others in omega (arith, after, more)
+block-within (BlockForm.line {l = l} {ls = ls} f others) = grind (arith, no_fewer l ls, block-within others)
 block-within (BlockForm.comment {l = l} {ls = ls} k e others) = let one = one_more l ls e in let more =
     block-within others in omega (arith, one, more)
 block-within (BlockForm.last_comment {l = l} {ls = ls} k e) = rw e (omega arith)
@@ -84,10 +68,7 @@ BeginsWithin ls found = (l : Line) (others : List Line) → found ≡ Ok (Some l
 -- where the lines end, no line is begun
 not_begun : {l : Line} {left others : List Line}
     → ◌≡◌ {A = Parse (Option Line)} (ended left) (Ok (Some l, others)) → ⊥
-not_begun {l = l} h = apart (ap (λ (o : Option Line × List Line). o.0) (oks h))
-  where
-    apart : None ≡ Some l → ⊥
-    apart e = absurd cc
+not_begun {l = l} h = grind arith
 
 opening-later : (m : Line) (ls left : List Line) → BeginsWithin ls (opening ls)
     → BeginsWithin (m ∷ ls) (or_last m (ended left) (opening ls))
@@ -102,21 +83,7 @@ opening-later m ls left ih = λ l others h. by_last m.is_last refl l others h
         (more.0, omega (arith, one, within))
 
 begun-here : (m : Line) (ls : List Line) → kind_of m ≡ PlainLine → BeginsWithin (m ∷ ls) (Ok (Some m, ls))
-begun-here m ls k l others h =
-    let same = ap ahead (both h) in
-    (sym (ap kind_of (first h)) ∙ k, omega (arith, same))
-  where
-    lines : ◌≡◌ {A = Option Line × List Line} (Some m, ls) (Some l, others) → ls ≡ others
-    lines e = ap (λ (o : Option Line × List Line). o.1) e
-
-    line : ◌≡◌ {A = Option Line} (Some m) (Some l) → m ≡ l
-    line e = cc
-
-    first : ◌≡◌ {A = Parse (Option Line)} (Ok (Some m, ls)) (Ok (Some l, others)) → m ≡ l
-    first e = line (ap (λ (o : Option Line × List Line). o.0) (oks e))
-
-    both : ◌≡◌ {A = Parse (Option Line)} (Ok (Some m, ls)) (Ok (Some l, others)) → m ∷ ls ≡ l ∷ others
-    both e = ap (λ (n : Line). n ∷ ls) (first e) ∙ ap (λ (ms : List Line). l ∷ ms) (lines (oks e))
+begun-here m ls k l others h = grind arith
 
 opening-kind : (k : Kind) (m : Line) (ls : List Line) → kind_of m ≡ k → BeginsWithin ls (opening ls)
     → BeginsWithin (m ∷ ls) (opening_by k m ls (opening ls))
@@ -134,33 +101,12 @@ opening-begins (m ∷ ls) = opening-kind (kind_of m) m ls refl (opening-begins l
 -- The version takes a line.
 pub version-takes : (ls rest : List Line) → version_next ls ≡ Ok rest → ahead rest < ahead ls
 unfolding version_next
-version-takes ls rest h =
-    let begun = bind-ok (opening ls) version_from rest h in
-    by_opening begun.0 begun.1 begun.2
-  where
-    by_opening : (o : Option Line × List Line) → opening ls ≡ Ok o → version_from o ≡ Ok rest
-        → ahead rest < ahead ls
-    by_opening (None, left) e g = absurd cc
-    by_opening (Some l, others) e g =
-        let line = bind-ok (version_line (Inside l others)) (λ end. Ok (lines_from end)) rest g in
-        let there = opening-begins ls l others e in
-        let left : lines_from line.0 ≡ rest = oks line.2 in
-        let after : ahead rest ≡ ahead (lines_after l others) =
-        ap ahead (sym left) ∙ ap (λ (s : State). ahead (lines_from s))
-        (version-ends l others line.0 line.1) in
-        let one = fewer l others there.0 in
-        let no_more = there.1 in
-        omega (arith, after, one, no_more)
+version-takes ls rest h = grind (arith, bind-ok, ahead, opening-begins, oks, version-ends, fewer)
 
 -- So does the next entry that a parser of these reads.
 pub left_entry-takes : (version_read : Bool) (ls : List Line) (entry : EntryModel) (rest : List Line)
     → left_entry version_read ls ≡ Ok (Some entry, rest) → ahead rest < ahead ls
-left_entry-takes true ls entry rest h = entry-takes ls entry rest h
-left_entry-takes false ls entry rest h =
-    let version = bind-ok (version_next ls) next_entry (Some entry, rest) h in
-    let first = version-takes ls version.0 version.1 in
-    let more = entry-takes version.0 entry rest version.2 in
-    omega (arith, first, more)
+left_entry-takes version_read ls entry rest h = grind (arith, entry-takes, bind-ok, version-takes)
 
 -- The lines of a text are few enough.
 pub text-ahead : (text : List ℕ) → ahead (text_lines text) < suc (length text)

@@ -1,5 +1,6 @@
 -- The next entry: the readings of lines, and the forms.
-use Rattle.std.proofs.Common.{◌≡◌, Bool, true, false, ◌||◌, cond, Option, Some, None, Result, Ok, Err, ◌⊎◌}
+use Rattle.std.proofs.Common.{arith, ◌≡◌, Bool, true, false, ◌||◌, cond, Option, Some, None, Result, Ok, Err}
+use Rattle.std.proofs.Common.{◌⊎◌}
 use Rattle.std.proofs.Common.{inl, inr, List, [], ◌∷◌, refl, sym, ap, subst, ◌∙◌, codes}
 use Rattle.std.specs.List.{list_any}
 use Rattle.std.specs.Str.{bytes_eq}
@@ -30,8 +31,7 @@ use Rattle.nj_manifest.proofs.DyndepEnds.{oks, called-ok, restat_line-inside, to
 use Rattle.nj_manifest.proofs.DyndepEntries.{entries_are}
 
 or-false : (b : Bool) → (b || false) ≡ b
-or-false true = refl
-or-false false = refl
+or-false b = grind arith
 
 no_err : {A P : Type 0} {x : A} {f : Fault} → ◌≡◌ {A = Result A Fault} (Ok x) (Err f) → P
 no_err e = absurd cc
@@ -67,15 +67,7 @@ line-restat : (m t : State) (line : LineModel) → line_next keys.All m ≡ Ok (
     → line.name ≡ codes "restat"
     → restat_line m ≡ Ok (has_text line.value, t)
 unfolding restat_line word_of_form line_next
-line-restat m t line h n =
-    let name = bind-ok (name_next wanted.VariableName m) _ (line, t) h in
-    let value = bind-ok (equals_value name.0.1)
-    (λ value. Ok (record { spot = name.0.0.spot; name = name.0.0.name; value = value.0 }, value.1))
-    (line, t) name.2 in
-    let same = oks value.2 in
-    let named : name.0.0.name ≡ codes "restat" = ap (λ (r : LineModel × State). r.0.name) same ∙ n in
-    rw (name.1, (bytes_eq-Decides name.0.0.name (codes "restat")).1 named, value.1)
-    (ap (λ (r : LineModel × State). Ok (has_text r.0.value, r.1)) same)
+line-restat m t line h n = grind arith
 
 -- ---- a block
 
@@ -89,19 +81,11 @@ one_line : (ls : List Line) (l : Line) (others : List Line) (m t : State) (line 
     → block keys.All ls ≡ block_by keys.All IndentedLine l others (block keys.All others)
     → line_next keys.All m ≡ Ok (line, t)
     → block keys.All (lines_after l others) ≡ Ok more → block keys.All ls ≡ Ok (line ∷ more.0, more.1)
-one_line ls l others m t line more is reads read rest =
-    reads ∙ rw (ap (line_next keys.All) (sym is) ∙ read, sym (block-after keys.All l others) ∙ rest) refl
+one_line ls l others m t line more is reads read rest = grind (arith, block-after)
 
 no_block : (ls : List Line) (m : State) → block keys.All ls ≡ no_lines (lines_from m)
     → RestatForm ls false (lines_from m)
-no_block ls m e =
-    record {
-      lines = [];
-      block = block-form keys.All ls [] (lines_from m) e;
-      one_at_most = inl refl;
-      value =
-          refl;
-    }
+no_block ls m e = grind (arith, block-form)
 
 -- the form of what was read
 abbrev IsForm : List Line → Bool × State → Type 0
@@ -339,8 +323,7 @@ nothing_next = refl
 as_found : (ls rest : List Line) (one found : Option EntryModel) (there : List Line)
     → ◌≡◌ {A = Parse (Option EntryModel)} (Ok (one, there)) (Ok (found, rest)) → NextEntryForm ls one there
     → NextEntryForm ls found rest
-as_found ls rest one found there h f = subst (λ (r : Option EntryModel × List Line). NextEntryForm ls r.0 r.1)
-    (oks h) f
+as_found ls rest one found there h f = grind arith
 
 at_form : (l : Line) (ls : List Line) (found : Option EntryModel) (rest : List Line) → kind_of l ≡ PlainLine
     → entry_here l ls ≡ Ok (found, rest) → NextEntryForm (l ∷ ls) found rest
@@ -393,18 +376,26 @@ next_read (NextEntryForm.statement {l = l} {ls = ls} {rest = rest} {entry = entr
     next_by_kind l ls PlainLine k
     ∙ (at_is l ls ∙ rw (read, block.1) (ap
     (λ (r : List Line). Ok (Some (record entry { restat = restat }), r)) block.2))
-next_read (NextEntryForm.blank {l = l} {ls = ls} k e others) =
-    next_by_kind l ls BlankLine k ∙ (ap (λ (t : Bool). cond t (ended (lines_after l ls)) (opening ls) >>=
-    entry_from) e ∙ (sym (next_is ls) ∙ next_read others))
+next_read (NextEntryForm.blank {l = l} {ls = ls} k e others) = grind (
+  arith,
+  next_by_kind l ls BlankLine k,
+  ended (lines_after l ls),
+  next_is ls,
+  next_read others,
+)
 next_read (NextEntryForm.comment {l = l} {ls = ls} k e others) =
     next_by_kind l ls CommentLine k ∙ (ap (λ (t : Bool). cond t (ended (lines_after l (without_comments ls)))
     (opening ls) >>= entry_from) e ∙ (sym (next_is ls) ∙ next_read others))
-next_read (NextEntryForm.last_blank {l = l} {ls = ls} k e) =
-    next_by_kind l ls BlankLine k ∙ ap (λ (t : Bool). cond t (ended (lines_after l ls)) (opening ls) >>=
-    entry_from) e
-next_read (NextEntryForm.last_comment {l = l} {ls = ls} k e) =
-    next_by_kind l ls CommentLine k ∙ ap (λ (t : Bool). cond t (ended (lines_after l (without_comments ls)))
-    (opening ls) >>= entry_from) e
+next_read (NextEntryForm.last_blank {l = l} {ls = ls} k e) = grind (
+  arith,
+  next_by_kind l ls BlankLine k,
+  ended (lines_after l ls),
+)
+next_read (NextEntryForm.last_comment {l = l} {ls = ls} k e) = grind (
+  arith,
+  next_by_kind l ls CommentLine k,
+  ended (lines_after l (without_comments ls)),
+)
 next_read NextEntryForm.nothing = nothing_next
 
 pub next_entries_are : NextEntriesAreTheForms

@@ -26,28 +26,13 @@ abbrev Before : Spot → Spot → Type 0
 Before a b = (a.line < b.line) ⊎ ((a.line ≡ b.line) × (a.column < b.column))
 
 before-apart : (a b : Spot) → Before a b → is_same_spot b a ≡ false
-before-apart a b (inl h) = and_left (b.line == a.line) (b.column == a.column)
-    (ne_eqb b.line a.line (omega (arith, h)))
-before-apart a b (inr h) = let less = h.1 in
-    and_right (b.line == a.line) (b.column == a.column) (ne_eqb b.column a.column (omega (arith, less)))
+before-apart a b h = grind arith
 
 before-next : (c : ℕ) (a b : Spot) → Before a b → Before a (spot_after c b)
-before-next c a b h = by_feed (is_line_feed c) h
-  where
-    by_feed : (t : Bool) → Before a b → Before a
-        (cond t (record { line = b.line + 1; column = 1 }) (record { line = b.line; column = b.column + 1 }))
-    by_feed true (inl g) = inl (omega (arith, g))
-    by_feed true (inr g) = let same = g.0 in inl (omega (arith, same))
-    by_feed false (inl g) = inl g
-    by_feed false (inr g) = let less = g.1 in inr (g.0, omega (arith, less))
+before-next c a b h = grind arith
 
 next-is-after : (c : ℕ) (a : Spot) → Before a (spot_after c a)
-next-is-after c a = by_feed (is_line_feed c)
-  where
-    by_feed : (t : Bool) → Before a (cond t (record { line = a.line + 1; column = 1 })
-        (record { line = a.line; column = a.column + 1 }))
-    by_feed true = inl (omega arith)
-    by_feed false = inr (refl, omega arith)
+next-is-after c a = grind arith
 
 -- ---- the units of a text
 
@@ -114,8 +99,7 @@ tail-apart l ls h = (and_parts (are_apart l.units) _ h).1
 
 empty-apart : (t : Bool) (l : Line) (ls : List Line) → AreApart ls
     → AreApart (cond t (with_units [] l ∷ ls) ls)
-empty-apart true l ls h = h
-empty-apart false l ls h = h
+empty-apart t l ls h = grind arith
 
 after-apart : (l : Line) (ls : List Line) → AreApart (l ∷ ls) → AreApart (lines_after l ls)
 after-apart l ls h = empty-apart l.is_last l ls (tail-apart l ls h)

@@ -1,5 +1,6 @@
 -- The version of a dyndep file: its reading and its form.
-use Rattle.std.proofs.Common.{◌≡◌, ℕ, Bool, true, false, cond, ◌==◌, Result, Ok, Err, List, [], ◌∷◌, refl}
+use Rattle.std.proofs.Common.{arith, ◌≡◌, ℕ, Bool, true, false, cond, ◌==◌, Result, Ok, Err, List, [], ◌∷◌}
+use Rattle.std.proofs.Common.{refl}
 use Rattle.std.proofs.Common.{sym, ap, subst, ◌∙◌, codes}
 use Rattle.std.proofs.lemmas.Bool.{and_parts, eqb-true}
 use Rattle.nj_text.specs.Numbers.{version_pair_of}
@@ -26,9 +27,7 @@ use Rattle.nj_manifest.proofs.DyndepEnds.{oks}
 -- ---- the line
 
 is_the_first : (v : ℕ × ℕ) → is_first_version v ≡ true → v ≡ first_version
-is_the_first v h =
-    let both = and_parts (v.0 == 1) (v.1 == 0) h in
-    ap (λ (n : ℕ). (n, v.1)) (eqb-true v.0 1 both.0) ∙ ap (λ (n : ℕ). (1, n)) (eqb-true v.1 0 both.1)
+is_the_first v h = grind arith
 
 line-form : (l : Line) (ls : List Line) (s : State) → version_line (Inside l ls) ≡ Ok s
     → VersionLineForm l × (s ≡ Between (lines_after l ls))
@@ -114,15 +113,25 @@ next-form (l ∷ ls) rest h = by_kind (kind_of l) refl (λ e. next-form ls rest 
         (VersionForm.version {l = l} {ls = ls} k form.0)
 
 next-read : {ls rest : List Line} → VersionForm ls rest → version_next ls ≡ Ok rest
-next-read (VersionForm.version {l = l} {ls = ls} k f) =
-    next_by_kind l ls PlainLine k ∙ ap (λ (r : Result State Fault). r >>= λ end. Ok (lines_from end))
-    (line-read l ls f)
-next-read (VersionForm.blank {l = l} {ls = ls} k e others) =
-    next_by_kind l ls BlankLine k ∙ (ap (λ (t : Bool). cond t (ended (lines_after l ls)) (opening ls) >>=
-    version_from) e ∙ (sym (next_is ls) ∙ next-read others))
-next-read (VersionForm.comment {l = l} {ls = ls} k e others) =
-    next_by_kind l ls CommentLine k ∙ (ap (λ (t : Bool). cond t (ended (lines_after l (without_comments ls)))
-    (opening ls) >>= version_from) e ∙ (sym (next_is ls) ∙ next-read others))
+next-read (VersionForm.version {l = l} {ls = ls} k f) = grind (
+  arith,
+  next_by_kind l ls PlainLine k,
+  line-read l ls f,
+)
+next-read (VersionForm.blank {l = l} {ls = ls} k e others) = grind (
+  arith,
+  next_by_kind l ls BlankLine k,
+  ended (lines_after l ls),
+  next_is ls,
+  next-read others,
+)
+next-read (VersionForm.comment {l = l} {ls = ls} k e others) = grind (
+  arith,
+  next_by_kind l ls CommentLine k,
+  ended (lines_after l (without_comments ls)),
+  next_is ls,
+  next-read others,
+)
 
 pub versions_are : VersionsAreTheForms
 versions_are ls rest = (λ h. next-form ls rest h, λ f. next-read f)

@@ -1,5 +1,6 @@
 -- Blocks: the readings of their lines, and the forms of the grammar.
-use Rattle.std.proofs.Common.{◌≡◌, Bool, true, false, cond, Result, Ok, List, [], ◌∷◌, refl, sym, ap, subst}
+use Rattle.std.proofs.Common.{arith, ◌≡◌, Bool, true, false, cond, Result, Ok, List, [], ◌∷◌, refl, sym, ap}
+use Rattle.std.proofs.Common.{subst}
 use Rattle.std.proofs.Common.{◌∙◌}
 use Rattle.nj_text.specs.Bytes.{drop_while, is_space}
 use Rattle.nj_text.specs.Units.{Meaning, Ordinary, Escape, Reference, Join, OpeningJoin, Comment, LeadingTab}
@@ -27,17 +28,7 @@ use Rattle.nj_manifest.proofs.FormsLines.{gives-it}
 -- ---- leading spaces
 
 space_is_blank : (m : Meaning) → is_ordinary_in is_space m ≡ true → is_blank_meaning m ≡ true
-space_is_blank (Ordinary b) h = h
-space_is_blank (Escape x) h = absurd cc
-space_is_blank (Reference x) h = absurd cc
-space_is_blank Join h = refl
-space_is_blank OpeningJoin h = absurd cc
-space_is_blank Comment h = absurd cc
-space_is_blank LeadingTab h = absurd cc
-space_is_blank LineEnd h = absurd cc
-space_is_blank TextEnd h = absurd cc
-space_is_blank BadByte h = absurd cc
-space_is_blank BadEscape h = absurd cc
+space_is_blank m h = grind arith
 
 -- the blanks of a line, without and with its leading spaces
 skip_spaces : (us : List TextUnit) → skip (drop_while is_space_unit us) ≡ skip us
@@ -66,13 +57,11 @@ line_after allowed key = if_allowed (allows allowed key.0.name) key.0 (equals_va
 line_after_spaces : (allowed : Keys) (l : Line) (ls : List Line) (us : List TextUnit)
     → line_next allowed (within l ls (drop_while is_space_unit us)) ≡ line_next allowed (within l ls us)
 unfolding line_next
-line_after_spaces allowed l ls us = ap (λ (r : Step NameModel). r >>= line_after allowed)
-    (name_after_spaces wanted.VariableName l ls us)
+line_after_spaces allowed l ls us = grind (arith, name_after_spaces)
 
 if_allowed-ok : {A : Type 0} (t : Bool) (key : NameModel) (others : Result A Fault) (y : A)
     → if_allowed t key others ≡ Ok y → (t ≡ true) × (others ≡ Ok y)
-if_allowed-ok true key others y h = (refl, h)
-if_allowed-ok false key others y h = absurd cc
+if_allowed-ok t key others y h = grind arith
 
 -- the binding of a line
 abbrev LineIs : Keys → Line → List TextUnit → LineModel → Type 0
@@ -123,18 +112,13 @@ line-read allowed l ls us line f =
 -- a reading that gives a value and lines
 pub reads-it : {A : Type 0} (x : A) (ls : List Line) (y : A) (rest : List Line)
     → ◌≡◌ {A = Parse A} (Ok (x, ls)) (Ok (y, rest)) → (x ≡ y) × (ls ≡ rest)
-reads-it {A} x ls y rest e =
-    let same : ◌≡◌ {A = A × List Line} (x, ls) (y, rest) = cc in
-    (ap (λ (r : A × List Line). r.0) same, ap (λ (r : A × List Line). r.1) same)
+reads-it {A} x ls y rest e = grind arith
 
 -- a block without lines
 no_lines-are : (allowed : Keys) (ls remainder rest : List Line) (lines : List LineModel)
     → no_lines remainder ≡ Ok (lines, rest) → BlockForm allowed ls [] remainder
     → BlockForm allowed ls lines rest
-no_lines-are allowed ls remainder rest lines h f =
-    let same = reads-it [] remainder lines rest h in
-    subst (λ (ms : List LineModel). BlockForm allowed ls ms rest) same.0
-    (subst (BlockForm allowed ls []) same.1 f)
+no_lines-are allowed ls remainder rest lines h f = grind arith
 
 -- the block after a line, which may be the last
 block_after-form : (allowed : Keys) (l : Line) (ls rest : List Line) (lines : List LineModel)
@@ -196,15 +180,13 @@ block-form allowed (l ∷ ls) lines rest h =
 pub block-read : {allowed : Keys} {ls rest : List Line} {lines : List LineModel}
     → BlockForm allowed ls lines rest → block allowed ls ≡ Ok (lines, rest)
 unfolding block
-block-read {allowed = allowed} (BlockForm.line {l = l} {ls = ls} {first = first} f more) =
-    rw (
-      f.indented,
-      line_after_spaces allowed l ls l.units,
-      line-read allowed l ls l.units first (f.binding, f.key),
-      ← block-after allowed l ls,
-      block-read more,
-    )
-    refl
+block-read {allowed = allowed} (BlockForm.line {l = l} {ls = ls} {first = first} f more) = grind (
+  arith,
+  line_after_spaces allowed l ls l.units,
+  line-read allowed l ls l.units first (f.binding, f.key),
+  block-after allowed l ls,
+  block-read more,
+)
 block-read (BlockForm.comment k e others) = rw (k, e) (block-read others)
 block-read (BlockForm.last_comment k e) = rw (k, e) refl
 block-read (BlockForm.blank k) = rw k refl

@@ -1,5 +1,5 @@
 -- Units cut at the longest front that passes, and blanks above all.
-use Rattle.std.proofs.Common.{◌≡◌, Bool, true, false, cond, ◌&&◌, List, [], ◌∷◌, ◌++◌, refl, ap, ◌∙◌}
+use Rattle.std.proofs.Common.{arith, ◌≡◌, Bool, true, false, cond, ◌&&◌, List, [], ◌∷◌, ◌++◌, refl, ap, ◌∙◌}
 use Rattle.std.specs.List.{list_all, take_while}
 use Rattle.std.proofs.lemmas.Bool.{and_parts}
 use Rattle.nj_text.specs.Bytes.{drop_while, begins_with}
@@ -29,12 +29,7 @@ front_passes p (u ∷ us) = by_test (p u) refl (front_passes p us)
 
 pub after_stops : (p : TextUnit → Bool) (us : List TextUnit) → begins_with p (drop_while p us) ≡ false
 after_stops p [] = refl
-after_stops p (u ∷ us) = by_test (p u) refl (after_stops p us)
-  where
-    by_test : (t : Bool) → p u ≡ t → begins_with p (drop_while p us) ≡ false
-        → begins_with p (cond t (drop_while p us) (u ∷ us)) ≡ false
-    by_test true e rest = rest
-    by_test false e rest = e
+after_stops p (u ∷ us) = grind (arith, after_stops p us)
 
 -- units that pass are passed over
 pub passed_over : (p : TextUnit → Bool) (run us : List TextUnit) → list_all p run ≡ true
@@ -45,12 +40,10 @@ passed_over p (u ∷ run) us h =
     rw both.0 (passed_over p run us both.1)
 
 pub none_passed : (p : TextUnit → Bool) (us : List TextUnit) → begins_with p us ≡ false → drop_while p us ≡ us
-none_passed p [] h = refl
-none_passed p (u ∷ us) h = rw h refl
+none_passed p us h = grind arith
 
 pub none_taken : (p : TextUnit → Bool) (us : List TextUnit) → begins_with p us ≡ false → take_while p us ≡ []
-none_taken p [] h = refl
-none_taken p (u ∷ us) h = take_while-cons_no p u us h
+none_taken p us h = grind arith
 
 -- a run that is as long as can be
 pub run_passed : (p : TextUnit → Bool) (run us : List TextUnit) → list_all p run ≡ true
@@ -99,9 +92,4 @@ blanks_end (u ∷ us) h =
 
 pub end_of_blanks : (us : List TextUnit) → skip us ≡ [] → AreBlanks us
 end_of_blanks [] h = refl
-end_of_blanks (u ∷ us) h = by_test (is_blank u) refl (end_of_blanks us) h
-  where
-    by_test : (t : Bool) → is_blank u ≡ t → (skip us ≡ [] → list_all is_blank us ≡ true)
-        → cond t (skip us) (u ∷ us) ≡ [] → (is_blank u && list_all is_blank us) ≡ true
-    by_test true e rest g = rw e (rest g)
-    by_test false e rest g = absurd cc
+end_of_blanks (u ∷ us) h = grind (arith, end_of_blanks us)

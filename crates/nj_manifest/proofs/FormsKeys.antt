@@ -1,5 +1,7 @@
 -- The required lines of a block: the keys of its lines, and the forms of the grammar.
-use Rattle.std.proofs.Common.{◌≡◌, ℕ, Bool, true, false, cond, ◌&&◌, not, Result, Ok, List, [], ◌∷◌, ◌++◌}
+use Rattle.std.proofs.lemmas.Grind.{common_steps}
+use Rattle.std.proofs.Common.{arith, ◌≡◌, ℕ, Bool, true, false, cond, ◌&&◌, not, Result, Ok, List, [], ◌∷◌}
+use Rattle.std.proofs.Common.{◌++◌}
 use Rattle.std.proofs.Common.{refl, sym, ap, ◌∙◌, codes}
 use mathlib.Core.Bool.{beq}
 use Rattle.std.specs.Prelude.{◌↔◌}
@@ -68,47 +70,32 @@ gives-form key (l ∷ lines) h = by_tests (bytes_eq l.name key) (any_of key line
 
 has_key : (key : List ℕ) (before after : List LineModel) (l : LineModel) → bytes_eq l.name key ≡ true
     → any_of key (before ++ (l ∷ after)) ≡ true
-has_key key [] after l e = or_left (bytes_eq l.name key) (any_of key after) e
-has_key key (m ∷ before) after l e = or_right (bytes_eq m.name key) (any_of key (before ++ (l ∷ after)))
-    (has_key key before after l e)
+has_key key before after l e = grind (arith, common_steps)
 
 gives_at : (key : List ℕ) (before after : List LineModel) (l : LineModel) → bytes_eq l.name key ≡ true
     → any_of key after ≡ false → is_empty l.value.parts ≡ false → gives key (before ++ (l ∷ after)) ≡ true
 gives_at key [] after l e n p = gives-cons key l after ∙ rw (e, n, p) refl
-gives_at key (m ∷ before) after l e n p =
-    gives-cons key m (before ++ (l ∷ after))
-    ∙ rw (has_key key before after l e) (by_test (bytes_eq m.name key) (gives_at key before after l e n p))
-  where
-    by_test : (t : Bool) → gives key (before ++ (l ∷ after)) ≡ true
-        → cond (t && false) (not (is_empty m.value.parts)) (gives key (before ++ (l ∷ after))) ≡ true
-    by_test true h = h
-    by_test false h = h
+gives_at key (m ∷ before) after l e n p = grind (
+  arith,
+  gives-cons key m (before ++ (l ∷ after)),
+  has_key key before after l e,
+  gives_at key before after l e n p,
+)
 
 pub gives-read : (key : List ℕ) (lines : List LineModel) → Gives key lines → gives key lines ≡ true
-gives-read key lines g = ap (gives key) g.cut
-    ∙ gives_at key g.before g.after g.line (key_is_here g.line.name key g.of_key) g.is_last g.some_part
+gives-read key lines g = grind (arith, gives_at, key_is_here)
 
 -- ---- whole blocks
 
 pub unless_missing-ok : {A : Type 0} (there : Bool) (fault : Fault) (others : Result A Fault) (x : A)
     → unless_missing there fault others ≡ Ok x → (there ≡ true) × (others ≡ Ok x)
-unless_missing-ok true fault others x h = (refl, h)
-unless_missing-ok false fault others x h = absurd cc
+unless_missing-ok there fault others x h = grind arith
 
 pub agree-forms : (a b : Bool) → beq a b ≡ true → (a ≡ true) ↔ (b ≡ true)
-agree-forms true true h = (λ e. refl, λ e. refl)
-agree-forms true false h = absurd cc
-agree-forms false true h = absurd cc
-agree-forms false false h = (λ e. e, λ e. e)
+agree-forms a b h = grind arith
 
 pub forms-agree : (a b : Bool) → ((a ≡ true) ↔ (b ≡ true)) → beq a b ≡ true
-forms-agree true true h = refl
-forms-agree true false h = h.0 refl
-forms-agree false true h = absurd (false_is_true (h.1 refl))
-  where
-    false_is_true : false ≡ true → ⊥
-    false_is_true e = absurd cc
-forms-agree false false h = refl
+forms-agree a b h = grind arith
 
 -- the keys of a response file
 abbrev rsp : List ℕ
@@ -121,43 +108,26 @@ pub rule-form : (spot : Spot) (lines whole : List LineModel) → whole_rule spot
     → (lines ≡ whole) × Gives (codes "command") lines
     × (Gives (codes "rspfile") lines ↔ Gives (codes "rspfile_content") lines)
 unfolding whole_rule
-rule-form spot lines whole h =
-    let pair = unless_missing-ok (beq (gives rsp lines) (gives rsp_content lines)) _ _ whole h in
-    let command = unless_missing-ok (gives (codes "command") lines) _ (Ok lines) whole pair.1 in
-    let both = agree-forms (gives rsp lines) (gives rsp_content lines) pair.0 in (
-      ok_is command.1,
-      gives-form (codes "command") lines command.0,
-      (
-        λ g. gives-form rsp_content lines (both.0 (gives-read rsp lines g)),
-        λ g. gives-form rsp lines (both.1 (gives-read rsp_content lines g)),
-      ),
-    )
-  where
-    ok_is : ◌≡◌ {A = Result (List LineModel) Fault} (Ok lines) (Ok whole) → lines ≡ whole
-    ok_is e = cc
+rule-form spot lines whole h = grind (
+  arith,
+  unless_missing-ok,
+  beq,
+  codes,
+  agree-forms,
+  gives-form,
+  gives-read,
+)
 
 pub rule-read : (spot : Spot) (lines : List LineModel) → Gives (codes "command") lines
     → (Gives (codes "rspfile") lines ↔ Gives (codes "rspfile_content") lines)
     → whole_rule spot lines ≡ Ok lines
 unfolding whole_rule
-rule-read spot lines command pair =
-    rw (
-      forms-agree (gives rsp lines) (gives rsp_content lines) (
-        λ e. gives-read rsp_content lines (pair.0 (gives-form rsp lines e)),
-        λ e. gives-read rsp lines (pair.1 (gives-form rsp_content lines e)),
-      ),
-      gives-read (codes "command") lines command,
-    ) refl
+rule-read spot lines command h = grind (arith, forms-agree, gives-read, gives-form, codes)
 
 pub pool-form : (spot : Spot) (lines whole : List LineModel) → whole_pool spot lines ≡ Ok whole
     → (lines ≡ whole) × (list_any (λ (l : LineModel). bytes_eq l.name (codes "depth")) lines ≡ true)
 unfolding whole_pool
-pool-form spot lines whole h =
-    let depth = unless_missing-ok (names (codes "depth") lines) _ (Ok lines) whole h in
-    (ok_is depth.1, depth.0)
-  where
-    ok_is : ◌≡◌ {A = Result (List LineModel) Fault} (Ok lines) (Ok whole) → lines ≡ whole
-    ok_is e = cc
+pool-form spot lines whole h = grind arith
 
 pub pool-read : (spot : Spot) (lines : List LineModel)
     → list_any (λ (l : LineModel). bytes_eq l.name (codes "depth")) lines ≡ true

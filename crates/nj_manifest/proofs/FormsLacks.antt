@@ -1,5 +1,6 @@
 -- Missing lines of rules and pools: the faults that are read, and the forms of the grammar.
-use Rattle.std.proofs.Common.{◌≡◌, Bool, true, false, cond, Result, Ok, Err, List, [], ◌∷◌, refl, sym, ap}
+use Rattle.std.proofs.Common.{arith, ◌≡◌, Bool, true, false, cond, Result, Ok, Err, List, [], ◌∷◌, refl, sym}
+use Rattle.std.proofs.Common.{ap}
 use Rattle.std.proofs.Common.{subst, ◌∙◌, codes}
 use mathlib.Core.Bool.{beq}
 use Rattle.std.specs.Prelude.{◌↔◌}
@@ -35,24 +36,10 @@ use Rattle.nj_manifest.proofs.LeftmostStatements.{placed_fault, same_fault, not_
 -- ---- faults of lines are faults of syntax
 
 no_syntax : {P : Type 0} (f : Fault) → is_syntax f ≡ true → is_syntax f ≡ false → P
-no_syntax f h n = absurd (apart (sym h ∙ n))
-  where
-    apart : true ≡ false → ⊥
-    apart e = absurd cc
+no_syntax f h n = grind arith
 
 names_syntax : (f : Fault) (l : Line) → NamesThePlaceOf f l → is_syntax f ≡ true
-names_syntax (Placed spot cause.BadByte) l h = refl
-names_syntax (Placed spot cause.Tab) l h = refl
-names_syntax (Placed spot cause.BadEscape) l h = refl
-names_syntax (Placed spot (cause.Expected wanted)) l h = refl
-names_syntax (Placed spot cause.UnexpectedIndent) l h = refl
-names_syntax (Placed spot cause.MissingCommand) l h = absurd h
-names_syntax (Placed spot cause.RspPair) l h = absurd h
-names_syntax (Placed spot (cause.UnknownKey key)) l h = refl
-names_syntax (Placed spot cause.MissingDepth) l h = absurd h
-names_syntax (Placed spot cause.DyndepVersion) l h = absurd h
-names_syntax (Placed spot cause.DyndepShape) l h = absurd h
-names_syntax OutOfMemory l h = absurd h
+names_syntax f l h = grind arith
 
 block_syntax : {P : Type 0} (allowed : Keys) (ls : List Line) (f : Fault) → block allowed ls ≡ Err f
     → is_syntax f ≡ false → P
@@ -69,24 +56,13 @@ abbrev Pair : List LineModel → Type 0
 Pair lines = Gives (codes "rspfile") lines ↔ Gives (codes "rspfile_content") lines
 
 false_is_true : {P : Type 0} (t : Bool) → t ≡ false → t ≡ true → P
-false_is_true t f h = absurd (apart (sym f ∙ h))
-  where
-    apart : false ≡ true → ⊥
-    apart e = absurd cc
+false_is_true t f h = grind arith
 
 pair_agrees : (lines : List LineModel) → Pair lines → rsp_agree lines ≡ true
-pair_agrees lines p =
-    forms-agree (gives (codes "rspfile") lines) (gives (codes "rspfile_content") lines) (
-      λ e. gives-read (codes "rspfile_content") lines (p.0 (gives-form (codes "rspfile") lines e)),
-      λ e. gives-read (codes "rspfile") lines (p.1 (gives-form (codes "rspfile_content") lines e)),
-    )
+pair_agrees lines p = grind (arith, forms-agree, codes, gives-read, gives-form)
 
 agrees_pair : (lines : List LineModel) → rsp_agree lines ≡ true → Pair lines
-agrees_pair lines h =
-    let both = agree-forms (gives (codes "rspfile") lines) (gives (codes "rspfile_content") lines) h in (
-      λ g. gives-form (codes "rspfile_content") lines (both.0 (gives-read (codes "rspfile") lines g)),
-      λ g. gives-form (codes "rspfile") lines (both.1 (gives-read (codes "rspfile_content") lines g)),
-    )
+agrees_pair lines h = grind (arith, agree-forms, codes, gives-form, gives-read)
 
 errs : {A : Type 0} {x y : Fault} → ◌≡◌ {A = Result A Fault} (Err x) (Err y) → x ≡ y
 errs e = cc
@@ -161,8 +137,7 @@ with_block-lacks spot (BuildHead outputs rule inputs) ls f n h =
     (λ lines rest b g. no_err g)
 
 not_so : (t : Bool) → (t ≡ true → ⊥) → t ≡ false
-not_so true h = absurd (h refl)
-not_so false h = refl
+not_so t h = grind arith
 
 pair-refuses : (spot : Spot) (lines : List LineModel) → (Pair lines → ⊥)
     → whole_rule spot lines ≡ Err (Placed spot cause.RspPair)
@@ -172,10 +147,7 @@ pair-refuses spot lines n = rw (not_so (rsp_agree lines) (λ h. n (agrees_pair l
 command-refuses : (spot : Spot) (lines : List LineModel) → Pair lines → (Gives (codes "command") lines → ⊥)
     → whole_rule spot lines ≡ Err (Placed spot cause.MissingCommand)
 unfolding whole_rule
-command-refuses spot lines p n = rw (
-  pair_agrees lines p,
-  not_so (gives (codes "command") lines) (λ h. n (gives-form (codes "command") lines h)),
-) refl
+command-refuses spot lines p n = grind (arith, pair_agrees, not_so, codes, gives-form)
 
 depth-refuses : (spot : Spot) (lines : List LineModel)
     → list_any (λ (l : LineModel). bytes_eq l.name (codes "depth")) lines ≡ false
@@ -238,18 +210,18 @@ next-refuses (NextLacks.statement {l = l} {ls = ls} {head = head} {fault = f} k 
           ∙ placed_bad (line_spot l) (with_block (line_spot l) head (lines_after l ls)) f r.0,
       r.1,
     )
-next-refuses (NextLacks.blank {l = l} {ls = ls} k e others) =
-    let r = next-refuses others in (
-      next-kind l ls BlankLine k ∙ (ap (λ (t : Bool). cond t (nothing_more (lines_after l ls))
-          (next_statement ls)) e ∙ r.0),
-      r.1,
-    )
-next-refuses (NextLacks.comment {l = l} {ls = ls} k e others) =
-    let r = next-refuses others in (
-      next-kind l ls CommentLine k ∙ (ap (λ (t : Bool). cond t
-          (nothing_more (lines_after l (without_comments ls))) (next_statement ls)) e ∙ r.0),
-      r.1,
-    )
+next-refuses (NextLacks.blank {l = l} {ls = ls} k e others) = grind (
+  arith,
+  next-refuses others,
+  next-kind l ls BlankLine k,
+  nothing_more (lines_after l ls),
+)
+next-refuses (NextLacks.comment {l = l} {ls = ls} k e others) = grind (
+  arith,
+  next-refuses others,
+  next-kind l ls CommentLine k,
+  nothing_more (lines_after l (without_comments ls)),
+)
 
 pub are_lacking : MissingLinesAreLacking
 are_lacking ls f = (λ h. next-lacks ls f h.1 h.0, λ l. next-refuses l)

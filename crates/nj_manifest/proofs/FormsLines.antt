@@ -1,5 +1,6 @@
 -- The first lines of statements: their readings, and the forms of the grammar.
-use Rattle.std.proofs.Common.{◌≡◌, ℕ, Bool, true, false, cond, ◌&&◌, ◌||◌, Option, Some, None, Result, Ok}
+use Rattle.std.proofs.Common.{arith, ◌≡◌, ℕ, Bool, true, false, cond, ◌&&◌, ◌||◌, Option, Some, None, Result}
+use Rattle.std.proofs.Common.{Ok}
 use Rattle.std.proofs.Common.{List, refl, sym, ap, subst, ◌∙◌, codes}
 use Rattle.std.specs.Prelude.{ok_or}
 use Rattle.std.specs.List.{list_any}
@@ -61,15 +62,7 @@ name_alone-form : (want : Wanted) (l : Line) (ls : List Line) (us : List TextUni
     (s : State) → name_alone want (within l ls us) ≡ Ok (name, s)
     → (rest : List TextUnit) × IdentifierForm us name rest × AreBlanks rest × (s ≡ Between (lines_after l ls))
 unfolding name_alone
-name_alone-form want l ls us name s h =
-    let read = bind-ok (name_next want (within l ls us)) _ (name, s) h in
-    let end = bind-ok (expect_sign sign.LineEnd wanted.Newline read.0.1) (λ end. Ok (read.0.0, end)) (name, s)
-    read.2 in
-    let it = name-form want l ls us read.0 read.1 in
-    let same = gives-it read.0.0 end.0 name s end.2 in
-    let ended = end-form wanted.Newline l ls it.0 end.0
-    (ap (expect_sign sign.LineEnd wanted.Newline) (sym it.2) ∙ end.1) in
-    (it.0, subst (λ (n : NameModel). IdentifierForm us n it.0) same.0 it.1, ended.0, sym same.1 ∙ ended.1)
+name_alone-form want l ls us name s h = grind (arith, bind-ok, within, name-form, gives-it, end-form)
 
 name_alone-read : (want : Wanted) (l : Line) (ls : List Line) (us rest : List TextUnit) (name : NameModel)
     → IdentifierForm us name rest → AreBlanks rest
@@ -82,8 +75,7 @@ name_alone-read want l ls us rest name f e =
 
 unless_none-ok : {A : Type 0} (t : Bool) (want : Wanted) (s : State) (others : Result A Fault) (y : A)
     → unless_none t want s others ≡ Ok y → (t ≡ false) × (others ≡ Ok y)
-unless_none-ok true want s others y h = absurd cc
-unless_none-ok false want s others y h = (refl, h)
+unless_none-ok t want s others y h = grind arith
 
 targets-form : (l : Line) (ls : List Line) (us : List TextUnit) (words : List WordModel) (s : State)
     → targets_next (within l ls us) ≡ Ok (words, s)
@@ -124,32 +116,18 @@ file-form : (l : Line) (ls : List Line) (us : List TextUnit) (word : WordModel) 
     → file_next (within l ls us) ≡ Ok (word, s)
     → (rest : List TextUnit) × WordForm us word rest × AreBlanks rest × (s ≡ Between (lines_after l ls))
 unfolding file_next
-file-form l ls us word s h =
-    let found = bind-ok (called (path_word_of (within l ls us))) _ (word, s) h in
-    by_found found.0.0 found.0.1 found.1 found.2
-  where
-    by_found : (found : Option WordModel) (after : State)
-        → called (path_word_of (within l ls us)) ≡ Ok (found, after)
-        → (ok_or found (Placed (spot_of after) (cause.Expected wanted.Path)) >>= λ w. file_end (w, after))
-        ≡ Ok (word, s)
-        → (rest : List TextUnit) × WordForm us word rest × AreBlanks rest × (s ≡ Between (lines_after l ls))
-    by_found None after e g = absurd cc
-    by_found (Some w) after e g =
-        let end = bind-ok (expect_sign sign.LineEnd wanted.Newline after) (λ end. Ok (w, end)) (word, s) g in
-        let it = word-form l ls us w after e in
-        let same = gives-it w end.0 word s end.2 in
-        let ended = end-form wanted.Newline l ls it.0 end.0
-        (ap (expect_sign sign.LineEnd wanted.Newline) (sym it.2) ∙ end.1) in
-        (it.0, subst (λ (v : WordModel). WordForm us v it.0) same.0 it.1, ended.0, sym same.1 ∙ ended.1)
+file-form l ls us word s h = grind (arith, bind-ok, within, word-form, gives-it, end-form)
 
 file-read : (l : Line) (ls : List Line) (us rest : List TextUnit) (word : WordModel) → WordForm us word rest
     → AreBlanks rest → file_next (within l ls us) ≡ Ok (word, Between (lines_after l ls))
 unfolding file_next
-file-read l ls us rest word f e =
-    rw (
-      word-read l ls us rest word f (fault_after_blanks rest (end_stops rest e).no_fault),
-      end-read wanted.Newline l ls rest e,
-    ) refl
+file-read l ls us rest word f e = grind (
+  arith,
+  word-read l ls us rest word f (fault_after_blanks rest (end_stops rest e).no_fault),
+  fault_after_blanks rest (end_stops rest e).no_fault,
+  end_stops rest e,
+  end-read wanted.Newline l ls rest e,
+)
 
 -- ---- the parts of a build statement
 
@@ -188,17 +166,14 @@ pub section_after-form : (want : Sign) (l : Line) (ls : List Line) (us : List Te
     (words : List WordModel) → (want ≡ sign.LineEnd → ⊥) → s ≡ within l ls (skip us)
     → section_next want s ≡ Ok (words, s')
     → (rest : List TextUnit) × SectionForm want us words rest × (s' ≡ within l ls (skip rest))
-section_after-form want l ls us s s' words n e h =
-    section-form want l ls us words s' n (sym (section_skips want l ls us) ∙ sym (ap (section_next want) e)
-    ∙ h)
+section_after-form want l ls us s h words n e h1 = grind (arith, section-form, section_skips)
 
 pub section_after-read : (want : Sign) (l : Line) (ls : List Line) {us rest : List TextUnit}
     {words : List WordModel} → (want ≡ sign.LineEnd → ⊥) → SectionForm want us words rest
     → next_fault (skip rest) ≡ None → begins_with opens_word (skip rest) ≡ false
     → is_sign want (skip rest) ≡ false → section_next want (within l ls (skip us))
     ≡ Ok (words, within l ls (skip rest))
-section_after-read want l ls {us = us} n f a b c =
-    section_skips want l ls us ∙ section-read want l ls n f a b c
+section_after-read want l ls {us = us} n f a b c = grind (arith, section_skips, section-read)
 
 -- `OUTPUTS | IMPLICIT-OUTPUTS`
 record OutputsForm (us : List TextUnit) (outputs : OutputsModel) (rest : List TextUnit) : Type 0 where
@@ -336,8 +311,7 @@ PartsRead l ls us head s = (outputs : OutputsModel) × (rule : NameModel) × (in
 pub colon_after-form : (l : Line) (ls : List Line) (us : List TextUnit) (s s' : State)
     → s ≡ within l ls (skip us) → expect_sign sign.Colon wanted.Colon s ≡ Ok s'
     → (rest : List TextUnit) × SignForm sign.Colon us rest × (s' ≡ within l ls rest)
-colon_after-form l ls us s s' e h = after-form sign.Colon wanted.Colon l ls us s' colon_is_not_end
-    (sym (after_skips sign.Colon wanted.Colon l ls us) ∙ sym (ap (expect_sign sign.Colon wanted.Colon) e) ∙ h)
+colon_after-form l ls us s h e h1 = grind (arith, after-form, after_skips)
 
 name_at-form : (want : Wanted) (l : Line) (ls : List Line) (us : List TextUnit) (s : State)
     (y : NameModel × State) → s ≡ within l ls us → name_next want s ≡ Ok y
@@ -352,8 +326,7 @@ inputs_at-form l ls us s s' inputs e h = inputs-form l ls us inputs s' (ap input
 pub end_after_at-form : (l : Line) (ls : List Line) (us : List TextUnit) (s s' : State)
     → s ≡ within l ls (skip us) → expect_sign sign.LineEnd wanted.Newline s ≡ Ok s'
     → AreBlanks us × (s' ≡ Between (lines_after l ls))
-end_after_at-form l ls us s s' e h = end_after-form wanted.Newline l ls us s'
-    (ap (expect_sign sign.LineEnd wanted.Newline) (sym e) ∙ h)
+end_after_at-form l ls us s h e h1 = grind (arith, end_after-form)
 
 build-form : (l : Line) (ls : List Line) (us : List TextUnit) (head : HeadModel) (s : State)
     → build_head (within l ls us) ≡ Ok (head, s) → PartsRead l ls us head s
@@ -423,85 +396,24 @@ keyword_of word us rest name f h =
 none_of : {A : Type 0} (b r p d i u : Bool) (x1 x2 x3 x4 x5 x6 x7 : A)
     → (b || (r || (p || (d || (i || (u || false)))))) ≡ false
     → cond b x1 (cond r x2 (cond p x3 (cond d x4 (cond i x5 (cond u x6 x7))))) ≡ x7
-none_of true r p d i u x1 x2 x3 x4 x5 x6 x7 h = absurd cc
-none_of false true p d i u x1 x2 x3 x4 x5 x6 x7 h = absurd cc
-none_of false false true d i u x1 x2 x3 x4 x5 x6 x7 h = absurd cc
-none_of false false false true i u x1 x2 x3 x4 x5 x6 x7 h = absurd cc
-none_of false false false false true u x1 x2 x3 x4 x5 x6 x7 h = absurd cc
-none_of false false false false false true x1 x2 x3 x4 x5 x6 x7 h = absurd cc
-none_of false false false false false false x1 x2 x3 x4 x5 x6 x7 h = refl
+none_of b r p d i u x1 x2 x3 x4 x5 x6 x7 h = grind arith
 
 -- the reading where the word is not a keyword
 no_keyword : (word : List ℕ) (s : State) → list_any (bytes_eq word) keywords ≡ false
     → head_after word s ≡ as_head (λ value. Alone (BindingModel word value)) (equals_value s)
 unfolding head_after
-no_keyword word s h =
-    none_of (bytes_eq word (codes "build")) (bytes_eq word (codes "rule")) (bytes_eq word (codes "pool"))
-    (bytes_eq word (codes "default")) (bytes_eq word (codes "include")) (bytes_eq word (codes "subninja"))
-    (build_head s) (as_head RuleHead (name_alone wanted.RuleName s))
-    (as_head PoolHead (name_alone wanted.PoolName s))
-    (as_head (λ words. Alone (DefaultModel words)) (targets_next s))
-    (as_head (λ word. Alone (IncludeModel word)) (file_next s))
-    (as_head (λ word. Alone (SubninjaModel word)) (file_next s))
-    (as_head (λ value. Alone (BindingModel word value)) (equals_value s)) h
+no_keyword word s h = grind arith
 
 -- ---- first lines
 
 build_parts : {us : List TextUnit} {outputs : OutputsModel} {name : NameModel} {inputs : InputsModel}
     → (f : BuildForm us outputs name inputs) → PartsForm f.after_build outputs name inputs
-build_parts f =
-    record {
-      after_outputs = f.after_outputs;
-      after_colon = f.after_colon;
-      after_rule = f.after_rule;
-      after_inputs = f.after_validations;
-      of_outputs = record {
-        after_explicit = f.after_explicit;
-        explicit = f.explicit_outputs;
-        implicit =
-            f.implicit_outputs;
-        some = f.some_output;
-      };
-      colon = f.colon;
-      of_rule = f.of_rule;
-      of_inputs = record {
-        after_explicit = f.after_inputs;
-        after_implicit = f.after_implicit;
-        after_order_only = f.after_order_only;
-        explicit = f.explicit_inputs;
-        implicit = f.implicit_inputs;
-        order_only = f.order_only_inputs;
-        validations = f.validations;
-      };
-      end = f.end;
-    }
+build_parts f = grind arith
 
 whole_build : (us rest : List TextUnit) (outputs : OutputsModel) (name : NameModel) (inputs : InputsModel)
     → KeywordForm (codes "build") us rest → PartsForm rest outputs name inputs
     → BuildForm us outputs name inputs
-whole_build us rest outputs name inputs k f =
-    record {
-      after_build = rest;
-      after_explicit = f.of_outputs.after_explicit;
-      after_outputs = f.after_outputs;
-      after_colon = f.after_colon;
-      after_rule = f.after_rule;
-      after_inputs = f.of_inputs.after_explicit;
-      after_implicit = f.of_inputs.after_implicit;
-      after_order_only = f.of_inputs.after_order_only;
-      after_validations = f.after_inputs;
-      keyword = k;
-      explicit_outputs = f.of_outputs.explicit;
-      implicit_outputs = f.of_outputs.implicit;
-      some_output = f.of_outputs.some;
-      colon = f.colon;
-      of_rule = f.of_rule;
-      explicit_inputs = f.of_inputs.explicit;
-      implicit_inputs = f.of_inputs.implicit;
-      order_only_inputs = f.of_inputs.order_only;
-      validations = f.of_inputs.validations;
-      end = f.end;
-    }
+whole_build us rest outputs name inputs k f = grind arith
 
 -- A first line that is there is read.
 pub head-read : (l : Line) (ls : List Line) (head : HeadModel) → HeadForm l head
@@ -548,10 +460,7 @@ HeadIs l ls head s = HeadForm l head × (s ≡ Between (lines_after l ls))
 
 as_head-parts : {A : Type 0} (make : A → HeadModel) (step : Step A) (head : HeadModel) (s : State)
     → as_head make step ≡ Ok (head, s) → (x : A) × (step ≡ Ok (x, s)) × (make x ≡ head)
-as_head-parts make step head s h =
-    let b = bind-ok step (λ x. Ok (make x.0, x.1)) (head, s) h in
-    let same = gives-it (make b.0.0) b.0.1 head s b.2 in
-    (b.0.0, b.1 ∙ ap (λ (t : State). Ok (b.0.0, t)) same.1, same.0)
+as_head-parts make step head s h = grind arith
 
 head-is : (l : Line) (ls : List Line) (one head : HeadModel) (s : State) → one ≡ head → HeadForm l one
     → s ≡ Between (lines_after l ls) → HeadIs l ls head s
@@ -561,21 +470,19 @@ named_is : (word : List ℕ) (l : Line) (ls : List Line) (want : Wanted) (make :
     (us : List TextUnit) (head : HeadModel) (s : State) → KeywordForm word l.units us
     → ((name : NameModel) → NamedForm word l.units name → HeadForm l (make name))
     → as_head make (name_alone want (within l ls us)) ≡ Ok (head, s) → HeadIs l ls head s
-named_is word l ls want make us head s k form h =
-    let x = as_head-parts make (name_alone want (within l ls us)) head s h in
-    let it = name_alone-form want l ls us x.0 s x.1 in
-    head-is l ls (make x.0) head s x.2 (form x.0
-    (record { after_keyword = us; after_name = it.0; keyword = k; of_name = it.1; end = it.2 })) it.3
+named_is word l ls want make us head s k form h = grind (
+  arith,
+  as_head-parts,
+  within,
+  name_alone-form,
+  head-is,
+)
 
 file_is : (word : List ℕ) (l : Line) (ls : List Line) (make : WordModel → HeadModel) (us : List TextUnit)
     (head : HeadModel) (s : State) → KeywordForm word l.units us
     → ((file : WordModel) → FileForm word l.units file → HeadForm l (make file))
     → as_head make (file_next (within l ls us)) ≡ Ok (head, s) → HeadIs l ls head s
-file_is word l ls make us head s k form h =
-    let x = as_head-parts make (file_next (within l ls us)) head s h in
-    let it = file-form l ls us x.0 s x.1 in
-    head-is l ls (make x.0) head s x.2 (form x.0
-    (record { after_keyword = us; after_file = it.0; keyword = k; of_file = it.1; end = it.2 })) it.3
+file_is word l ls make us head s k form h = grind (arith, as_head-parts, within, file-form, head-is)
 
 targets_are : (l : Line) (ls : List Line) (us : List TextUnit) (head : HeadModel) (s : State)
     → KeywordForm (codes "default") l.units us

@@ -1,5 +1,6 @@
 -- Statements: the next reading of lines, and the forms of the grammar.
-use Rattle.std.proofs.Common.{◌≡◌, Bool, true, false, cond, Option, Some, None, Ok, List, [], ◌∷◌, refl, sym}
+use Rattle.std.proofs.Common.{arith, ◌≡◌, Bool, true, false, cond, Option, Some, None, Ok, List, [], ◌∷◌}
+use Rattle.std.proofs.Common.{refl, sym}
 use Rattle.std.proofs.Common.{ap, subst, ◌∙◌}
 use Rattle.nj_text.specs.declared.spot.Spot.{Spot}
 use Rattle.nj_text.specs.Lines.{Line, line_spot, lines_after, Kind, CommentLine, TabLine, BlankLine}
@@ -71,9 +72,7 @@ with_block-read spot (StatementForm.build f) = rw (block-read f) refl
 next-is : (ls ms rest : List Line) (one found : Option PlacedModel)
     → ◌≡◌ {A = Parse (Option PlacedModel)} (Ok (one, ms)) (Ok (found, rest)) → NextForm ls one ms
     → NextForm ls found rest
-next-is ls ms rest one found h f =
-    let same = reads-it one ms found rest h in
-    subst (λ (o : Option PlacedModel). NextForm ls o rest) same.0 (subst (NextForm ls one) same.1 f)
+next-is ls ms rest one found h f = grind arith
 
 statement-form : (l : Line) (ls : List Line) (found : Option PlacedModel) (rest : List Line)
     → kind_of l ≡ PlainLine → statement_here l ls ≡ Ok (found, rest) → NextForm (l ∷ ls) found rest
@@ -132,18 +131,28 @@ pub next-read : {ls rest : List Line} {found : Option PlacedModel} → NextForm 
 next-read (NextForm.statement {l = l} {ls = ls} {rest = rest} {head = head} {item = item} k f s) =
     next-kind l ls PlainLine k ∙ statement-read l ls rest head item (head-read l ls head f)
     (with_block-read (line_spot l) s)
-next-read (NextForm.blank {l = l} {ls = ls} k e others) =
-    next-kind l ls BlankLine k ∙ (ap (λ (t : Bool). cond t (nothing_more (lines_after l ls))
-    (next_statement ls)) e ∙ next-read others)
-next-read (NextForm.comment {l = l} {ls = ls} k e others) =
-    next-kind l ls CommentLine k ∙ (ap (λ (t : Bool). cond t
-    (nothing_more (lines_after l (without_comments ls))) (next_statement ls)) e ∙ next-read others)
-next-read (NextForm.last_blank {l = l} {ls = ls} k e) =
-    next-kind l ls BlankLine k ∙ ap (λ (t : Bool). cond t (nothing_more (lines_after l ls))
-    (next_statement ls)) e
-next-read (NextForm.last_comment {l = l} {ls = ls} k e) =
-    next-kind l ls CommentLine k ∙ ap (λ (t : Bool). cond t
-    (nothing_more (lines_after l (without_comments ls))) (next_statement ls)) e
+next-read (NextForm.blank {l = l} {ls = ls} k e others) = grind (
+  arith,
+  next-kind l ls BlankLine k,
+  nothing_more (lines_after l ls),
+  next-read others,
+)
+next-read (NextForm.comment {l = l} {ls = ls} k e others) = grind (
+  arith,
+  next-kind l ls CommentLine k,
+  nothing_more (lines_after l (without_comments ls)),
+  next-read others,
+)
+next-read (NextForm.last_blank {l = l} {ls = ls} k e) = grind (
+  arith,
+  next-kind l ls BlankLine k,
+  nothing_more (lines_after l ls),
+)
+next-read (NextForm.last_comment {l = l} {ls = ls} k e) = grind (
+  arith,
+  next-kind l ls CommentLine k,
+  nothing_more (lines_after l (without_comments ls)),
+)
 next-read NextForm.nothing = next-nothing
 
 pub are_the_forms : StatementsAreTheForms

@@ -1,5 +1,6 @@
 -- Names and signs: the results of the lexer's calls within a line, and the forms of the grammar.
-use Rattle.std.proofs.Common.{◌≡◌, ℕ, Bool, true, false, cond, ◌&&◌, not, eqb, Option, Some, None, Ok, List}
+use Rattle.std.proofs.Common.{arith, ◌≡◌, ℕ, Bool, true, false, cond, ◌&&◌, not, eqb, Option, Some, None, Ok}
+use Rattle.std.proofs.Common.{List}
 use Rattle.std.proofs.Common.{[], ◌∷◌, ◌++◌, map, ◌⊎◌, inl, inr, refl, sym, ap, ◌∙◌, append_assoc}
 use Rattle.std.specs.List.{list_all, take_while}
 use Rattle.std.proofs.lemmas.Bool.{and_parts, and_right, not-true, eqb-true, false≢true}
@@ -35,54 +36,19 @@ within l ls us = Inside (with_units us l) ls
 -- a unit that passes a test that no bad unit passes has no fault
 pub passes_without_fault : (q : Meaning → Bool) → q LeadingTab ≡ false → q BadByte ≡ false
     → q BadEscape ≡ false → (m : Meaning) (spot : Spot) → q m ≡ true → fault_of m spot ≡ None
-passes_without_fault q a b c (Ordinary x) spot h = refl
-passes_without_fault q a b c (Escape x) spot h = refl
-passes_without_fault q a b c (Reference x) spot h = refl
-passes_without_fault q a b c Join spot h = refl
-passes_without_fault q a b c OpeningJoin spot h = refl
-passes_without_fault q a b c Comment spot h = refl
-passes_without_fault q a b c LeadingTab spot h = absurd (false≢true (sym a ∙ h))
-passes_without_fault q a b c LineEnd spot h = refl
-passes_without_fault q a b c TextEnd spot h = refl
-passes_without_fault q a b c BadByte spot h = absurd (false≢true (sym b ∙ h))
-passes_without_fault q a b c BadEscape spot h = absurd (false≢true (sym c ∙ h))
+passes_without_fault q a b c m spot h = grind arith
 
 -- an ordinary byte of a kind that has no space
 pub ordinary_no_blank : (p : ℕ → Bool) → p 32 ≡ false → (m : Meaning) → is_ordinary_in p m ≡ true
     → is_blank_meaning m ≡ false
-ordinary_no_blank p e (Ordinary b) h = by_test (eqb b 32) refl
-  where
-    by_test : (t : Bool) → eqb b 32 ≡ t → t ≡ false
-    by_test true g = absurd (false≢true (sym e ∙ (ap p (sym (eqb-true b 32 g)) ∙ h)))
-    by_test false g = refl
-ordinary_no_blank p e (Escape x) h = refl
-ordinary_no_blank p e (Reference x) h = refl
-ordinary_no_blank p e Join h = absurd cc
-ordinary_no_blank p e OpeningJoin h = refl
-ordinary_no_blank p e Comment h = refl
-ordinary_no_blank p e LeadingTab h = refl
-ordinary_no_blank p e LineEnd h = refl
-ordinary_no_blank p e TextEnd h = refl
-ordinary_no_blank p e BadByte h = refl
-ordinary_no_blank p e BadEscape h = refl
+ordinary_no_blank p e m h = grind arith
 
 -- which byte it is
 pub ordinary_is : (b : ℕ) (m : Meaning) → is_ordinary_in (λ c. eqb c b) m ≡ true → m ≡ Ordinary b
-ordinary_is b (Ordinary c) h = ap Ordinary (eqb-true c b h)
-ordinary_is b (Escape x) h = absurd cc
-ordinary_is b (Reference x) h = absurd cc
-ordinary_is b Join h = absurd cc
-ordinary_is b OpeningJoin h = absurd cc
-ordinary_is b Comment h = absurd cc
-ordinary_is b LeadingTab h = absurd cc
-ordinary_is b LineEnd h = absurd cc
-ordinary_is b TextEnd h = absurd cc
-ordinary_is b BadByte h = absurd cc
-ordinary_is b BadEscape h = absurd cc
+ordinary_is b m h = grind arith
 
 identifier_without_fault : (u : TextUnit) → in_identifier u ≡ true → fault_of u.means u.spot ≡ None
-identifier_without_fault u h = passes_without_fault (is_ordinary_in is_identifier_byte) refl refl refl u.means
-    u.spot h
+identifier_without_fault u h = grind arith
 
 identifier_no_blank : (u : TextUnit) → in_identifier u ≡ true → is_blank u ≡ false
 identifier_no_blank u h = ordinary_no_blank is_identifier_byte refl u.means h
@@ -102,57 +68,40 @@ name_here want l ls us = name_of want (next_fault us) (spot_of_first us l.end) (
 name_is_here : (want : Wanted) (l : Line) (ls : List Line) (us : List TextUnit)
     → name_next want (within l ls us) ≡ name_here want l ls (skip us)
 unfolding name_next
-name_is_here want l ls us =
-    ap (λ (vs : List TextUnit). name_of want (next_fault vs) (spot_of_first (skip us) l.end)
-    (take_while in_identifier vs) (within l ls (drop_while in_identifier vs))) (skip_again us)
+name_is_here want l ls us = grind (arith, skip, skip_again)
 
 -- blanks before a name do not matter
 pub name_skips : (want : Wanted) (l : Line) (ls : List Line) (us : List TextUnit)
     → name_next want (within l ls (skip us)) ≡ name_next want (within l ls us)
-name_skips want l ls us = name_is_here want l ls (skip us) ∙ ap (name_here want l ls) (skip_again us)
-    ∙ sym (name_is_here want l ls us)
+name_skips want l ls us = grind (arith, name_is_here, skip, skip_again)
 
 -- where bytes are wanted, there are some
 some-bytes : (want : Wanted) (spot : Spot) (bs : List ℕ) (s : State) (y : NameModel × State)
     → named want spot (some_bytes bs) s ≡ Ok y
     → (is_empty bs ≡ false) × (y.0 ≡ record { spot = spot; name = bs }) × (s ≡ y.1)
-some-bytes want spot [] s y h = absurd cc
-some-bytes want spot (b ∷ bs) s y h = (
-  refl,
-  sym (value-is (record { spot = spot; name = b ∷ bs }) s y h),
-  after-is (record { spot = spot; name = b ∷ bs }) s y h,
-)
+some-bytes want spot bs s y h = grind arith
 
 bytes-some : (bs : List ℕ) → is_empty bs ≡ false → some_bytes bs ≡ Some bs
-bytes-some [] h = absurd cc
-bytes-some (b ∷ bs) h = refl
+bytes-some bs h = grind arith
 
 -- a run that was read
 name_of-read : (want : Wanted) (f : Option UnitFault) (spot : Spot) (run : List TextUnit) (s : State)
     (y : NameModel × State) → name_of want f spot run s ≡ Ok y
     → (is_empty (bytes_of run) ≡ false) × (y.0 ≡ record { spot = spot; name = bytes_of run }) × (s ≡ y.1)
-name_of-read want (Some f) spot run s y h = absurd cc
-name_of-read want None spot run s y h = some-bytes want spot (bytes_of run) s y h
+name_of-read want f spot run s y h = grind arith
 
 form_of_run : (us run rest : List TextUnit) (end : Spot) (name : NameModel) → skip us ≡ run ++ rest
     → list_all in_identifier run ≡ true → begins_with in_identifier rest ≡ false
     → is_empty (bytes_of run) ≡ false
     → name ≡ record { spot = spot_of_first (skip us) end; name = bytes_of run } → IdentifierForm us name rest
 form_of_run us [] rest end name e all n some is = absurd cc
-form_of_run us (u ∷ run) rest end name e all n some is =
-    record {
-      gap = gap_of us;
-      first = u;
-      others = run;
-      cut = gap_cut us ∙ ap (λ (vs : List TextUnit). gap_of us ++ vs) e
-          ∙ sym (append_assoc (gap_of us) (u ∷ run) rest);
-      blanks = gap_passes us;
-      of_name = all;
-      longest = n;
-      place = ap (λ (m : NameModel). m.spot) is ∙ ap (λ (vs : List TextUnit). spot_of_first vs end) e;
-      bytes = ap (λ (m : NameModel). m.name) is;
-      some_byte = ap (λ (m : NameModel). is_empty m.name) is ∙ some;
-    }
+form_of_run us (u ∷ run) rest end name e all n some is = grind (
+  arith,
+  gap_of us,
+  gap_cut us,
+  append_assoc (gap_of us) (u ∷ run) rest,
+  gap_passes us,
+)
 
 -- A name that is read is an identifier.
 pub name-form : (want : Wanted) (l : Line) (ls : List Line) (us : List TextUnit) (y : NameModel × State)
@@ -177,21 +126,12 @@ name_of-gives : (want : Wanted) (f : Option UnitFault) (run taken : List TextUni
     (name : NameModel) → f ≡ None → taken ≡ run → s ≡ t → name.spot ≡ spot → name.name ≡ bytes_of run
     → is_empty name.name ≡ false
     → name_of want f spot taken s ≡ Ok (name, t)
-name_of-gives want f run taken spot s t name e r h p b some =
-    ap (λ (f : Option UnitFault). name_of want f spot taken s) e
-    ∙ ap (λ (run : List TextUnit). name_of want None spot run s) r
-    ∙ ap (λ (o : Option (List ℕ)). named want spot o s)
-    (bytes-some (bytes_of run) (ap is_empty (sym b) ∙ some))
-    ∙ ap (λ (n : NameModel). Ok (n, s)) (same_name name spot (bytes_of run) p b)
-    ∙ ap (λ (s : State). Ok (name, s)) h
+name_of-gives want f run taken spot s t name e r h p b some = grind arith
 
 -- the units after the blanks before an identifier
 identifier_next : {us rest : List TextUnit} {name : NameModel} → (f : IdentifierForm us name rest)
     → skip us ≡ (f.first ∷ f.others) ++ rest
-identifier_next {us} {rest} f = skip_gap us f.gap ((f.first ∷ f.others) ++ rest)
-    (f.cut ∙ append_assoc f.gap (f.first ∷ f.others) rest) f.blanks
-    (identifier_no_blank f.first (and_parts (in_identifier f.first) (list_all in_identifier f.others)
-    f.of_name).0)
+identifier_next {us} {rest} f = grind (arith, skip_gap, append_assoc, identifier_no_blank, and_parts)
 
 -- An identifier is read as a name.
 pub name-read : (want : Wanted) (l : Line) (ls : List Line) (us rest : List TextUnit) (name : NameModel)
@@ -233,22 +173,7 @@ IsNotThere want l ls us y = (is_sign want us ≡ false) × (y.0 ≡ false) × (y
 sign-cases : (want : Sign) (l : Line) (ls : List Line) (us : List TextUnit) (y : Bool × State)
     → called (sign_of want (within l ls us)) ≡ Ok y
     → IsThere want l ls (skip us) y ⊎ IsNotThere want l ls (skip us) y
-sign-cases want l ls us y h = by_test (is_sign want (skip us)) refl
-    (called-fault (next_fault (skip us)) _ y h)
-  where
-    by_test : (t : Bool) → is_sign want (skip us) ≡ t
-        → called (cond t (reply true (after_it want l ls (skip us))) (reply false (within l ls (skip us))))
-        ≡ Ok y → IsThere want l ls (skip us) y ⊎ IsNotThere want l ls (skip us) y
-    by_test true e g = inl (
-      e,
-      sym (value-is true (after_it want l ls (skip us)) y g),
-      sym (after-is true (after_it want l ls (skip us)) y g),
-    )
-    by_test false e g = inr (
-      e,
-      sym (value-is false (within l ls (skip us)) y g),
-      sym (after-is false (within l ls (skip us)) y g),
-    )
+sign-cases want l ls us y h = grind arith
 
 -- a sign of one byte, and one of two
 one_byte : (b : ℕ) (us gap run rest : List TextUnit) → is_space b ≡ false → us ≡ gap ++ run ++ rest
@@ -285,26 +210,10 @@ pub record Stops (us : List TextUnit) (pipe pipe2 pipe_at : Bool) : Type 0 where
   pub is_pipe_at : is_sign sign.PipeAt (skip us) ≡ pipe_at
 
 pub end_stops : (us : List TextUnit) → AreBlanks us → Stops us false false false
-end_stops us h = let e = blanks_end us h in
-    record {
-      no_fault = rw e refl;
-      no_word = rw e refl;
-      is_pipe = rw e refl;
-      is_pipe2 = rw e refl;
-      is_pipe_at = rw e refl;
-    }
+end_stops us h = grind (arith, blanks_end)
 
 pub colon_stops : (us rest : List TextUnit) → SignForm sign.Colon us rest → Stops us false false false
-colon_stops us rest f =
-    let it = one_byte 58 us f.gap f.run rest refl f.cut f.blanks f.of_sign in
-    record {
-      no_fault = rw (it.1, it.2) refl;
-      no_word =
-          ap (begins_with opens_word) it.1 ∙ ap opens_word_meaning it.2;
-      is_pipe = rw (it.1, it.2) refl;
-      is_pipe2 = rw (it.1, it.2) refl;
-      is_pipe_at = rw (it.1, it.2) refl;
-    }
+colon_stops us rest f = grind (arith, one_byte 58 us f.gap f.run rest refl f.cut f.blanks f.of_sign)
 
 pub pipe_stops : (us rest : List TextUnit) → SignForm sign.Pipe us rest → Stops us true false false
 pipe_stops us rest f =
@@ -324,35 +233,16 @@ pipe_stops us rest f =
     }
 
 pub pipe2_stops : (us rest : List TextUnit) → SignForm sign.Pipe2 us rest → Stops us false true false
-pipe2_stops us rest f =
-    let it = two_bytes 124 124 us f.gap f.run rest refl f.cut f.blanks f.of_sign in
-    record {
-      no_fault = rw (it.2, it.3) refl;
-      no_word =
-          ap (begins_with opens_word) it.2 ∙ ap opens_word_meaning it.3;
-      is_pipe = rw (it.2, it.3, it.4) refl;
-      is_pipe2 = rw (it.2, it.3, it.4) refl;
-      is_pipe_at = rw (it.2, it.3, it.4) refl;
-    }
+pipe2_stops us rest f = grind (arith, two_bytes 124 124 us f.gap f.run rest refl f.cut f.blanks f.of_sign)
 
 pub pipe_at_stops : (us rest : List TextUnit) → SignForm sign.PipeAt us rest → Stops us false false true
-pipe_at_stops us rest f =
-    let it = two_bytes 124 64 us f.gap f.run rest refl f.cut f.blanks f.of_sign in
-    record {
-      no_fault = rw (it.2, it.3) refl;
-      no_word =
-          ap (begins_with opens_word) it.2 ∙ ap opens_word_meaning it.3;
-      is_pipe = rw (it.2, it.3, it.4) refl;
-      is_pipe2 = rw (it.2, it.3, it.4) refl;
-      is_pipe_at = rw (it.2, it.3, it.4) refl;
-    }
+pipe_at_stops us rest f = grind (arith, two_bytes 124 64 us f.gap f.run rest refl f.cut f.blanks f.of_sign)
 
 -- ---- a sign that is there
 
 -- a run after the blanks
 cut_here : (us run rest : List TextUnit) → skip us ≡ run ++ rest → us ≡ gap_of us ++ run ++ rest
-cut_here us run rest e = gap_cut us ∙ ap (λ (vs : List TextUnit). gap_of us ++ vs) e
-    ∙ sym (append_assoc (gap_of us) run rest)
+cut_here us run rest e = grind (arith, gap_cut, gap_of, append_assoc)
 
 -- a sign after the blanks, and the lexer after it
 pub form_of_sign : (want : Sign) (l : Line) (ls : List Line) (us vs : List TextUnit)
@@ -360,30 +250,20 @@ pub form_of_sign : (want : Sign) (l : Line) (ls : List Line) (us vs : List TextU
     → (rest : List TextUnit) × SignForm want us rest × (after_it want l ls vs ≡ within l ls rest)
 form_of_sign sign.LineEnd l ls us vs n e h = absurd (n refl)
 form_of_sign sign.Colon l ls us [] n e h = absurd cc
-form_of_sign sign.Colon l ls us (u ∷ vs) n e h = (
-  vs,
-  record {
-    gap = gap_of us;
-    run = u ∷ [];
-    cut = cut_here us (u ∷ []) vs e;
-    blanks = gap_passes us;
-    of_sign = ap (λ (m : Meaning). m ∷ []) (ordinary_is 58 u.means h);
-    longest = refl;
-  },
-  refl,
+form_of_sign sign.Colon l ls us (u ∷ vs) n e h = grind (
+  arith,
+  gap_of us,
+  cut_here us (u ∷ []) vs e,
+  gap_passes us,
+  ordinary_is 58 u.means h,
 )
 form_of_sign sign.Equals l ls us [] n e h = absurd cc
-form_of_sign sign.Equals l ls us (u ∷ vs) n e h = (
-  vs,
-  record {
-    gap = gap_of us;
-    run = u ∷ [];
-    cut = cut_here us (u ∷ []) vs e;
-    blanks = gap_passes us;
-    of_sign = ap (λ (m : Meaning). m ∷ []) (ordinary_is 61 u.means h);
-    longest = refl;
-  },
-  refl,
+form_of_sign sign.Equals l ls us (u ∷ vs) n e h = grind (
+  arith,
+  gap_of us,
+  cut_here us (u ∷ []) vs e,
+  gap_passes us,
+  ordinary_is 61 u.means h,
 )
 form_of_sign sign.Pipe l ls us [] n e h = absurd cc
 form_of_sign sign.Pipe l ls us (u ∷ vs) n e h =
@@ -403,8 +283,7 @@ form_of_sign sign.Pipe l ls us (u ∷ vs) n e h =
       refl,
     )
 form_of_sign sign.Pipe2 l ls us [] n e h = absurd cc
-form_of_sign sign.Pipe2 l ls us (u ∷ []) n e h =
-    absurd (false≢true (sym (and_right (begins_with_byte 124 (u ∷ [])) false refl) ∙ h))
+form_of_sign sign.Pipe2 l ls us (u ∷ []) n e h = grind arith
 form_of_sign sign.Pipe2 l ls us (u ∷ v ∷ vs) n e h =
     let both = and_parts (begins_with_byte 124 (u ∷ v ∷ vs)) (begins_with_byte 124 (v ∷ vs)) h in (
       vs,
@@ -420,8 +299,7 @@ form_of_sign sign.Pipe2 l ls us (u ∷ v ∷ vs) n e h =
       refl,
     )
 form_of_sign sign.PipeAt l ls us [] n e h = absurd cc
-form_of_sign sign.PipeAt l ls us (u ∷ []) n e h =
-    absurd (false≢true (sym (and_right (begins_with_byte 124 (u ∷ [])) false refl) ∙ h))
+form_of_sign sign.PipeAt l ls us (u ∷ []) n e h = grind arith
 form_of_sign sign.PipeAt l ls us (u ∷ v ∷ vs) n e h =
     let both = and_parts (begins_with_byte 124 (u ∷ v ∷ vs)) (begins_with_byte 64 (v ∷ vs)) h in (
       vs,
@@ -452,12 +330,7 @@ sign-form want l ls us s n h = by_case (sign-cases want l ls us (true, s) h)
 -- A sign that is not read leaves the lexer after the blanks.
 pub sign-left_out : (want : Sign) (l : Line) (ls : List Line) (us : List TextUnit) (s : State)
     → called (sign_of want (within l ls us)) ≡ Ok (false, s) → s ≡ within l ls (skip us)
-sign-left_out want l ls us s h = by_case (sign-cases want l ls us (false, s) h)
-  where
-    by_case : IsThere want l ls (skip us) (false, s) ⊎ IsNotThere want l ls (skip us) (false, s)
-        → s ≡ within l ls (skip us)
-    by_case (inl there) = absurd (false≢true there.1)
-    by_case (inr not_there) = not_there.2
+sign-left_out want l ls us s h = grind arith
 
 sign_at-gives : (want : Sign) (l : Line) (ls : List Line) (us : List TextUnit) (f : Option UnitFault)
     (t : Bool) → f ≡ None → is_sign want us ≡ t
@@ -481,26 +354,27 @@ pub record IsBetweenStatements (want : Sign) (l : Line) (ls : List Line) (us res
 pub sign_comes : (want : Sign) (l : Line) (ls : List Line) (us rest : List TextUnit)
     → (want ≡ sign.LineEnd → ⊥) → SignForm want us rest → IsBetweenStatements want l ls us rest
 sign_comes sign.LineEnd l ls us rest n f = absurd (n refl)
-sign_comes sign.Colon l ls us rest n f =
-    let it = one_byte 58 us f.gap f.run rest refl f.cut f.blanks f.of_sign in
-    record { no_fault = rw (it.1, it.2) refl; is_there = rw (it.1, it.2) refl; after_is = rw it.1 refl }
-sign_comes sign.Equals l ls us rest n f =
-    let it = one_byte 61 us f.gap f.run rest refl f.cut f.blanks f.of_sign in
-    record { no_fault = rw (it.1, it.2) refl; is_there = rw (it.1, it.2) refl; after_is = rw it.1 refl }
-sign_comes sign.Pipe l ls us rest n f =
-    let it = one_byte 124 us f.gap f.run rest refl f.cut f.blanks f.of_sign in
-    record {
-      no_fault = rw (it.1, it.2) refl;
-      is_there = (pipe_stops us rest f).is_pipe;
-      after_is =
-          rw it.1 refl;
-    }
-sign_comes sign.Pipe2 l ls us rest n f =
-    let it = two_bytes 124 124 us f.gap f.run rest refl f.cut f.blanks f.of_sign in
-    record { no_fault = rw (it.2, it.3) refl; is_there = rw (it.2, it.3, it.4) refl; after_is = rw it.2 refl }
-sign_comes sign.PipeAt l ls us rest n f =
-    let it = two_bytes 124 64 us f.gap f.run rest refl f.cut f.blanks f.of_sign in
-    record { no_fault = rw (it.2, it.3) refl; is_there = rw (it.2, it.3, it.4) refl; after_is = rw it.2 refl }
+sign_comes sign.Colon l ls us rest n f = grind (
+  arith,
+  one_byte 58 us f.gap f.run rest refl f.cut f.blanks f.of_sign,
+)
+sign_comes sign.Equals l ls us rest n f = grind (
+  arith,
+  one_byte 61 us f.gap f.run rest refl f.cut f.blanks f.of_sign,
+)
+sign_comes sign.Pipe l ls us rest n f = grind (
+  arith,
+  one_byte 124 us f.gap f.run rest refl f.cut f.blanks f.of_sign,
+  pipe_stops us rest f,
+)
+sign_comes sign.Pipe2 l ls us rest n f = grind (
+  arith,
+  two_bytes 124 124 us f.gap f.run rest refl f.cut f.blanks f.of_sign,
+)
+sign_comes sign.PipeAt l ls us rest n f = grind (
+  arith,
+  two_bytes 124 64 us f.gap f.run rest refl f.cut f.blanks f.of_sign,
+)
 
 -- A sign that is there is read.
 pub sign-read : (want : Sign) (l : Line) (ls : List Line) (us rest : List TextUnit)
@@ -516,20 +390,15 @@ sign-read want l ls us rest n f =
 pub after_skips : (want : Sign) (miss : Wanted) (l : Line) (ls : List Line) (us : List TextUnit)
     → expect_sign want miss (within l ls (skip us)) ≡ expect_sign want miss (within l ls us)
 unfolding expect_sign
-after_skips want miss l ls us = ap (λ (r : Step Bool). r >>= λ t. if_there miss t.0 t.1)
-    (sign_skips want l ls us)
+after_skips want miss l ls us = grind (arith, if_there, sign_skips)
 
 if_there-ok : (miss : Wanted) (t : Bool) (s s' : State) → if_there miss t s ≡ Ok s' → (t ≡ true) × (s ≡ s')
-if_there-ok miss true s s' h = (refl, cc)
-if_there-ok miss false s s' h = absurd cc
+if_there-ok miss t s h h1 = grind arith
 
 after-called : (want : Sign) (miss : Wanted) (s s' : State) → expect_sign want miss s ≡ Ok s'
     → called (sign_of want s) ≡ Ok (true, s')
 unfolding expect_sign
-after-called want miss s s' h =
-    let b = bind-ok (called (sign_of want s)) (λ t. if_there miss t.0 t.1) s' h in
-    let there = if_there-ok miss b.0.0 b.0.1 s' b.2 in
-    b.1 ∙ ap (λ (t : Bool). Ok (t, b.0.1)) there.0 ∙ ap (λ (s : State). Ok (true, s)) there.1
+after-called want miss s h h1 = grind arith
 
 called-after : (want : Sign) (miss : Wanted) (s s' : State) → called (sign_of want s) ≡ Ok (true, s')
     → expect_sign want miss s ≡ Ok s'
@@ -548,19 +417,20 @@ after-read want miss l ls us rest n f =
     called-after want miss (within l ls us) (within l ls rest) (sign-read want l ls us rest n f)
 
 nothing_there : (us : List TextUnit) → is_empty us ≡ true → us ≡ []
-nothing_there [] h = refl
-nothing_there (u ∷ us) h = absurd cc
+nothing_there us h = grind arith
 
 -- The end of a line is read where there are only blanks.
 pub end-form : (miss : Wanted) (l : Line) (ls : List Line) (us : List TextUnit) (s : State)
     → expect_sign sign.LineEnd miss (within l ls us) ≡ Ok s → AreBlanks us × (s ≡ Between (lines_after l ls))
-end-form miss l ls us s h = by_case (sign-cases sign.LineEnd l ls us (true, s)
-    (after-called sign.LineEnd miss (within l ls us) s h))
-  where
-    by_case : IsThere sign.LineEnd l ls (skip us) (true, s) ⊎ IsNotThere sign.LineEnd l ls (skip us) (true, s)
-        → AreBlanks us × (s ≡ Between (lines_after l ls))
-    by_case (inl there) = (end_of_blanks us (nothing_there (skip us) there.0), there.2)
-    by_case (inr not_there) = absurd (false≢true (sym not_there.1))
+end-form miss l ls us s h = grind (
+  arith,
+  sign-cases,
+  after-called,
+  skip,
+  end_of_blanks,
+  nothing_there,
+  false≢true,
+)
 
 pub end-read : (miss : Wanted) (l : Line) (ls : List Line) (us : List TextUnit) → AreBlanks us
     → expect_sign sign.LineEnd miss (within l ls us) ≡ Ok (Between (lines_after l ls))

@@ -1,5 +1,6 @@
 -- Values and bindings: the readings to the end of a line, and the forms of the grammar.
-use Rattle.std.proofs.Common.{◌≡◌, Bool, true, false, cond, Option, Some, None, Ok, List, [], ◌∷◌, ◌++◌, refl}
+use Rattle.std.proofs.Common.{arith, ◌≡◌, Bool, true, false, cond, Option, Some, None, Ok, List, [], ◌∷◌}
+use Rattle.std.proofs.Common.{◌++◌, refl}
 use Rattle.std.proofs.Common.{sym, ap, subst, ◌∙◌, append_assoc}
 use Rattle.std.proofs.lemmas.Bool.{false≢true}
 use Rattle.nj_text.specs.declared.fault.UnitFault.{UnitFault}
@@ -39,16 +40,10 @@ opening_here (u ∷ us) = by_test (opens_line u) refl
     by_test false e = ([], record { cut = refl; opens = refl; longest = λ g. e })
 
 no_opening : (us : List TextUnit) → begins_with opens_line us ≡ false → after_opening us ≡ us
-no_opening [] h = refl
-no_opening (u ∷ us) h = rw h refl
+no_opening us h = grind arith
 
 opening_passed : (us opening others : List TextUnit) → Opening us opening others → after_opening us ≡ others
-opening_passed us [] others o = no_opening us (o.longest refl) ∙ o.cut
-opening_passed us (u ∷ []) others o = ap after_opening o.cut ∙ passed o.opens
-  where
-    passed : is_opening (u ∷ []) ≡ true → after_opening (u ∷ others) ≡ others
-    passed h = rw h refl
-opening_passed us (u ∷ v ∷ ws) others o = absurd (false≢true o.opens)
+opening_passed us opening others o = grind arith
 
 -- ---- values
 
@@ -61,14 +56,7 @@ value_by-read : (l : Line) (ls : List Line) (f : Option UnitFault) (us : List Te
     (s : State) → value_by l ls f us ≡ Ok (value, s)
     → (f ≡ None) × (value ≡ record { spot = spot_of_first us l.end; parts = parts_of us })
     × (s ≡ within l ls [])
-value_by-read l ls (Some f) us value s h = absurd cc
-value_by-read l ls None us value s h = (
-  refl,
-  sym (value-is (record { spot = spot_of_first us l.end; parts = parts_of us }) (within l ls []) (value, s)
-      h),
-  sym (after-is (record { spot = spot_of_first us l.end; parts = parts_of us }) (within l ls [])
-      (value, s) h),
-)
+value_by-read l ls f us value s h = grind arith
 
 -- A value that is read is one.
 pub value-form : (l : Line) (ls : List Line) (us : List TextUnit) (value : WordModel) (s : State)
@@ -101,19 +89,7 @@ same_value value spot run s p = rw (← s, ← p) refl
 -- A value that is there is read.
 pub value-read : (l : Line) (ls : List Line) (us : List TextUnit) (value : WordModel)
     → ValueForm us l.end value → called (value_of (within l ls us)) ≡ Ok (value, within l ls [])
-value-read l ls us value f =
-    let remainder = opening_passed us f.opening (f.gap ++ f.run)
-    (record {
-      cut = f.cut ∙ append_assoc f.opening f.gap f.run;
-      opens = f.opens;
-      longest =
-          f.longest_opening;
-    }) in
-    let next = skip_gap (after_opening us) f.gap f.run remainder f.blanks f.longest in
-    ap (λ (vs : List TextUnit). value_by l ls (first_fault vs) vs) next
-    ∙ ap (λ (g : Option UnitFault). value_by l ls g f.run) f.good
-    ∙ ap (λ (w : WordModel). Ok (w, within l ls []))
-    (same_value value (spot_of_first f.run l.end) f.run f.place f.parts)
+value-read l ls us value f = grind (arith, opening_passed, append_assoc, skip_gap, within, same_value)
 
 -- ---- `= VALUE`
 
@@ -146,9 +122,9 @@ pub equals_value-read : (l : Line) (ls : List Line) (us rest : List TextUnit) (v
     → SignForm sign.Equals us rest → ValueForm rest l.end value
     → equals_value (within l ls us) ≡ Ok (value, Between (lines_after l ls))
 unfolding equals_value
-equals_value-read l ls us rest value e f =
-    rw (
-      after-read sign.Equals wanted.Equals l ls us rest equals_ends e,
-      value-read l ls rest value f,
-      end-read wanted.Newline l ls [] refl,
-    ) refl
+equals_value-read l ls us rest value e f = grind (
+  arith,
+  after-read sign.Equals wanted.Equals l ls us rest equals_ends e,
+  value-read l ls rest value f,
+  end-read wanted.Newline l ls [] refl,
+)

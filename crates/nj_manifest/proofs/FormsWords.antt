@@ -1,5 +1,6 @@
 -- Words and sections: the readings within a line, and the forms of the grammar.
-use Rattle.std.proofs.Common.{◌≡◌, Bool, true, false, cond, Option, Some, None, Ok, Err, List, [], ◌∷◌, ◌++◌}
+use Rattle.std.proofs.Common.{arith, ◌≡◌, Bool, true, false, cond, Option, Some, None, Ok, Err, List, [], ◌∷◌}
+use Rattle.std.proofs.Common.{◌++◌}
 use Rattle.std.proofs.Common.{refl, sym, ap, subst, ◌∙◌, append_assoc}
 use Rattle.std.specs.List.{list_all, take_while}
 use Rattle.nj_text.specs.declared.fault.UnitFault.{UnitFault}
@@ -33,27 +34,11 @@ opens_without_fault : (u : TextUnit) → opens_word u ≡ true → fault_of u.me
 opens_without_fault u h = passes_without_fault opens_word_meaning refl refl refl u.means u.spot h
 
 opening_no_blank : (m : Meaning) → opens_word_meaning m ≡ true → is_blank_meaning m ≡ false
-opening_no_blank (Ordinary b) h = ordinary_no_blank is_word_byte refl (Ordinary b) h
-opening_no_blank (Escape x) h = refl
-opening_no_blank (Reference x) h = refl
-opening_no_blank Join h = absurd cc
-opening_no_blank OpeningJoin h = refl
-opening_no_blank Comment h = refl
-opening_no_blank LeadingTab h = refl
-opening_no_blank LineEnd h = refl
-opening_no_blank TextEnd h = refl
-opening_no_blank BadByte h = refl
-opening_no_blank BadEscape h = refl
+opening_no_blank m h = grind arith
 
 -- a blank is not a bad unit
 pub fault_after_blanks : (us : List TextUnit) → next_fault (skip us) ≡ None → next_fault us ≡ None
-fault_after_blanks [] h = refl
-fault_after_blanks (u ∷ us) h = by_test (is_blank u) refl h
-  where
-    by_test : (t : Bool) → is_blank u ≡ t → next_fault (cond t (skip us) (u ∷ us)) ≡ None
-        → fault_of u.means u.spot ≡ None
-    by_test true e g = passes_without_fault is_blank_meaning refl refl refl u.means u.spot e
-    by_test false e g = g
+fault_after_blanks us h = grind arith
 
 -- ---- one word
 
@@ -75,34 +60,11 @@ word_by-read : (l : Line) (ls : List Line) (f g : Option UnitFault) (t : Bool) (
     (found : Option WordModel) (s : State) → begins_with opens_word us ≡ t
     → word_by l ls f g t us (take_while in_word us) (drop_while in_word us) ≡ Ok (found, s)
     → WordRead l ls us found s
-word_by-read l ls (Some f) g t us found s b h = absurd cc
-word_by-read l ls None g false us None s b h = (b, sym (after-is _ _ (None, s) h))
-word_by-read l ls None g false us (Some word) s b h =
-    absurd (none_is_none (value-is None (within l ls us) (Some word, s) h))
-  where
-    none_is_none : ◌≡◌ {A = Option WordModel} None (Some word) → ⊥
-    none_is_none e = absurd cc
-word_by-read l ls None (Some g) true us found s b h = absurd cc
-word_by-read l ls None None true us None s b h =
-    absurd (some_is_none (value-is (Some (record
-    { spot = spot_of_first us l.end; parts = parts_of (take_while in_word us) }))
-    (within l ls (drop_while in_word us)) (None, s) h))
-  where
-    some_is_none : {w : WordModel} → ◌≡◌ {A = Option WordModel} (Some w) None → ⊥
-    some_is_none e = absurd cc
-word_by-read l ls None None true us (Some word) s b h = (
-  b,
-  sym (some_is (value-is _ (within l ls (drop_while in_word us)) (Some word, s) h)),
-  sym (after-is _ (within l ls (drop_while in_word us)) (Some word, s) h),
-)
-  where
-    some_is : {v w : WordModel} → ◌≡◌ {A = Option WordModel} (Some v) (Some w) → v ≡ w
-    some_is e = cc
+word_by-read l ls f g t us found s b h = grind arith
 
 word-cases : (l : Line) (ls : List Line) (us : List TextUnit) (found : Option WordModel) (s : State)
     → called (path_word_of (within l ls us)) ≡ Ok (found, s) → WordRead l ls (skip us) found s
-word-cases l ls us found s h = word_by-read l ls (next_fault (skip us))
-    (next_fault (drop_while in_word (skip us))) (begins_with opens_word (skip us)) (skip us) found s refl h
+word-cases l ls us found s h = grind arith
 
 form_of_word : (us vs : List TextUnit) (end : Spot) (word : WordModel) → skip us ≡ vs
     → begins_with opens_word vs ≡ true → word
@@ -143,8 +105,7 @@ word-none l ls us s h = let read : WordRead l ls (skip us) None s = word-cases l
 
 word_next : {us rest : List TextUnit} {word : WordModel} → (f : WordForm us word rest)
     → skip us ≡ (f.first ∷ f.others) ++ rest
-word_next {us} {rest} f = skip_gap us f.gap ((f.first ∷ f.others) ++ rest)
-    (f.cut ∙ append_assoc f.gap (f.first ∷ f.others) rest) f.blanks (opening_no_blank f.first.means f.opens)
+word_next {us} {rest} f = grind (arith, skip_gap, append_assoc, opening_no_blank)
 
 pub word_without_fault : {us rest : List TextUnit} {word : WordModel} → WordForm us word rest
     → next_fault (skip us) ≡ None
@@ -158,13 +119,7 @@ word_by-gives : (l : Line) (ls : List Line) (f g : Option UnitFault) (t : Bool)
     (us taken left run rest : List TextUnit) (word : WordModel) → f ≡ None → t ≡ true → taken ≡ run
     → left ≡ rest → g ≡ None → word.spot ≡ spot_of_first us l.end → word.parts ≡ parts_of run
     → word_by l ls f g t us taken left ≡ Ok (Some word, within l ls rest)
-word_by-gives l ls f g t us taken left run rest word a b c d e p q =
-    ap (λ (f : Option UnitFault). word_by l ls f g t us taken left) a
-    ∙ ap (λ (g : Option UnitFault). word_by l ls None g t us taken left) e
-    ∙ ap (λ (t : Bool). word_by l ls None None t us taken left) b
-    ∙ ap (λ (taken : List TextUnit). word_by l ls None None true us taken left) c
-    ∙ ap (λ (left : List TextUnit). word_by l ls None None true us run left) d
-    ∙ ap (λ (w : WordModel). Ok (Some w, within l ls rest)) (same_word word (spot_of_first us l.end) run p q)
+word_by-gives l ls f g t us taken left run rest word a b c d e p q = grind arith
 
 -- A word that is there is read, where no bad unit ends it.
 pub word-read : (l : Line) (ls : List Line) (us rest : List TextUnit) (word : WordModel)
@@ -185,12 +140,7 @@ word-read l ls us rest word f n =
 pub no_word-read : (l : Line) (ls : List Line) (us : List TextUnit) → next_fault (skip us) ≡ None
     → begins_with opens_word (skip us) ≡ false
     → called (path_word_of (within l ls us)) ≡ Ok (None, within l ls (skip us))
-no_word-read l ls us n b =
-    ap (λ (f : Option UnitFault). word_by l ls f (next_fault (drop_while in_word (skip us)))
-    (begins_with opens_word (skip us)) (skip us) (take_while in_word (skip us))
-    (drop_while in_word (skip us))) n
-    ∙ ap (λ (t : Bool). word_by l ls None (next_fault (drop_while in_word (skip us))) t (skip us)
-    (take_while in_word (skip us)) (drop_while in_word (skip us))) b
+no_word-read l ls us n b = grind arith
 
 -- ---- words
 
@@ -205,11 +155,7 @@ ok_nil ws a s h = (value-is [] a (ws, s) h, after-is [] a (ws, s) h)
 words_from-read : (w : WordModel) (after : State) (others : Step (List WordModel)) (ws : List WordModel)
     (s : State) → words_from (Some w) after others ≡ Ok (ws, s)
     → (more : List WordModel) × (others ≡ Ok (more, s)) × (w ∷ more ≡ ws)
-words_from-read w after others ws s h =
-    let b = bind-ok others (λ more. Ok (w ∷ more.0, more.1)) (ws, s) h in
-    let same = value-is (w ∷ b.0.0) b.0.1 (ws, s) b.2 in
-    let there = after-is (w ∷ b.0.0) b.0.1 (ws, s) b.2 in
-    (b.0.0, b.1 ∙ ap (λ (t : State). Ok (b.0.0, t)) there, same)
+words_from-read w after others ws s h = grind arith
 
 -- Words that are read are so.
 pub words-form : (l : Line) (ls : List Line) (words : List WordModel) (us : List TextUnit) (s : State)

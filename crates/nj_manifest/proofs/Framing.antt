@@ -1,5 +1,6 @@
 -- Where the readings of a line leave the lexer.
-use Rattle.std.proofs.Common.{◌≡◌, ℕ, zero, suc, Bool, true, false, cond, ◌&&◌, Option, Some, None, Result}
+use Rattle.std.proofs.Common.{arith, ◌≡◌, ℕ, zero, suc, Bool, true, false, cond, ◌&&◌, Option, Some, None}
+use Rattle.std.proofs.Common.{Result}
 use Rattle.std.proofs.Common.{Ok, Err, List, [], refl, sym, ap, subst, ◌∙◌, codes}
 use Rattle.std.proofs.lemmas.Bool.{false≢true}
 use Rattle.std.specs.Prelude.{ok_or}
@@ -38,13 +39,11 @@ use Rattle.nj_manifest.proofs.Choices.{words_next-is, words_from}
 -- A reading of two steps makes both.
 pub bind-ok : {A B : Type 0} (r : Result A Fault) (k : A → Result B Fault) (y : B) → (r >>= k) ≡ Ok y
     → (x : A) × (r ≡ Ok x) × (k x ≡ Ok y)
-bind-ok (Ok x) k y h = (x, refl, h)
-bind-ok (Err e) k y h = absurd cc
+bind-ok r k y h = grind arith
 
 pub called-fault : {A : Type 0} (f : Option UnitFault) (r : Reply A) (y : A × State)
     → called (calls.unless_fault f r) ≡ Ok y → called r ≡ Ok y
-called-fault None r y h = h
-called-fault (Some f) r y h = absurd cc
+called-fault f r y h = grind arith
 
 -- ---- where the lexer is then
 
@@ -66,63 +65,40 @@ value-is x s y h = cc
 
 named-after : (want : Wanted) (spot : Spot) (x : Option (List ℕ)) (s : State) (y : NameModel × State)
     → named want spot x s ≡ Ok y → s ≡ y.1
-named-after want spot (Some x) s y h = cc
-named-after want spot None s y h = absurd cc
+named-after want spot x s y h = grind arith
 
 name_next-inside : (want : Wanted) (l : Line) (ls : List Line) (y : NameModel × State)
     → name_next want (Inside l ls) ≡ Ok y → On l ls y.1
 unfolding name_next
-name_next-inside want l ls y h =
-    let b = bind-ok (called (ident_of (Inside (after_blanks l) ls)))
-    (λ n. named want (spot_of (Inside (after_blanks l) ls)) n.0 n.1) y h in
-    let e = called-fault (next_fault (after_blanks (after_blanks l)).units) _ b.0 b.1 in (
-      drop_while in_identifier (after_blanks (after_blanks l)).units,
-      sym (after-is _ _ b.0 e ∙ named-after want _ b.0.0 b.0.1 y b.2),
-    )
+name_next-inside want l ls y h = grind (arith, bind-ok, named, called-fault, after-is, named-after)
 
 if_there-after : (want : Wanted) (t : Bool) (s s' : State) → if_there want t s ≡ Ok s' → (t ≡ true) × (s ≡ s')
-if_there-after want true s s' h = (refl, cc)
-if_there-after want false s s' h = absurd cc
+if_there-after want t s h h1 = grind arith
 
 sign-there : (want : Wanted) (t : Bool) (there other : State) (y : Bool × State) (s : State)
     → called (cond t (reply true there) (reply false other)) ≡ Ok y → if_there want y.0 y.1 ≡ Ok s → s ≡ there
-sign-there want true there other y s e h = sym (after-is _ _ y e ∙ (if_there-after want y.0 y.1 s h).1)
-sign-there want false there other y s e h =
-    absurd (false≢true (value-is _ _ y e ∙ (if_there-after want y.0 y.1 s h).0))
+sign-there want t there other y s e h = grind arith
 
 after-inside : (want : Sign) (miss : Wanted) (l : Line) (ls : List Line) (s : State)
     → expect_sign want miss (Inside l ls) ≡ Ok s → s ≡ state_after_sign want (after_blanks l) ls
 unfolding expect_sign
-after-inside want miss l ls s h =
-    let b = bind-ok (called (sign_of want (Inside l ls))) (λ t. if_there miss t.0 t.1) s h in
-    let e = called-fault (next_fault (after_blanks l).units) _ b.0 b.1 in
-    sign-there miss (is_sign want (after_blanks l).units) _ _ b.0 s e b.2
+after-inside want miss l ls s h = grind arith
 
 pub line_end-inside : (miss : Wanted) (l : Line) (ls : List Line) (s s' : State) → On l ls s
     → expect_sign sign.LineEnd miss s ≡ Ok s' → Ended l ls s'
-line_end-inside miss l ls s s' o h = after-inside sign.LineEnd miss (with_units o.0 l) ls s'
-    (ap (expect_sign sign.LineEnd miss) (sym o.1) ∙ h)
+line_end-inside miss l ls s h o h1 = grind (arith, after-inside)
 
 pub colon-inside : (miss : Wanted) (l : Line) (ls : List Line) (s s' : State) → On l ls s
     → expect_sign sign.Colon miss s ≡ Ok s' → On l ls s'
-colon-inside miss l ls s s' o h = (
-  _,
-  after-inside sign.Colon miss (with_units o.0 l) ls s'
-      (ap (expect_sign sign.Colon miss) (sym o.1) ∙ h),
-)
+colon-inside miss l ls s h o h1 = grind (arith, after-inside)
 
 equals-inside : (miss : Wanted) (l : Line) (ls : List Line) (s s' : State) → On l ls s
     → expect_sign sign.Equals miss s ≡ Ok s' → On l ls s'
-equals-inside miss l ls s s' o h = (
-  _,
-  after-inside sign.Equals miss (with_units o.0 l) ls s'
-      (ap (expect_sign sign.Equals miss) (sym o.1) ∙ h),
-)
+equals-inside miss l ls s h o h1 = grind (arith, after-inside)
 
 pub name-inside : (want : Wanted) (l : Line) (ls : List Line) (s : State) (y : NameModel × State) → On l ls s
     → name_next want s ≡ Ok y → On l ls y.1
-name-inside want l ls s y o h = name_next-inside want (with_units o.0 l) ls y
-    (ap (name_next want) (sym o.1) ∙ h)
+name-inside want l ls s y o h = grind (arith, name_next-inside)
 
 value-inside : (l : Line) (ls : List Line) (s : State) (y : WordModel × State) → On l ls s
     → called (value_of s) ≡ Ok y → On l ls y.1
@@ -155,9 +131,7 @@ words_from-inside : (l : Line) (ls : List Line) (word : Option WordModel) (s : S
     (others : Step (List WordModel)) (y : List WordModel × State) → On l ls s
     → ((z : List WordModel × State) → others ≡ Ok z → On l ls z.1) → words_from word s others ≡ Ok y
     → On l ls y.1
-words_from-inside l ls None s others y o rest h = subst (On l ls) (after-is _ _ y h) o
-words_from-inside l ls (Some word) s (Err f) y o rest h = absurd cc
-words_from-inside l ls (Some word) s (Ok z) y o rest h = subst (On l ls) (after-is _ _ y h) (rest z refl)
+words_from-inside l ls word s others y o rest h = grind arith
 
 words_within-inside : (l : Line) (ls : List Line) (limit : ℕ) (s : State) (y : List WordModel × State)
     → On l ls s → words_within limit s ≡ Ok y → On l ls y.1
@@ -190,11 +164,7 @@ sign-on want l ls false y i e = (l.units, sym (after-is _ _ y e))
 
 pub sign-inside : (want : Sign) (l : Line) (ls : List Line) (s : State) (y : Bool × State) → InLine want
     → On l ls s → called (sign_of want s) ≡ Ok y → On l ls y.1
-sign-inside want l ls s y i o h =
-    let m = after_blanks (with_units o.0 l) in
-    let e = called-fault (next_fault m.units) _ y (ap (λ s. called (sign_of want s)) (sym o.1) ∙ h) in
-    let p = sign-on want m ls (is_sign want m.units) y i e in
-    (p.0, p.1)
+sign-inside want l ls s y i o h = grind (arith, called-fault, sign-on)
 
 pub section-inside : (want : Sign) (l : Line) (ls : List Line) (s : State) (y : List WordModel × State)
     → InLine want → On l ls s → section_next want s ≡ Ok y → On l ls y.1
@@ -208,9 +178,7 @@ section-inside want l ls s y i o h =
 -- A reading that ends its line leaves the lexer after it.
 pub ends-line : {A : Type 0} (l : Line) (ls : List Line) (x : A) (s : State) (y : A × State) → On l ls s
     → (expect_sign sign.LineEnd wanted.Newline s >>= λ end. Ok (x, end)) ≡ Ok y → Ended l ls y.1
-ends-line l ls x s y o h =
-    let end = bind-ok (expect_sign sign.LineEnd wanted.Newline s) (λ end. Ok (x, end)) y h in
-    sym (after-is x end.0 y end.2) ∙ line_end-inside wanted.Newline l ls s end.0 o end.1
+ends-line l ls x s y o h = grind (arith, bind-ok, after-is, line_end-inside)
 
 pub equals_value-inside : (l : Line) (ls : List Line) (s : State) (y : WordModel × State) → On l ls s
     → equals_value s ≡ Ok y → Ended l ls y.1
@@ -223,20 +191,21 @@ equals_value-inside l ls s y o h =
 
 if_allowed-ok : {A : Type 0} (t : Bool) (key : NameModel) (others : Result A Fault) (y : A)
     → if_allowed t key others ≡ Ok y → others ≡ Ok y
-if_allowed-ok true key others y h = h
-if_allowed-ok false key others y h = absurd cc
+if_allowed-ok t key others y h = grind arith
 
 -- The line of a block is read to its end.
 pub line-inside : (allowed : Keys) (l : Line) (ls : List Line) (line : LineModel) (after : State)
     → line_next allowed (Inside l ls) ≡ Ok (line, after) → after ≡ Between (lines_after l ls)
 unfolding line_next
-line-inside allowed l ls line after h =
-    let key = bind-ok (name_next wanted.VariableName (Inside l ls)) _ (line, after) h in
-    let value = bind-ok (if_allowed (allows allowed key.0.0.name) key.0.0 (equals_value key.0.1)) _
-    (line, after) key.2 in
-    let at_key = name_next-inside wanted.VariableName l ls key.0 key.1 in
-    let read = if_allowed-ok (allows allowed key.0.0.name) key.0.0 (equals_value key.0.1) value.0 value.1 in
-    sym (after-is _ _ (line, after) value.2) ∙ equals_value-inside l ls key.0.1 value.0 at_key read
+line-inside allowed l ls line after h = grind (
+  arith,
+  bind-ok,
+  if_allowed,
+  name_next-inside,
+  if_allowed-ok,
+  after-is,
+  equals_value-inside,
+)
 
 name_alone-inside : (want : Wanted) (l : Line) (ls : List Line) (s : State) (y : NameModel × State)
     → On l ls s → name_alone want s ≡ Ok y → Ended l ls y.1
@@ -247,8 +216,7 @@ name_alone-inside want l ls s y o h =
 
 unless_none-ok : {A : Type 0} (t : Bool) (want : Wanted) (s : State) (others : Result A Fault) (y : A)
     → unless_none t want s others ≡ Ok y → others ≡ Ok y
-unless_none-ok true want s others y h = absurd cc
-unless_none-ok false want s others y h = h
+unless_none-ok t want s others y h = grind arith
 
 pipe-in_line : InLine sign.Pipe
 pipe-in_line l ls = (_, refl)
@@ -325,9 +293,7 @@ file-inside l ls s y o h =
 as_head-inside : {A : Type 0} (l : Line) (ls : List Line) (head : A → HeadModel) (step : Step A)
     (y : HeadModel × State) → ((x : A × State) → step ≡ Ok x → Ended l ls x.1) → as_head head step ≡ Ok y
     → Ended l ls y.1
-as_head-inside l ls head step y read h =
-    let x = bind-ok step _ y h in
-    sym (after-is _ _ y x.2) ∙ read x.0 x.1
+as_head-inside l ls head step y read h = grind arith
 
 head_after-inside : (l : Line) (ls : List Line) (word : List ℕ) (s : State) (y : HeadModel × State)
     → On l ls s → head_after word s ≡ Ok y → Ended l ls y.1
@@ -367,7 +333,4 @@ head_after-inside l ls word s y o h =
 pub head-inside : (l : Line) (ls : List Line) (h : HeadModel) (after : State)
     → head_next (Inside l ls) ≡ Ok (h, after) → after ≡ Between (lines_after l ls)
 unfolding head_next
-head-inside l ls h after e =
-    let word = bind-ok (name_next wanted.Statement (Inside l ls)) _ (h, after) e in
-    head_after-inside l ls word.0.0.name word.0.1 (h, after)
-    (name_next-inside wanted.Statement l ls word.0 word.1) word.2
+head-inside l ls h after e = grind (arith, bind-ok, head_after-inside, name_next-inside)

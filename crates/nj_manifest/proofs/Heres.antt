@@ -1,5 +1,5 @@
 -- The statement that begins where the lexer is, by its first line and its block.
-use Rattle.std.proofs.Common.{◌≡◌, Some, option_map, Result, Ok, Err, List, refl, subst, ◌∙◌}
+use Rattle.std.proofs.Common.{arith, ◌≡◌, Some, option_map, Result, Ok, Err, List, refl, subst, ◌∙◌}
 use Rattle.nj_text.specs.declared.spot.Spot.{Spot}
 use Rattle.nj_text.specs.Lines.{Line, line_spot, lines_after}
 use Rattle.nj_text.specs.Calls.{State, Between, Inside, Failed, spot_of}
@@ -27,18 +27,7 @@ at-head l ls h after e = rw e refl
 
 pub fails-on : {A B : Type 0} (f : ParseFault) (x : Result A Fault) (k : A → Result B Fault) → Fails f x
     → Fails f (x >>= k)
-fails-on (fault.Lex lex.OutOfMemory) x k h = tt
-fails-on (fault.Lex (lex.BadByte spot)) x k h = rw h refl
-fails-on (fault.Lex (lex.Tab spot)) x k h = rw h refl
-fails-on (fault.Lex (lex.BadEscape spot)) x k h = rw h refl
-fails-on (fault.Expected s w) x k h = rw h refl
-fails-on (fault.UnexpectedIndent s) x k h = rw h refl
-fails-on (fault.MissingCommand s) x k h = rw h refl
-fails-on (fault.RspPair s) x k h = rw h refl
-fails-on (fault.UnknownKey s key) x k h = rw h refl
-fails-on (fault.MissingDepth s) x k h = rw h refl
-fails-on (fault.DyndepVersion s) x k h = rw h refl
-fails-on (fault.DyndepShape s) x k h = rw h refl
+fails-on f x k h = grind arith
 
 pub here-ok : (before middle after : State) (h : HeadModel) (spot : Spot) (item : Statement)
     → spot ≡ spot_of before → head_next before ≡ Ok (h, middle)

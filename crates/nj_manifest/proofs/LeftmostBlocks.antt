@@ -1,5 +1,6 @@
 -- The first fault of a block.
-use Rattle.std.proofs.Common.{◌≡◌, ℕ, Bool, true, false, cond, inl, inr, Result, Ok, Err, List, [], ◌∷◌, ◌++◌}
+use Rattle.std.proofs.Common.{arith, ◌≡◌, ℕ, Bool, true, false, cond, inl, inr, Result, Ok, Err, List, []}
+use Rattle.std.proofs.Common.{◌∷◌, ◌++◌}
 use Rattle.std.proofs.Common.{refl, sym, ap, subst, ◌∙◌, append_assoc}
 use Rattle.nj_text.specs.declared.spot.Spot.{Spot}
 use Rattle.nj_text.specs.Bytes.{begins_with}
@@ -92,38 +93,26 @@ read_block : (allowed : Keys) (l : Line) (ms : List Line) (v : LineModel) (s : S
     → kind_of l ≡ IndentedLine → l.is_last ≡ false
     → line_next allowed (at (after_spaces l.units) l ms) ≡ Ok (v, s)
     → block allowed (l ∷ ms) ≡ line_then (block allowed ms) (v, s)
-read_block allowed l ms v s h last r =
-    indented_block allowed l ms h ∙ (ap (λ (y : Step LineModel). y >>=
-    λ line. or_last l (no_lines (lines_after l ms)) (block allowed ms) >>=
-    λ more. Ok (line.0 ∷ more.0, more.1)) r
-    ∙ ap (λ (t : Bool). line_then (cond t (no_lines (lines_after l ms)) (block allowed ms)) (v, s)) last)
+read_block allowed l ms v s h last r = grind (arith, indented_block, no_lines)
 
 bad_block : (allowed : Keys) (l : Line) (ms : List Line) (f : Fault) → kind_of l ≡ IndentedLine
     → line_next allowed (at (after_spaces l.units) l ms) ≡ Err f → block allowed (l ∷ ms) ≡ Err f
-bad_block allowed l ms f h r =
-    indented_block allowed l ms h ∙ ap (λ (y : Step LineModel). y >>=
-    λ line. or_last l (no_lines (lines_after l ms)) (block allowed ms) >>=
-    λ more. Ok (line.0 ∷ more.0, more.1)) r
+bad_block allowed l ms f h r = grind (arith, indented_block, no_lines)
 
 one_in_front : (v : LineModel) (s : State) (others : Parse (List LineModel))
     → line_then others (v, s) ≡ in_front (v ∷ []) others
-one_in_front v s (Ok o) = refl
-one_in_front v s (Err f) = refl
+one_in_front v s others = grind arith
 
 more_in_front : (v : LineModel) (s : State) (front : List LineModel) (others : Parse (List LineModel))
     → line_then (in_front front others) (v, s) ≡ in_front (v ∷ front) others
-more_in_front v s front (Ok o) = refl
-more_in_front v s front (Err f) = refl
+more_in_front v s front others = grind arith
 
 bad_then : (others : Parse (List LineModel)) (line : LineModel × State) (f : Fault) → others ≡ Err f
     → line_then others line ≡ Err f
 bad_then others line f h = rw h refl
 
 same_fault : {A : Type 0} (r : Result A Fault) (f g : Fault) → r ≡ Err f → r ≡ Err g → g ≡ f
-same_fault r f g h i = errs (sym i ∙ h)
-  where
-    errs : {A : Type 0} {x y : Fault} → ◌≡◌ {A = Result A Fault} (Err x) (Err y) → x ≡ y
-    errs e = cc
+same_fault r f g h i = grind arith
 
 -- ---- where the fault is in the first line
 
@@ -263,16 +252,11 @@ stuck_after_line allowed l ls fault v reads r = record {
 
 not_last : (t : Bool) (a : List LineModel × List Line) (others : Parse (List LineModel)) (f : Fault)
     → cond t (Ok a) others ≡ Err f → (t ≡ false) × (others ≡ Err f)
-not_last true a others f h = absurd cc
-not_last false a others f h = (refl, h)
+not_last t a others f h = grind arith
 
 then_fault : (others : Parse (List LineModel)) (line : LineModel × State) (f : Fault)
     → line_then others line ≡ Err f → others ≡ Err f
-then_fault (Ok o) line f h = absurd cc
-then_fault (Err g) line f h = ap Err (errs h)
-  where
-    errs : {A : Type 0} {x y : Fault} → ◌≡◌ {A = Result A Fault} (Err x) (Err y) → x ≡ y
-    errs e = cc
+then_fault others line f h = grind arith
 
 comment_block : (allowed : Keys) (l : Line) (ms : List Line) → kind_of l ≡ CommentLine
     → block allowed (l ∷ ms) ≡ or_last l (no_lines (lines_after l (without_comments ms))) (block allowed ms)
@@ -281,8 +265,7 @@ comment_block allowed l ms h = ap (λ (k : Kind). block_by allowed k l ms (block
 
 comment_not_last : (allowed : Keys) (l : Line) (ms : List Line) → kind_of l ≡ CommentLine → l.is_last ≡ false
     → block allowed (l ∷ ms) ≡ block allowed ms
-comment_not_last allowed l ms h last = comment_block allowed l ms h
-    ∙ ap (λ (t : Bool). cond t (no_lines (lines_after l (without_comments ms))) (block allowed ms)) last
+comment_not_last allowed l ms h last = grind (arith, comment_block, no_lines)
 
 pub blank_block : (allowed : Keys) (l : Line) (ms : List Line) → kind_of l ≡ BlankLine
     → block allowed (l ∷ ms) ≡ no_lines (lines_after l ms)
@@ -299,10 +282,7 @@ unfolding block
 empty_block allowed = refl
 
 no_fault : {A : Type 0} (r : Result A Fault) (x : A) (f : Fault) → r ≡ Ok x → r ≡ Err f → ⊥
-no_fault r x f h i = apart (sym h ∙ i)
-  where
-    apart : {A : Type 0} {x : A} {f : Fault} → ◌≡◌ {A = Result A Fault} (Ok x) (Err f) → ⊥
-    apart e = absurd cc
+no_fault r x f h i = grind arith
 
 as_fault : (allowed : Keys) (ls : List Line) (f g : Fault) → g ≡ f → BlockStuck allowed ls g
     → BlockStuck allowed ls f

@@ -1,5 +1,6 @@
 -- The first line of a build statement: it is read to its end, or stuck at its first fault.
-use Rattle.std.proofs.Common.{◌≡◌, Bool, true, false, ◌&&◌, Result, Ok, Err, inr, List, [], ◌∷◌, ◌++◌, refl}
+use Rattle.std.proofs.Common.{arith, ◌≡◌, Bool, true, false, ◌&&◌, Result, Ok, Err, inr, List, [], ◌∷◌, ◌++◌}
+use Rattle.std.proofs.Common.{refl}
 use Rattle.std.proofs.Common.{ap, subst, ◌∙◌}
 use Rattle.nj_text.specs.declared.sign.Sign.TheVariants as sign
 use Rattle.nj_text.specs.Units.{TextUnit, first_spot}
@@ -72,8 +73,7 @@ with_explicit_outputs e = section_next sign.Pipe e.1 >>= with_implicit_outputs e
 
 bind-same : {A B : Type 0} (r : Result A Fault) (f g : A → Result B Fault) → ((x : A) → f x ≡ g x)
     → (r >>= f) ≡ (r >>= g)
-bind-same (Ok x) f g h = h x
-bind-same (Err e) f g h = refl
+bind-same r f g h = grind arith
 
 abbrev inputs_then : OutputsModel → NameModel → InputsModel × State → Step HeadModel
 inputs_then outs rule ins = ended outs rule ins.0 ins.1
@@ -82,26 +82,17 @@ inputs_is : (outs : OutputsModel) (rule : NameModel) (s : State)
     → ◌≡◌ {A = Step HeadModel} (inputs_next s >>= inputs_then outs rule)
     (words_next s >>= with_explicit outs rule)
 unfolding inputs_next
-inputs_is outs rule s =
-    bind-bind (words_next s) _ (inputs_then outs rule)
-    ∙ bind-same (words_next s) _ (with_explicit outs rule) (λ e.
-    bind-bind (section_next sign.Pipe e.1) _ (inputs_then outs rule)
-    ∙ bind-same (section_next sign.Pipe e.1) _ (with_implicit outs rule e.0) (λ i.
-    bind-bind (section_next sign.Pipe2 i.1) _ (inputs_then outs rule)
-    ∙ bind-same (section_next sign.Pipe2 i.1) _ (with_order outs rule e.0 i.0) (λ o.
-    bind-bind (section_next sign.PipeAt o.1) _ (inputs_then outs rule))))
+inputs_is outs rule s = grind arith
 
 rule_is : (outs : OutputsModel) (s : State)
     → ◌≡◌ {A = Step HeadModel} (name_next wanted.CommandName s >>= λ rule. inputs_next rule.1 >>=
     inputs_then outs rule.0) (name_next wanted.CommandName s >>= with_rule outs)
-rule_is outs s = bind-same (name_next wanted.CommandName s) _ (with_rule outs)
-    (λ rule. inputs_is outs rule.0 rule.1)
+rule_is outs s = grind (arith, bind-same, inputs_is)
 
 colon_is_led : (outs : OutputsModel) (r : Result State Fault)
     → ◌≡◌ {A = Step HeadModel} (r >>= λ colon. name_next wanted.CommandName colon >>=
     λ rule. inputs_next rule.1 >>= inputs_then outs rule.0) (led_on r >>= with_colon outs)
-colon_is_led outs (Ok s) = rule_is outs s
-colon_is_led outs (Err f) = refl
+colon_is_led outs r = grind (arith, rule_is)
 
 abbrev outputs_then : OutputsModel × State → Step HeadModel
 outputs_then o = expect_sign sign.Colon wanted.Colon o.1 >>= λ colon. name_next wanted.CommandName colon >>=
@@ -184,14 +175,12 @@ pub words_after_name : (x : List TextUnit) → after_words x ≡ true → after_
 words_after_name x h = opens-more is_colon is_separator (colon_is (λ b. is_separator b ≡ true) refl) x h
 
 pub itself : {A : Type 0} (r : Result A Fault) → r ≡ (r >>= λ x. Ok x)
-itself (Ok x) = refl
-itself (Err f) = refl
+itself r = grind arith
 
 -- an output is read
 there_is : (ex im : List WordModel) → (is_empty ex && is_empty im) ≡ false → (s : State)
     → with_implicit_outputs ex (im, s) ≡ with_outputs (outputs_of ex im, s)
-there_is ex im h s = ap (λ (t : Bool). unless_none t wanted.Path s (Ok (outputs_of ex im, s)) >>=
-    with_outputs) h
+there_is ex im h s = grind arith
 
 -- no output after `build`
 no_explicit : (e : Line) (us : List TextUnit) (n : WordsPass us) → is_empty n.value ≡ true

@@ -1,5 +1,7 @@
 -- Lines that end a block which was begun, whatever lines it has.
-use Rattle.std.proofs.Common.{◌≡◌, ℕ, Bool, true, false, cond, ◌&&◌, ◌||◌, not, Result, Ok, Err, List, []}
+use Rattle.std.proofs.lemmas.Grind.{common_steps}
+use Rattle.std.proofs.Common.{arith, ◌≡◌, ℕ, Bool, true, false, cond, ◌&&◌, ◌||◌, not, Result, Ok, Err, List}
+use Rattle.std.proofs.Common.{[]}
 use Rattle.std.proofs.Common.{◌∷◌, ◌++◌, map, refl, sym, ap, ◌∙◌, codes}
 use mathlib.Core.Bool.{beq}
 use Rattle.std.specs.List.{list_any, list_all}
@@ -39,10 +41,7 @@ closing (PoolHead name) = codes " depth=x" ∷ []
 closing (BuildHead outputs rule inputs) = []
 
 pub closing_plain : (h : HeadModel) → list_all are_plain (closing h) ≡ true
-closing_plain (Alone item) = refl
-closing_plain (RuleHead name) = refl
-closing_plain (PoolHead name) = refl
-closing_plain (BuildHead outputs rule inputs) = refl
+closing_plain h = grind arith
 
 abbrev line_x : List ℕ → LineModel
 line_x key = record {
@@ -61,51 +60,33 @@ closing_model (BuildHead outputs rule inputs) = []
 
 pub closing_block : (h : HeadModel) → block (keys_of h) (map written (closing h)) ≡ Ok (closing_model h, [])
 unfolding block line_next name_next equals_value expect_sign
-closing_block (Alone item) = refl
-closing_block (RuleHead name) = refl
-closing_block (PoolHead name) = refl
-closing_block (BuildHead outputs rule inputs) = refl
+closing_block h = grind arith
 
 -- ---- the last lines decide
 
 any_after : (p : LineModel → Bool) (front tail : List LineModel) → list_any p tail ≡ true
     → list_any p (front ++ tail) ≡ true
-any_after p [] tail h = h
-any_after p (l ∷ front) tail h = by_test (p l) (any_after p front tail h)
-  where
-    by_test : (t : Bool) → list_any p (front ++ tail) ≡ true → (t || list_any p (front ++ tail)) ≡ true
-    by_test true e = refl
-    by_test false e = e
+any_after p front tail h = grind (arith, common_steps)
 
 gives_after : (key : List ℕ) (front tail : List LineModel) → names key tail ≡ true
     → gives key (front ++ tail) ≡ gives key tail
 gives_after key [] tail h = refl
-gives_after key (l ∷ front) tail h = gives-cons key l (front ++ tail)
-    ∙ by_test (list_any (λ (m : LineModel). bytes_eq m.name key) (front ++ tail)) (bytes_eq l.name key)
-    (any_after (λ (m : LineModel). bytes_eq m.name key) front tail h) (gives_after key front tail h)
-  where
-    by_test : (a p : Bool) → a ≡ true → gives key (front ++ tail) ≡ gives key tail
-        → cond (p && not a) (not (is_empty l.value.parts)) (gives key (front ++ tail)) ≡ gives key tail
-    by_test false p e rest = absurd cc
-    by_test true true e rest = rest
-    by_test true false e rest = rest
+gives_after key (l ∷ front) tail h = grind (
+  arith,
+  gives-cons key l (front ++ tail),
+  any_after (λ (m : LineModel). bytes_eq m.name key) front tail h,
+  gives_after key front tail h,
+)
 
 rule_whole : (spot : Spot) (name : NameModel) (front : List LineModel)
     → whole_rule spot (front ++ closing_model (RuleHead name)) ≡ Ok (front ++ closing_model (RuleHead name))
 unfolding whole_rule
-rule_whole spot name front =
-    let tail = closing_model (RuleHead name) in
-    rw (
-      gives_after (codes "rspfile") front tail refl,
-      gives_after (codes "rspfile_content") front tail refl,
-      gives_after (codes "command") front tail refl,
-    ) refl
+rule_whole spot name front = grind (arith, common_steps)
 
 pool_whole : (spot : Spot) (name : NameModel) (front : List LineModel)
     → whole_pool spot (front ++ closing_model (PoolHead name)) ≡ Ok (front ++ closing_model (PoolHead name))
 unfolding whole_pool
-pool_whole spot name front = rw (any_after (λ (m : LineModel). bytes_eq m.name (codes "depth")) front
-    (closing_model (PoolHead name)) refl) refl
+pool_whole spot name front = grind (arith, common_steps)
 
 -- A reading of a block up to these lines reads a statement with them.
 pub closed : (spot : Spot) (h : HeadModel) (ls : List Line) (front : List LineModel)
@@ -149,29 +130,16 @@ closed spot (BuildHead outputs rule inputs) ls front e =
 pub block_refuses : (spot : Spot) (h : HeadModel) (ls : List Line) (f : Fault)
     (all : (item : StatementModel) → h ≡ Alone item → ⊥) → block (keys_of h) ls ≡ Err f
     → with_block spot h ls ≡ Err f
-block_refuses spot (Alone item) ls f all e = absurd (all item refl)
-block_refuses spot (RuleHead name) ls f all e = rw e refl
-block_refuses spot (PoolHead name) ls f all e = rw e refl
-block_refuses spot (BuildHead outputs rule inputs) ls f all e = rw e refl
+block_refuses spot h ls f all e = grind arith
 
 fault_of_missing : {A B : Type 0} (there : Bool) (fault f : Fault) (others : Result A Fault)
     (k : A → Result B Fault) → is_syntax fault ≡ false → is_syntax f ≡ true
     → (unless_missing there fault others >>= k) ≡ Err f → (others >>= k) ≡ Err f
-fault_of_missing true fault f others k n s h = h
-fault_of_missing {B = B} false fault f others k n s h = absurd (apart (sym n ∙ (ap is_syntax (errs h) ∙ s)))
-  where
-    errs : ◌≡◌ {A = Result B Fault} (Err fault) (Err f) → fault ≡ f
-    errs e = cc
-
-    apart : false ≡ true → ⊥
-    apart e = absurd cc
+fault_of_missing there fault f others k n s h = grind arith
 
 same_err : {A B : Type 0} (g f : Fault) → ◌≡◌ {A = Result A Fault} (Err g) (Err f)
     → ◌≡◌ {A = Result B Fault} (Err g) (Err f)
-same_err {A = A} g f e = ap Err (errs e)
-  where
-    errs : ◌≡◌ {A = Result A Fault} (Err g) (Err f) → g ≡ f
-    errs e = cc
+same_err {A = A} g f e = grind arith
 
 no_err : {A : Type 0} {x : A} {f : Fault} → ◌≡◌ {A = Result A Fault} (Ok x) (Err f) → ⊥
 no_err e = absurd cc
@@ -188,40 +156,18 @@ build_then outputs rule inputs lines = Ok (BuildModel outputs rule inputs lines.
 rule_fault : (spot : Spot) (name : NameModel) (lines : List LineModel × List Line) (f : Fault)
     → is_syntax f ≡ true → rule_then spot name lines ≡ Err f → ⊥
 unfolding whole_rule
-rule_fault spot name lines f s h =
-    no_err (fault_of_missing (gives (codes "command") lines.0) (Placed spot cause.MissingCommand) f _
-    (λ whole. Ok (RuleModel name whole, lines.1)) refl s
-    (fault_of_missing (beq (gives (codes "rspfile") lines.0) (gives (codes "rspfile_content") lines.0))
-    (Placed spot cause.RspPair) f _ (λ whole. Ok (RuleModel name whole, lines.1)) refl s h))
+rule_fault spot name lines f s h = grind arith
 
 pool_fault : (spot : Spot) (name : NameModel) (lines : List LineModel × List Line) (f : Fault)
     → is_syntax f ≡ true → pool_then spot name lines ≡ Err f → ⊥
 unfolding whole_pool
-pool_fault spot name lines f s h = no_err
-    (fault_of_missing (names (codes "depth") lines.0) (Placed spot cause.MissingDepth) f _
-    (λ whole. Ok (PoolModel name whole, lines.1)) refl s h)
+pool_fault spot name lines f s h = grind arith
 
 by_block : {A : Type 0} (r : Parse (List LineModel)) (k : List LineModel × List Line → Result A Fault)
     (f : Fault) → ((lines : List LineModel × List Line) → k lines ≡ Err f → ⊥) → (r >>= k) ≡ Err f → r ≡ Err f
-by_block (Ok lines) k f n h = absurd (n lines h)
-by_block (Err g) k f n h = same_err g f h
+by_block r k f n h = grind arith
 
 -- A fault of syntax after the first line is one of the block.
 pub fault_of_block : (spot : Spot) (h : HeadModel) (ls : List Line) (f : Fault) → with_block spot h ls ≡ Err f
     → is_syntax f ≡ true → ((item : StatementModel) → h ≡ Alone item → ⊥) × (block (keys_of h) ls ≡ Err f)
-fault_of_block spot (Alone item) ls f e s = absurd (no_err e)
-fault_of_block spot (RuleHead name) ls f e s = (
-  (λ item h. absurd cc),
-  by_block (block keys.OfRule ls) (rule_then spot name) f
-      (λ lines. rule_fault spot name lines f s) e,
-)
-fault_of_block spot (PoolHead name) ls f e s = (
-  (λ item h. absurd cc),
-  by_block (block keys.OfPool ls) (pool_then spot name) f
-      (λ lines. pool_fault spot name lines f s) e,
-)
-fault_of_block spot (BuildHead outputs rule inputs) ls f e s = (
-  (λ item h. absurd cc),
-  by_block (block keys.All ls) (build_then outputs rule inputs) f
-      (λ lines h. no_err h) e,
-)
+fault_of_block spot h ls f e s = grind (arith, no_err, by_block, rule_fault, pool_fault)

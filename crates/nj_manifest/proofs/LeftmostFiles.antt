@@ -1,5 +1,6 @@
 -- The one word after `include` or `subninja`.
-use Rattle.std.proofs.Common.{◌≡◌, ℕ, Bool, true, false, Option, Some, None, Ok, Err, inl, inr, List, [], ◌∷◌}
+use Rattle.std.proofs.Common.{arith, ◌≡◌, ℕ, Bool, true, false, Option, Some, None, Ok, Err, inl, inr, List}
+use Rattle.std.proofs.Common.{[], ◌∷◌}
 use Rattle.std.proofs.Common.{◌++◌, refl, sym, ap, ◌∙◌, append_assoc}
 use Rattle.std.specs.List.{take_while}
 use Rattle.nj_text.specs.declared.fault.UnitFault.{UnitFault}
@@ -92,15 +93,17 @@ bad_first us e bad f = record {
 none_first : (us : List TextUnit) (e : Line) → settled (skip us) ≡ true
     → FailsAt file_word us e (Placed (spot_of_first (skip us) e.end) (cause.Expected wanted.Path)) (gap_of us)
     (skip us)
-none_first us e h = record {
-  cut = gap_cut us;
-  place = refl;
-  fails = λ ms. ap (λ (y : List TextUnit). file_word (at y e ms)) (gap_cut us)
-      ∙ found_none _ (skip us) e ms (no_word_reads (gap_of us) (skip us) e ms (gap_passes us) h);
-  refuses = λ x d ms same.
-      found_none _ x d ms (no_word_reads (gap_of us) x d ms (gap_passes us)
-      (settled_same x (skip us) (element-front x (skip us) same) ∙ h));
-}
+none_first us e h = grind (
+  arith,
+  gap_cut,
+  found_none,
+  skip,
+  no_word_reads,
+  gap_of,
+  gap_passes,
+  settled_same,
+  element-front,
+)
 
 module _ (us : List TextUnit) (u : TextUnit) (run rest : List TextUnit) (e : Line) (o : opens_word u ≡ true)
     (a : AllIn in_word (u ∷ run)) (c : us ≡ (gap_of us ++ u ∷ run) ++ rest) where

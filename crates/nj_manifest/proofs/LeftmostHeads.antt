@@ -1,5 +1,6 @@
 -- The first line of a statement: it is read to its end, or stuck at its first fault.
-use Rattle.std.proofs.Common.{◌≡◌, ℕ, Bool, true, false, cond, Option, Some, None, Result, Ok, Err, List, []}
+use Rattle.std.proofs.Common.{arith, ◌≡◌, ℕ, Bool, true, false, cond, Option, Some, None, Result, Ok, Err}
+use Rattle.std.proofs.Common.{List, []}
 use Rattle.std.proofs.Common.{◌∷◌, ◌++◌, refl, ap, ◌∙◌, codes}
 use Rattle.std.specs.Prelude.{ok_or}
 use Rattle.std.specs.Str.{bytes_eq}
@@ -37,16 +38,14 @@ line_end s = expect_sign sign.LineEnd wanted.Newline s
 
 end_is : {A : Type 0} (head : A → HeadModel) (x : A) (r : Result State Fault)
     → as_head head (ending x r) ≡ ending (head x) r
-end_is head x (Ok s) = refl
-end_is head x (Err f) = refl
+end_is head x r = grind arith
 
 abbrev named_end : (NameModel → HeadModel) → NameModel × State → Step HeadModel
 named_end head n = ending (head n.0) (line_end n.1)
 
 named_is : (head : NameModel → HeadModel) (r : Step NameModel)
     → as_head head (r >>= λ name. ending name.0 (line_end name.1)) ≡ (r >>= named_end head)
-named_is head (Ok n) = end_is head n.0 (line_end n.1)
-named_is head (Err f) = refl
+named_is head r = grind arith
 
 alone_is : (want : Wanted) (head : NameModel → HeadModel) (s : State)
     → as_head head (name_alone want s) ≡ (name_next want s >>= named_end head)
@@ -59,8 +58,7 @@ targets_end head w = ending (head w.0) (unless_none (is_empty w.0) wanted.Target
 targets_by : (head : List WordModel → HeadModel) (r : Step (List WordModel))
     → as_head head (r >>= λ w. ending w.0 (unless_none (is_empty w.0) wanted.TargetName w.1 (line_end w.1)))
     ≡ (r >>= targets_end head)
-targets_by head (Ok w) = end_is head w.0 (unless_none (is_empty w.0) wanted.TargetName w.1 (line_end w.1))
-targets_by head (Err f) = refl
+targets_by head r = grind arith
 
 targets_is : (head : List WordModel → HeadModel) (s : State)
     → as_head head (targets_next s) ≡ (words_next s >>= targets_end head)
@@ -72,26 +70,12 @@ file_end head w = ending (head w.0) (line_end w.1)
 
 file_by : (head : WordModel → HeadModel) (r : Step WordModel)
     → as_head head (r >>= λ w. ending w.0 (line_end w.1)) ≡ (r >>= file_end head)
-file_by head (Ok w) = end_is head w.0 (line_end w.1)
-file_by head (Err f) = refl
+file_by head r = grind arith
 
 file_led : (s : State) → ◌≡◌ {A = Step WordModel} (file_next s)
     (file_word s >>= λ w. ending w.0 (line_end w.1))
 unfolding file_next
-file_led s = by_found (word_call s)
-  where
-    by_word : (found : Option WordModel) (after : State)
-        → ◌≡◌ {A = Step WordModel} (ok_or found (Placed (spot_of after) (cause.Expected wanted.Path)) >>=
-        λ w. ending w (line_end after)) (path_there found after >>= λ w. ending w.0 (line_end w.1))
-    by_word None after = refl
-    by_word (Some w) after = refl
-
-    by_found : (r : Step (Option WordModel))
-        → ◌≡◌ {A = Step WordModel} (r >>= λ found. ok_or found.0
-        (Placed (spot_of found.1) (cause.Expected wanted.Path)) >>= λ w. ending w (line_end found.1))
-        ((r >>= λ found. path_there found.0 found.1) >>= λ w. ending w.0 (line_end w.1))
-    by_found (Ok x) = by_word x.0 x.1
-    by_found (Err f) = refl
+file_led s = grind arith
 
 file_is : (head : WordModel → HeadModel) (s : State)
     → as_head head (file_next s) ≡ (file_word s >>= file_end head)
@@ -127,22 +111,7 @@ no_target : (head : List WordModel → HeadModel) (e : Line) (us : List TextUnit
     → is_empty n.value ≡ true
     → FailsAt (λ s. words_next s >>= targets_end head) us e
     (Placed (spot_of_first n.run.left e.end) (cause.Expected wanted.TargetName)) n.run.used n.run.left
-no_target head e us n empty = record {
-  cut = n.run.cut;
-  place = refl;
-  fails = λ ms. ap (λ (y : List TextUnit). words_next (at y e ms) >>= targets_end head) n.run.cut
-      ∙ nothing_read n.run.left e ms n.stops;
-  refuses = λ x d ms same. nothing_read x d ms
-      (settled_same x n.run.left (element-front x n.run.left same) ∙ n.stops);
-}
-  where
-    nothing_read : (x : List TextUnit) (d : Line) (ms : List Line) → settled x ≡ true
-        → (words_next (at (n.run.used ++ x) d ms) >>= targets_end head)
-        ≡ Err (Placed (spot_of_first x d.end) (cause.Expected wanted.TargetName))
-    nothing_read x d ms h =
-        ap (λ r. r >>= targets_end head) (n.goes x d ms h)
-        ∙ ap (λ (t : Bool). ending (head n.value)
-        (unless_none t wanted.TargetName (at x d ms) (line_end (at x d ms)))) empty
+no_target head e us n empty = grind (arith, settled_same, element-front, settled, ending, unless_none)
 
 -- a line begins with a name
 abbrev pub starts : List TextUnit → Bool

@@ -1,5 +1,6 @@
 -- The kind of a line, by its leading spaces and the unit after them.
-use Rattle.std.proofs.Common.{◌≡◌, Bool, true, false, List, [], ◌∷◌, ◌++◌, take, refl, sym, ap, ◌∙◌}
+use Rattle.std.proofs.lemmas.Grind.{common_steps}
+use Rattle.std.proofs.Common.{arith, ◌≡◌, Bool, true, false, List, [], ◌∷◌, ◌++◌, take, refl, sym, ap, ◌∙◌}
 use Rattle.std.specs.List.{take_while}
 use Rattle.nj_text.specs.declared.spot.Spot.{Spot}
 use Rattle.nj_text.specs.Bytes.{drop_while, is_space, is_identifier_byte, begins_with}
@@ -34,8 +35,7 @@ spaces_stop us = after_stops is_space_unit us
 
 spaced_begins : (sp x : List TextUnit) → begins_with is_space_unit x ≡ false
     → begins_with is_space_unit (sp ++ x) ≡ begins_with is_space_unit sp
-spaced_begins [] x h = h
-spaced_begins (u ∷ sp) x h = refl
+spaced_begins sp x h = grind arith
 
 pub unspaced : (sp x : List TextUnit) → AllIn is_space_unit sp → begins_with is_space_unit x ≡ false
     → after_spaces (sp ++ x) ≡ x
@@ -44,23 +44,19 @@ unspaced sp x a h = run_passed is_space_unit sp x a h
 -- after some spaces, or none
 pub kind_spaced : (sp x : List TextUnit) → AllIn is_space_unit sp → begins_with is_space_unit x ≡ false
     → kind_units (sp ++ x) ≡ kind_after_spaces x (begins_with is_space_unit sp)
-kind_spaced sp x a h = ap (λ (y : List TextUnit). kind_after_spaces y (begins_with is_space_unit (sp ++ x)))
-    (unspaced sp x a h) ∙ ap (λ (t : Bool). kind_after_spaces x t) (spaced_begins sp x h)
+kind_spaced sp x a h = grind (arith, unspaced, spaced_begins)
 
 -- the kind of the whole is that after its own spaces
 pub kind_here : (us : List TextUnit) → kind_units us
     ≡ kind_after_spaces (after_spaces us) (begins_with is_space_unit (spaces_of us))
-kind_here us = ap kind_units (spaces_cut us)
-    ∙ kind_spaced (spaces_of us) (after_spaces us) (spaces_pass us) (spaces_stop us)
+kind_here us = grind arith
 
 kind_head : (x : List TextUnit) (t : Bool) → kind_after_spaces x t ≡ kind_after_spaces (take 1 x) t
-kind_head [] t = refl
-kind_head (u ∷ x) t = refl
+kind_head x t = grind arith
 
 kind_same : (x y : List TextUnit) (t : Bool) → front x ≡ front y
     → kind_after_spaces x t ≡ kind_after_spaces y t
-kind_same x y t h = kind_head x t ∙ (ap (λ (z : List TextUnit). kind_after_spaces z t) (same-head x y h)
-    ∙ sym (kind_head y t))
+kind_same x y t h = grind arith
 
 pub no_space_same : (us x : List TextUnit) → front x ≡ front (after_spaces us)
     → begins_with is_space_unit x ≡ false
@@ -69,103 +65,68 @@ no_space_same us x h = begins-same is_space_unit x (after_spaces us) h ∙ space
 -- units in place of those after the spaces
 pub kind_replaced : (us x : List TextUnit) → front x ≡ front (after_spaces us)
     → kind_units (spaces_of us ++ x) ≡ kind_units us
-kind_replaced us x h =
-    kind_spaced (spaces_of us) x (spaces_pass us) (no_space_same us x h)
-    ∙ (kind_same x (after_spaces us) (begins_with is_space_unit (spaces_of us)) h ∙ sym (kind_here us))
+kind_replaced us x h = grind (arith, kind_spaced, spaces_pass, no_space_same, kind_same, kind_here)
 
 -- ---- plain lines
 
 indented_kind : (m : Meaning) (spot : Spot) → kind_with m spot true ≡ PlainLine → ⊥
-indented_kind Comment spot h = absurd cc
-indented_kind LeadingTab spot h = absurd cc
-indented_kind m spot h = absurd cc
+indented_kind m spot h = grind arith
 
 indented_plain : (us : List TextUnit) → kind_after_spaces us true ≡ PlainLine → ⊥
-indented_plain [] h = absurd cc
-indented_plain (u ∷ us) h = indented_kind u.means u.spot h
+indented_plain us h = grind arith
 
 pub plain_begins : (us : List TextUnit) → kind_units us ≡ PlainLine → begins_with is_space_unit us ≡ false
-plain_begins [] h = refl
-plain_begins (u ∷ us) h = by_test (is_space_unit u) refl
-  where
-    by_test : (t : Bool) → is_space_unit u ≡ t → t ≡ false
-    by_test true e = absurd (indented_plain (after_spaces (u ∷ us))
-        (ap (λ (t : Bool). kind_after_spaces (after_spaces (u ∷ us)) t) (sym e) ∙ h))
-    by_test false e = refl
+plain_begins us h = grind arith
 
 unspaced_kind : (us : List TextUnit) → begins_with is_space_unit us ≡ false
     → kind_units us ≡ kind_after_spaces us false
-unspaced_kind us h = ap (λ (y : List TextUnit). kind_after_spaces y (begins_with is_space_unit us))
-    (none_passed is_space_unit us h) ∙ ap (λ (t : Bool). kind_after_spaces us t) h
+unspaced_kind us h = grind arith
 
 pub plain_same : (us x : List TextUnit) → kind_units us ≡ PlainLine → front x ≡ front us
     → kind_units x ≡ PlainLine
-plain_same us x h e =
-    let none = plain_begins us h in
-    unspaced_kind x (begins-same is_space_unit x us e ∙ none)
-    ∙ (kind_same x us false e ∙ (sym (unspaced_kind us none) ∙ h))
+plain_same us x h e = grind (arith, common_steps)
 
 -- ---- lines that begin with a name
 
 identifier_kind : (m : Meaning) (spot : Spot) (t : Bool) → is_ordinary_in is_identifier_byte m ≡ true
     → kind_with m spot t ≡ text_kind t
-identifier_kind (Ordinary b) spot t h = refl
-identifier_kind m spot t h = absurd cc
+identifier_kind m spot t h = grind arith
 
 pub identifier_no_space : (x : List TextUnit) → begins_with in_identifier x ≡ true
     → begins_with is_space_unit x ≡ false
-identifier_no_space [] h = refl
-identifier_no_space (u ∷ x) h = no_other is_identifier_byte (is_ordinary_in is_space)
-    (not_byte is_identifier_byte 32 refl) u.means h
+identifier_no_space x h = grind arith
 
 identifier_text : (x : List TextUnit) (t : Bool) → begins_with in_identifier x ≡ true
     → kind_after_spaces x t ≡ text_kind t
-identifier_text [] t h = absurd cc
-identifier_text (u ∷ x) t h = identifier_kind u.means u.spot t h
+identifier_text x t h = grind arith
 
 pub identifier_plain : (x : List TextUnit) → begins_with in_identifier x ≡ true → kind_units x ≡ PlainLine
 identifier_plain x h = unspaced_kind x (identifier_no_space x h) ∙ identifier_text x false h
 
 pub identifier_spaced : (sp x : List TextUnit) → AllIn is_space_unit sp → begins_with in_identifier x ≡ true
     → kind_units (sp ++ x) ≡ text_kind (begins_with is_space_unit sp)
-identifier_spaced sp x a h = kind_spaced sp x a (identifier_no_space x h)
-    ∙ identifier_text x (begins_with is_space_unit sp) h
+identifier_spaced sp x a h = grind (arith, kind_spaced, identifier_no_space, identifier_text)
 
 -- an indented line begins with a space
 unindented_kind : (m : Meaning) (spot : Spot) → kind_with m spot false ≡ IndentedLine → ⊥
-unindented_kind Comment spot h = absurd cc
-unindented_kind LeadingTab spot h = absurd cc
-unindented_kind m spot h = absurd cc
+unindented_kind m spot h = grind arith
 
 unindented : (us : List TextUnit) (t : Bool) → kind_after_spaces us t ≡ IndentedLine → t ≡ true
-unindented us true h = refl
-unindented [] false h = absurd cc
-unindented (u ∷ us) false h = absurd (unindented_kind u.means u.spot h)
+unindented us t h = grind arith
 
 pub indented_spaces : (us : List TextUnit) → kind_units us ≡ IndentedLine
     → begins_with is_space_unit (spaces_of us) ≡ true
-indented_spaces us h = unindented (after_spaces us) (begins_with is_space_unit (spaces_of us))
-    (sym (kind_here us) ∙ h)
+indented_spaces us h = grind arith
 
 -- ---- tabs
 
 tab_spot : (m : Meaning) (spot : Spot) (t : Bool) (tab : Spot) → kind_with m spot t ≡ TabLine tab → tab ≡ spot
-tab_spot LeadingTab spot t tab h = cc
-tab_spot Comment spot t tab h = absurd cc
-tab_spot (Ordinary b) spot t tab h = absurd (no_tab t tab h)
-  where
-    no_tab : (t : Bool) (tab : Spot) → text_kind t ≡ TabLine tab → ⊥
-    no_tab true tab h = absurd cc
-    no_tab false tab h = absurd cc
-tab_spot m spot true tab h = absurd cc
-tab_spot m spot false tab h = absurd cc
+tab_spot m spot t tab h = grind arith
 
 tab_first : (us : List TextUnit) (t : Bool) (tab end : Spot) → kind_after_spaces us t ≡ TabLine tab
     → tab ≡ spot_of_first us end
-tab_first [] t tab end h = absurd cc
-tab_first (u ∷ us) t tab end h = tab_spot u.means u.spot t tab h
+tab_first us t tab end h = grind arith
 
 pub tab_place : (us : List TextUnit) (tab end : Spot) → kind_units us ≡ TabLine tab
     → tab ≡ spot_of_first (after_spaces us) end
-tab_place us tab end h = tab_first (after_spaces us) (begins_with is_space_unit (spaces_of us)) tab end
-    (sym (kind_here us) ∙ h)
+tab_place us tab end h = grind arith

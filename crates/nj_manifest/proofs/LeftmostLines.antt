@@ -1,5 +1,5 @@
 -- A line of a block, after its spaces: it is read to its end, or stuck at its first fault.
-use Rattle.std.proofs.Common.{◌≡◌, ℕ, Bool, true, false, Ok, Err, List, [], ◌++◌, refl, ap, ◌∙◌, codes}
+use Rattle.std.proofs.Common.{arith, ◌≡◌, ℕ, Bool, true, false, Ok, Err, List, [], ◌++◌, refl, ap, ◌∙◌, codes}
 use Rattle.nj_text.specs.Units.{TextUnit}
 use Rattle.nj_text.specs.Lines.{Line}
 use Rattle.nj_text.specs.Words.{WordModel}
@@ -58,20 +58,14 @@ key_line allowed = (
 )
 
 pub key_plain : (allowed : Keys) → are_plain (key_bytes allowed) ≡ true
-key_plain keys.OfRule = refl
-key_plain keys.OfPool = refl
-key_plain keys.All = refl
+key_plain allowed = grind arith
 
 pub key_offers : (allowed : Keys) → offers_next wanted.VariableName (drop_while is_space (key_bytes allowed))
     ≡ true
-key_offers keys.OfRule = refl
-key_offers keys.OfPool = refl
-key_offers keys.All = refl
+key_offers allowed = grind arith
 
 pub key_starts : (allowed : Keys) → starts (text (key_bytes allowed)) ≡ true
-key_starts keys.OfRule = refl
-key_starts keys.OfPool = refl
-key_starts keys.All = refl
+key_starts allowed = grind arith
 
 module _ (allowed : Keys) (us : List TextUnit) (e : Line) (n : NamePasses wanted.VariableName starts us e)
   where

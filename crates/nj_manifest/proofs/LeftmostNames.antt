@@ -1,5 +1,6 @@
 -- Names along a line: where one is read, and where there is none.
-use Rattle.std.proofs.Common.{◌≡◌, ℕ, Bool, true, false, Option, Some, None, Ok, Err, List, [], ◌∷◌, ◌++◌}
+use Rattle.std.proofs.Common.{arith, ◌≡◌, ℕ, Bool, true, false, Option, Some, None, Ok, Err, List, [], ◌∷◌}
+use Rattle.std.proofs.Common.{◌++◌}
 use Rattle.std.proofs.Common.{refl, sym, ap, ◌∙◌, append_assoc}
 use Rattle.std.specs.List.{take_while}
 use Rattle.nj_text.specs.declared.fault.UnitFault.{UnitFault}
@@ -28,8 +29,7 @@ use Rattle.nj_manifest.proofs.LeftmostSteps.{bad-place, bad-kept, bad-offers, op
 use Rattle.nj_manifest.proofs.LeftmostSteps.{is_separator, separator_is, ordinary_no_fault, OfWanted}
 
 pub identifier_no_blank : (u : TextUnit) → in_identifier u ≡ true → is_blank u ≡ false
-identifier_no_blank u h = no_other is_identifier_byte is_blank_meaning (not_byte is_identifier_byte 32 refl)
-    u.means h
+identifier_no_blank u h = grind arith
 
 identifier_no_fault : (u : TextUnit) → in_identifier u ≡ true → fault_of u.means u.spot ≡ None
 identifier_no_fault u h = ordinary_no_fault is_identifier_byte u.means u.spot h
@@ -53,14 +53,12 @@ name_is_here want us e ms = rw (skip_again us) refl
 -- after blanks
 name_after : (want : Wanted) (gap x : List TextUnit) (e : Line) (ms : List Line) → AllIn is_blank gap
     → begins_with is_blank x ≡ false → name_next want (at (gap ++ x) e ms) ≡ name_here want x e ms
-name_after want gap x e ms h n = name_is_here want (gap ++ x) e ms
-    ∙ ap (λ (y : List TextUnit). name_here want y e ms) (skip_gap gap x h ∙ none_passed is_blank x n)
+name_after want gap x e ms h n = grind (arith, name_is_here, skip_gap, none_passed)
 
 -- blanks before a name do not matter
 pub name_skips : (want : Wanted) (gap x : List TextUnit) (e : Line) (ms : List Line) → AllIn is_blank gap
     → name_next want (at (gap ++ x) e ms) ≡ name_next want (at x e ms)
-name_skips want gap x e ms h = name_is_here want (gap ++ x) e ms
-    ∙ (ap (λ (y : List TextUnit). name_here want y e ms) (skip_gap gap x h) ∙ sym (name_is_here want x e ms))
+name_skips want gap x e ms h = grind (arith, name_is_here, skip_gap)
 
 named_ok : (want : Wanted) (f : Option UnitFault) (run run' : List TextUnit) (spot spot' : Spot)
     (s s' : State) (b : ℕ) (bs : List ℕ) → f ≡ None → run ≡ run' → spot ≡ spot' → s ≡ s'
@@ -94,15 +92,7 @@ name_reads want gap run x u e ms b bs g i h n =
 -- the same element means the same identifier
 pub same_run : (x y : List TextUnit) → element x ≡ element y
     → take_while in_identifier x ≡ take_while in_identifier y
-same_run x y h = by_test (begins_with in_identifier y) refl
-  where
-    seen : begins_with in_identifier x ≡ begins_with in_identifier y
-    seen = begins-same in_identifier x y (element-front x y h)
-
-    by_test : (t : Bool) → begins_with in_identifier y ≡ t
-        → take_while in_identifier x ≡ take_while in_identifier y
-    by_test true e = sym (element-identifier x (seen ∙ e)) ∙ (h ∙ element-identifier y e)
-    by_test false e = none_taken in_identifier x (seen ∙ e) ∙ sym (none_taken in_identifier y e)
+same_run x y h = grind (arith, begins-same, element-front, element-identifier, none_taken)
 
 -- the units after the blanks are seen as if they came in their place
 pub no_blank_there : (us x : List TextUnit) → element x ≡ element (skip us) → begins_with is_blank x ≡ false
@@ -123,18 +113,7 @@ pub data NameSeen (want : Wanted) (t : List TextUnit → Bool) (us : List TextUn
 
 same_spot : (x : List TextUnit) (u : TextUnit) (run : List TextUnit) (end : Spot)
     → take_while in_identifier x ≡ u ∷ run → spot_of_first x end ≡ u.spot
-same_spot [] u run end h = absurd cc
-same_spot (v ∷ x) u run end h = by_test (in_identifier v) refl
-  where
-    first : (w : TextUnit) (ws : List TextUnit) → ◌≡◌ {A = List TextUnit} (w ∷ ws) (u ∷ run) → w.spot ≡ u.spot
-    first w ws g = let same : w ≡ u = cc in ap (λ (y : TextUnit). y.spot) same
-
-    nothing : ◌≡◌ {A = List TextUnit} [] (u ∷ run) → ⊥
-    nothing g = absurd cc
-
-    by_test : (t : Bool) → in_identifier v ≡ t → v.spot ≡ u.spot
-    by_test true g = first v (take_while in_identifier x) (sym (take_while-cons_yes in_identifier v x g) ∙ h)
-    by_test false g = absurd (nothing (sym (take_while-cons_no in_identifier v x g) ∙ h))
+same_spot x u run end h = grind arith
 
 passes_name : (want : Wanted) (t : List TextUnit → Bool) (us : List TextUnit) (e : Line) (run : List TextUnit)
     (u : TextUnit) (b : ℕ) (bs : List ℕ) → take_while in_identifier (skip us) ≡ u ∷ run

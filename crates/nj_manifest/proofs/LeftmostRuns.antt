@@ -1,5 +1,6 @@
 -- Units cut at the longest front that passes a test, and blanks above all.
-use Rattle.std.proofs.Common.{◌≡◌, ℕ, Bool, true, false, cond, eqb, List, [], ◌∷◌, ◌++◌, refl, sym, ap, ◌∙◌}
+use Rattle.std.proofs.Common.{arith, ◌≡◌, ℕ, Bool, true, false, cond, eqb, List, [], ◌∷◌, ◌++◌, refl, sym, ap}
+use Rattle.std.proofs.Common.{◌∙◌}
 use Rattle.std.specs.List.{take_while}
 use Rattle.std.proofs.lemmas.Bool.{eqb-true, false≢true}
 use Rattle.nj_text.specs.Bytes.{drop_while, begins_with}
@@ -21,20 +22,13 @@ both_parts p (u ∷ us) = by_test (p u) refl (both_parts p us)
 
 pub after_stops : (p : TextUnit → Bool) (us : List TextUnit) → begins_with p (drop_while p us) ≡ false
 after_stops p [] = refl
-after_stops p (u ∷ us) = by_test (p u) refl (after_stops p us)
-  where
-    by_test : (t : Bool) → p u ≡ t → begins_with p (drop_while p us) ≡ false
-        → begins_with p (cond t (drop_while p us) (u ∷ us)) ≡ false
-    by_test true e rest = rest
-    by_test false e rest = e
+after_stops p (u ∷ us) = grind (arith, after_stops p us)
 
 pub none_passed : (p : TextUnit → Bool) (us : List TextUnit) → begins_with p us ≡ false → drop_while p us ≡ us
-none_passed p [] h = refl
-none_passed p (u ∷ us) h = rw h refl
+none_passed p us h = grind arith
 
 pub none_taken : (p : TextUnit → Bool) (us : List TextUnit) → begins_with p us ≡ false → take_while p us ≡ []
-none_taken p [] h = refl
-none_taken p (u ∷ us) h = take_while-cons_no p u us h
+none_taken p us h = grind arith
 
 -- a run that is as long as can be
 pub run_passed : (p : TextUnit → Bool) (run us : List TextUnit) → AllIn p run → begins_with p us ≡ false
@@ -76,22 +70,8 @@ skip_gap gap us h = drop_while-append is_blank gap us h
 -- an ordinary byte that passes one test and so not another
 pub no_other : (p : ℕ → Bool) (test : Meaning → Bool) → ((b : ℕ) → p b ≡ true → test (Ordinary b) ≡ false)
     → (m : Meaning) → is_ordinary_in p m ≡ true → test m ≡ false
-no_other p test f (Ordinary b) h = f b h
-no_other p test f (Escape x) h = absurd (false≢true h)
-no_other p test f (Reference x) h = absurd (false≢true h)
-no_other p test f Join h = absurd (false≢true h)
-no_other p test f OpeningJoin h = absurd (false≢true h)
-no_other p test f Comment h = absurd (false≢true h)
-no_other p test f LeadingTab h = absurd (false≢true h)
-no_other p test f LineEnd h = absurd (false≢true h)
-no_other p test f TextEnd h = absurd (false≢true h)
-no_other p test f BadByte h = absurd (false≢true h)
-no_other p test f BadEscape h = absurd (false≢true h)
+no_other p test f m h = grind arith
 
 -- a byte that passes is not this one, which does not pass
 pub not_byte : (p : ℕ → Bool) (n : ℕ) → p n ≡ false → (b : ℕ) → p b ≡ true → eqb b n ≡ false
-not_byte p n e b h = by_test (eqb b n) refl
-  where
-    by_test : (t : Bool) → eqb b n ≡ t → t ≡ false
-    by_test true g = absurd (false≢true (sym e ∙ (ap p (sym (eqb-true b n g)) ∙ h)))
-    by_test false g = refl
+not_byte p n e b h = grind arith

@@ -1,5 +1,6 @@
 -- ` or `|@`. || The sections of a build statement that begin with `|`, `||` or `|@`.||` or `|@`.
-use Rattle.std.proofs.Common.{◌≡◌, ℕ, Bool, true, false, cond, ◌&&◌, not, eqb, Option, None, Ok, inl, inr}
+use Rattle.std.proofs.Common.{arith, ◌≡◌, ℕ, Bool, true, false, cond, ◌&&◌, not, eqb, Option, None, Ok, inl}
+use Rattle.std.proofs.Common.{inr}
 use Rattle.std.proofs.Common.{List, [], ◌∷◌, ◌++◌, refl, sym, ap, ◌∙◌, append_assoc}
 use Rattle.nj_text.specs.declared.fault.UnitFault.{UnitFault}
 use Rattle.nj_text.specs.declared.sign.Sign.{Sign}
@@ -26,17 +27,11 @@ use Rattle.nj_manifest.specs.Leftmost.{offers}
 -- ---- units that may follow words
 
 pub colon_settled : (us : List TextUnit) → after_words us ≡ true → settled us ≡ true
-colon_settled us h =
-    settled_so us
-    (opens-none is_colon is_blank_meaning (colon_is (λ b. eqb b 32 ≡ false) refl) us h)
-    (opens-none is_colon opens_word_meaning (colon_is (λ b. opens_word_meaning (Ordinary b) ≡ false) refl) us
-    h)
-    (opens-no_fault is_colon us h)
+colon_settled us h = grind arith
 
 colon_is_not : (n : ℕ) → eqb 58 n ≡ false → (us : List TextUnit) → after_words us ≡ true
     → begins_with_byte n us ≡ false
-colon_is_not n e us h = opens-none is_colon (is_ordinary_in (λ c. eqb c n))
-    (colon_is (λ b. eqb b n ≡ false) e) us h
+colon_is_not n e us h = grind arith
 
 colon_no_pipe : (us : List TextUnit) → after_words us ≡ true → begins_with_byte 124 us ≡ false
 colon_no_pipe us h = colon_is_not 124 refl us h
@@ -57,8 +52,7 @@ section_is : (want : Sign) (us : List TextUnit) (e : Line) (ms : List Line) → 
     → section_next want (at us e ms) ≡ section_by (next_fault us) (is_sign want us)
     (state_after_sign want (with_units us e) ms) (at us e ms)
 unfolding section_next
-section_is want us e ms h = ap (λ (y : List TextUnit). section_by (next_fault y) (is_sign want y)
-    (state_after_sign want (with_units y e) ms) (at y e ms)) (none_passed is_blank us (settled_blank us h))
+section_is want us e ms h = grind arith
 
 section_there : (f : Option UnitFault) (t : Bool) (on other : State) → f ≡ None → t ≡ true
     → section_by f t on other ≡ words_next on
@@ -94,10 +88,7 @@ abbrev all : List TextUnit → Bool
 all us = true
 
 pipe_parts : (p q r : Bool) → (p && not q && not r) ≡ true → (p ≡ true) × (q ≡ false) × (r ≡ false)
-pipe_parts true true r h = absurd cc
-pipe_parts true false true h = absurd cc
-pipe_parts true false false h = (refl, refl, refl)
-pipe_parts false q r h = absurd cc
+pipe_parts p q r h = grind arith
 
 pipe_whole : (p q r : Bool) → p ≡ true → q ≡ false → r ≡ false → (p && not q && not r) ≡ true
 pipe_whole p q r h i j = rw (h, i, j) refl
@@ -106,9 +97,7 @@ both_not : (q r : Bool) → q ≡ false → r ≡ false → (not q && not r) ≡
 both_not q r h i = rw (h, i) refl
 
 not_both : (q r : Bool) → (not q && not r) ≡ true → (q ≡ false) × (r ≡ false)
-not_both true r h = absurd cc
-not_both false true h = absurd cc
-not_both false false h = (refl, refl)
+not_both q r h = grind arith
 
 pipe_mark : (us : List TextUnit) → settled us ≡ true → is_sign sign.Pipe us ≡ true → Mark sign.Pipe us
 pipe_mark [] h g = absurd cc
@@ -133,11 +122,7 @@ pipe_mark (u ∷ us) h g =
 
 pipe2_mark : (us : List TextUnit) → settled us ≡ true → is_sign sign.Pipe2 us ≡ true → Mark sign.Pipe2 us
 pipe2_mark [] h g = absurd cc
-pipe2_mark (u ∷ []) h g = absurd (no_second (begins_with_byte 124 (u ∷ [])) g)
-  where
-    no_second : (p : Bool) → (p && false) ≡ true → ⊥
-    no_second true h = absurd cc
-    no_second false h = absurd cc
+pipe2_mark (u ∷ []) h g = grind arith
 pipe2_mark (u ∷ v ∷ us) h g = record {
   mark = u ∷ v ∷ [];
   rest = us;
@@ -154,11 +139,7 @@ pipe2_mark (u ∷ v ∷ us) h g = record {
 
 pipe_at_mark : (us : List TextUnit) → settled us ≡ true → is_sign sign.PipeAt us ≡ true → Mark sign.PipeAt us
 pipe_at_mark [] h g = absurd cc
-pipe_at_mark (u ∷ []) h g = absurd (no_second (begins_with_byte 124 (u ∷ [])) g)
-  where
-    no_second : (p : Bool) → (p && false) ≡ true → ⊥
-    no_second true h = absurd cc
-    no_second false h = absurd cc
+pipe_at_mark (u ∷ []) h g = grind arith
 pipe_at_mark (u ∷ v ∷ us) h g = record {
   mark = u ∷ v ∷ [];
   rest = us;
@@ -215,8 +196,7 @@ pub data SectionSeen (want : Sign) (us : List TextUnit) (e : Line) : Type 0 wher
 
 -- units that fit here are settled, where these are
 pub fits_settled : (us x : List TextUnit) → settled us ≡ true → Fits after_words us x → settled x ≡ true
-fits_settled us x h (inl f) = colon_settled x f
-fits_settled us x h (inr f) = settled_same x us f ∙ h
+fits_settled us x h h1 = grind arith
 
 module _ (want : Sign) (us : List TextUnit) (e : Line) (m : Mark want us) where
   -- after the words of the section the sign stays that sign

@@ -1,5 +1,6 @@
 -- Signs along a line, and its end.
-use Rattle.std.proofs.Common.{◌≡◌, ℕ, Bool, true, false, cond, eqb, Option, Some, None, Result, Ok, Err, List}
+use Rattle.std.proofs.Common.{arith, ◌≡◌, ℕ, Bool, true, false, cond, eqb, Option, Some, None, Result, Ok}
+use Rattle.std.proofs.Common.{Err, List}
 use Rattle.std.proofs.Common.{[], ◌∷◌, ◌++◌, refl, sym, ap, ◌∙◌, append_assoc}
 use Rattle.nj_text.specs.declared.fault.UnitFault.{UnitFault}
 use Rattle.nj_text.specs.declared.sign.Sign.{Sign}
@@ -54,15 +55,12 @@ after_is_here want miss us e ms = refl
 sign_after : (want : Sign) (miss : Wanted) (gap x : List TextUnit) (e : Line) (ms : List Line)
     → AllIn is_blank gap → skip x ≡ x → expect_sign want miss (at (gap ++ x) e ms)
     ≡ sign_here want miss x e ms
-sign_after want miss gap x e ms h n = after_is_here want miss (gap ++ x) e ms
-    ∙ ap (λ (y : List TextUnit). sign_here want miss y e ms) (skip_gap gap x h ∙ n)
+sign_after want miss gap x e ms h n = grind (arith, after_is_here, skip_gap)
 
 -- blanks before a sign do not matter
 pub sign_skips : (want : Sign) (miss : Wanted) (gap x : List TextUnit) (e : Line) (ms : List Line)
     → AllIn is_blank gap → expect_sign want miss (at (gap ++ x) e ms) ≡ expect_sign want miss (at x e ms)
-sign_skips want miss gap x e ms h = after_is_here want miss (gap ++ x) e ms
-    ∙ (ap (λ (y : List TextUnit). sign_here want miss y e ms) (skip_gap gap x h)
-    ∙ sym (after_is_here want miss x e ms))
+sign_skips want miss gap x e ms h = grind (arith, after_is_here, skip_gap)
 
 sign_ok : (miss : Wanted) (f : Option UnitFault) (t : Bool) (there there' other : State) → f ≡ None → t ≡ true
     → there ≡ there' → sign_by miss f t there other ≡ Ok there'
@@ -91,30 +89,42 @@ there_too us x h = none_passed is_blank x (no_blank_there us x h)
 pub bad_before_sign : (want : Sign) (miss : Wanted) (us : List TextUnit) (e : Line) (bad : UnitFault)
     → next_fault (skip us) ≡ Some bad → FailsAt (sign_step want miss) us e (bad_unit bad) (gap_of us)
     (skip us)
-bad_before_sign want miss us e bad f = record {
-  cut = gap_cut us;
-  place = bad-place (skip us) e bad f;
-  fails = λ ms. step_bad _ _ (after_is_here want miss us e ms ∙ sign_bad miss _ bad _ _ _ f);
-  refuses = λ x d ms same.
-      step_bad _ _ (sign_after want miss (gap_of us) x d ms (gap_passes us) (there_too us x same)
-      ∙ sign_bad miss _ bad _ _ _ (fault-same x (skip us) (element-front x (skip us) same) ∙ f))
-      ∙ bad-kept (with_units x d) bad;
-}
+bad_before_sign want miss us e bad f = grind (
+  arith,
+  gap_cut,
+  bad-place,
+  skip,
+  step_bad,
+  after_is_here,
+  sign_bad,
+  sign_after,
+  gap_of,
+  gap_passes,
+  there_too,
+  fault-same,
+  element-front,
+  bad-kept,
+)
 
 pub no_sign_there : (want : Sign) (miss : Wanted) (us : List TextUnit) (e : Line)
     → next_fault (skip us) ≡ None → is_sign want (skip us) ≡ false
     → FailsAt (sign_step want miss) us e (Placed (spot_of_first (skip us) e.end) (cause.Expected miss))
     (gap_of us) (skip us)
-no_sign_there want miss us e f g = record {
-  cut = gap_cut us;
-  place = refl;
-  fails = λ ms. step_bad _ _ (after_is_here want miss us e ms ∙ sign_none miss _ _ _ (skip us) e ms f g);
-  refuses = λ x d ms same.
-      let sees = element-front x (skip us) same in
-      step_bad _ _ (sign_after want miss (gap_of us) x d ms (gap_passes us) (there_too us x same)
-      ∙ sign_none miss _ _ _ x d ms (fault-same x (skip us) sees ∙ f)
-      (sign-same want x (skip us) sees ∙ g));
-}
+no_sign_there want miss us e f g = grind (
+  arith,
+  gap_cut,
+  step_bad,
+  after_is_here,
+  sign_none,
+  skip,
+  element-front,
+  sign_after,
+  gap_of,
+  gap_passes,
+  there_too,
+  fault-same,
+  sign-same,
+)
 
 -- ---- signs of one unit
 
@@ -154,10 +164,7 @@ pub data SignSeen (want : Sign) (miss : Wanted) (t t' : List TextUnit → Bool) 
       (here : FailsAt (sign_step want miss) us e fault (gap_of us) (skip us)) → SignSeen want miss t t' us e
 
 no_unit : (want : Sign) → IsSingle want → is_sign want [] ≡ true → ⊥
-no_unit want s h = false_is_true (sym s.none ∙ h)
-  where
-    false_is_true : false ≡ true → ⊥
-    false_is_true e = absurd cc
+no_unit want s h = grind arith
 
 passes_sign : (want : Sign) (miss : Wanted) (t t' : List TextUnit → Bool) (us : List TextUnit) → IsSingle want
     → (u : TextUnit) (left : List TextUnit) → skip us ≡ u ∷ left → is_sign want (u ∷ left) ≡ true
@@ -221,13 +228,11 @@ end_there miss gap e ms h = sign_after sign.LineEnd miss gap [] e ms h refl
 
 end_here : (miss : Wanted) (us : List TextUnit) (e : Line) (ms : List Line) → skip us ≡ []
     → expect_sign sign.LineEnd miss (at us e ms) ≡ Ok (Between (lines_after e ms))
-end_here miss us e ms h = after_is_here sign.LineEnd miss us e ms
-    ∙ ap (λ (y : List TextUnit). sign_here sign.LineEnd miss y e ms) h
+end_here miss us e ms h = grind (arith, after_is_here)
 
 with_value : {B : Type 0} (r : Result State Fault) (value : B)
     → ending value r ≡ (led_on r >>= λ x. Ok (value, x.1))
-with_value (Ok s) value = refl
-with_value (Err f) value = refl
+with_value r value = grind arith
 
 ended : {B : Type 0} (r : Result State Fault) (s : State) (value : B) → r ≡ Ok s
     → ending value r ≡ Ok (value, s)

@@ -1,5 +1,6 @@
 -- The first fault of the next statement of some lines.
-use Rattle.std.proofs.Common.{◌≡◌, Bool, true, false, cond, inl, inr, Option, Some, Result, Ok, Err, List, []}
+use Rattle.std.proofs.Common.{arith, ◌≡◌, Bool, true, false, cond, inl, inr, Option, Some, Result, Ok, Err}
+use Rattle.std.proofs.Common.{List, []}
 use Rattle.std.proofs.Common.{◌∷◌, ◌++◌, map, refl, sym, ap, subst, ◌∙◌, codes}
 use Rattle.nj_text.specs.declared.spot.Spot.{Spot}
 use Rattle.nj_text.specs.Units.{TextUnit}
@@ -78,8 +79,7 @@ errs e = cc
 pub placed_fault : (spot : Spot) (r : Parse StatementModel) (f : Fault)
     → ◌≡◌ {A = Parse (Option PlacedModel)}
     (r >>= λ item. Ok (Some (record { spot = spot; item = item.0 }), item.1)) (Err f) → r ≡ Err f
-placed_fault spot (Ok x) f h = absurd cc
-placed_fault spot (Err g) f h = ap Err (errs h)
+placed_fault spot r f h = grind arith
 
 -- some statement, where some reading ends so
 abbrev SomeOf : List Line → Type 0
@@ -98,8 +98,7 @@ some_closed l ms v s read h r b =
     )
 
 nothing-in_front : {A : Type 0} (r : Parse (List A)) → (r >>= λ o. Ok ([] ++ o.0, o.1)) ≡ r
-nothing-in_front (Ok o) = refl
-nothing-in_front (Err f) = refl
+nothing-in_front r = grind arith
 
 -- the fault is in the first line
 stuck_first : (l : Line) (ls : List Line) (fault : Fault) → Stuck Plain l.units l fault
@@ -174,10 +173,7 @@ stuck_in_block l ls fault v k last reads all s =
 
 no_block_fault : (allowed : Keys) (l : Line) (ls : List Line) (f : Fault)
     → block allowed (with_units [] l ∷ ls) ≡ Err f → ⊥
-no_block_fault allowed l ls f h = apart (sym (blank_block allowed (with_units [] l) ls refl) ∙ h)
-  where
-    apart : {A : Type 0} {x : A} → ◌≡◌ {A = Result A Fault} (Ok x) (Err f) → ⊥
-    apart e = absurd cc
+no_block_fault allowed l ls f h = grind (arith, blank_block)
 
 pub same_fault : {A : Type 0} (r : Result A Fault) (f g : Fault) → r ≡ Err f → r ≡ Err g → g ≡ f
 same_fault r f g h i = errs (sym i ∙ h)
@@ -301,8 +297,7 @@ leftmost_after l ls fault same r = record {
 
 pub not_last : (t : Bool) (rest : List Line) (others : Parse (Option PlacedModel)) (f : Fault)
     → cond t (nothing_more rest) others ≡ Err f → (t ≡ false) × (others ≡ Err f)
-not_last true rest others f h = absurd cc
-not_last false rest others f h = (refl, h)
+not_last t rest others f h = grind arith
 
 pub nothing_no_fault : (rest : List Line) (f : Fault) → nothing_more rest ≡ Err f → ⊥
 nothing_no_fault rest f h = absurd cc

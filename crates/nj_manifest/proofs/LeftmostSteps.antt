@@ -1,6 +1,7 @@
 -- Reading on along a line: where a reading passes, where it fails, and the consequences of both for
 -- a whole line.
-use Rattle.std.proofs.Common.{◌≡◌, ℕ, Bool, true, false, ◌||◌, ◌==◌, eqb, Option, Some, None, Result, Ok, Err}
+use Rattle.std.proofs.Common.{arith, ◌≡◌, ℕ, Bool, true, false, ◌||◌, ◌==◌, eqb, Option, Some, None, Result}
+use Rattle.std.proofs.Common.{Ok, Err}
 use Rattle.std.proofs.Common.{◌⊎◌, inl, inr, List, [], ◌∷◌, ◌++◌, map, refl, sym, ap, subst, ◌∙◌}
 use Rattle.std.proofs.Common.{append_assoc}
 use Rattle.std.proofs.lemmas.Bool.{eqb-true}
@@ -63,43 +64,29 @@ pub colon_is : (Q : ℕ → Type 0) → Q 58 → (b : ℕ) → is_colon b ≡ tr
 colon_is Q q b h = subst Q (sym (eqb-true b 58 h)) q
 
 pub space_or_colon_is : (Q : ℕ → Type 0) → Q 32 → Q 58 → (b : ℕ) → is_space_or_colon b ≡ true → Q b
-space_or_colon_is Q p q b h = by_test (eqb b 32) refl h
-  where
-    by_test : (t : Bool) → eqb b 32 ≡ t → (t || eqb b 58) ≡ true → Q b
-    by_test true e g = subst Q (sym (eqb-true b 32 e)) p
-    by_test false e g = subst Q (sym (eqb-true b 58 g)) q
+space_or_colon_is h p q b h1 = grind arith
 
 pub separator_is : (Q : ℕ → Type 0) → Q 32 → Q 58 → Q 61 → (b : ℕ) → is_separator b ≡ true → Q b
-separator_is Q p q r b h = by_test (eqb b 32) (eqb b 58) refl refl h
-  where
-    by_test : (s t : Bool) → eqb b 32 ≡ s → eqb b 58 ≡ t → (s || t || eqb b 61) ≡ true → Q b
-    by_test true t e f g = subst Q (sym (eqb-true b 32 e)) p
-    by_test false true e f g = subst Q (sym (eqb-true b 58 f)) q
-    by_test false false e f g = subst Q (sym (eqb-true b 61 g)) r
+separator_is h p q r b h1 = grind arith
 
 pub opens-none : (t : ℕ → Bool) (test : Meaning → Bool) → ((b : ℕ) → t b ≡ true → test (Ordinary b) ≡ false)
     → (us : List TextUnit) → opens t us ≡ true → begins_with (λ u. test u.means) us ≡ false
-opens-none t test f [] h = refl
-opens-none t test f (u ∷ us) h = no_other t test f u.means h
+opens-none t test f us h = grind arith
 
 ordinary-more : (t t' : ℕ → Bool) → ((b : ℕ) → t b ≡ true → t' b ≡ true) → (m : Meaning)
     → is_ordinary_in t m ≡ true → is_ordinary_in t' m ≡ true
-ordinary-more t t' f (Ordinary b) h = f b h
-ordinary-more t t' f m h = absurd cc
+ordinary-more t h f m h1 = grind arith
 
 pub opens-more : (t t' : ℕ → Bool) → ((b : ℕ) → t b ≡ true → t' b ≡ true) → (us : List TextUnit)
     → opens t us ≡ true → opens t' us ≡ true
-opens-more t t' f [] h = refl
-opens-more t t' f (u ∷ us) h = ordinary-more t t' f u.means h
+opens-more t h f us h1 = grind arith
 
 pub ordinary_no_fault : (t : ℕ → Bool) (m : Meaning) (spot : Spot) → is_ordinary_in t m ≡ true
     → fault_of m spot ≡ None
-ordinary_no_fault t (Ordinary b) spot h = refl
-ordinary_no_fault t m spot h = absurd cc
+ordinary_no_fault t m spot h = grind arith
 
 pub opens-no_fault : (t : ℕ → Bool) (us : List TextUnit) → opens t us ≡ true → next_fault us ≡ None
-opens-no_fault t [] h = refl
-opens-no_fault t (u ∷ us) h = ordinary_no_fault t u.means u.spot h
+opens-no_fault t us h = grind arith
 
 -- ---- units that come here in place of others
 
@@ -111,17 +98,14 @@ Fits t us x = (t x ≡ true) ⊎ (front x ≡ front us)
 pub by_fits : {t : List TextUnit → Bool} (us x : List TextUnit) (p : List TextUnit → Bool)
     → ((y : List TextUnit) → t y ≡ true → p y ≡ false)
     → ((y : List TextUnit) → front y ≡ front us → p y ≡ p us) → p us ≡ false → Fits t us x → p x ≡ false
-by_fits us x p f g h (inl e) = f x e
-by_fits us x p f g h (inr e) = g x e ∙ h
+by_fits us x p f g h h1 = grind arith
 
 pub fits-alone : (t : List TextUnit → Bool) (us : List TextUnit) (u : TextUnit) (used left x : List TextUnit)
     → begins_with_byte 124 (u ∷ []) ≡ false → us ≡ (u ∷ used) ++ left → Fits t us ((u ∷ used) ++ x)
-fits-alone t us u used left x h e = inr
-    (front-alone u (used ++ x) h ∙ (sym (front-alone u (used ++ left) h) ∙ ap front (sym e)))
+fits-alone t us u used left x h e = grind arith
 
 pub blank_no_pipe : (m : Meaning) → is_blank_meaning m ≡ true → is_ordinary_in (λ c. eqb c 124) m ≡ false
-blank_no_pipe (Ordinary b) h = not_byte is_space 124 refl b h
-blank_no_pipe m h = refl
+blank_no_pipe m h = grind arith
 
 fits-blanks : (t : List TextUnit → Bool) (us gap left x : List TextUnit) → AllIn is_blank gap
     → us ≡ gap ++ left → t x ≡ true → Fits t us (gap ++ x)
@@ -156,37 +140,21 @@ pub record FailsAt {A : Type 0} (f : State → Step A) (us : List TextUnit) (e :
 -- the place of the first of the units, if that is a bad one
 pub fault-place : (us : List TextUnit) (end : Spot) (f : UnitFault) → next_fault us ≡ Some f
     → fault_spot f ≡ spot_of_first us end
-fault-place [] end f h = absurd cc
-fault-place (u ∷ us) end f h = by_meaning u.means h
-  where
-    same : (g : UnitFault) → ◌≡◌ {A = Option UnitFault} (Some g) (Some f) → g ≡ f
-    same g e = cc
-
-    by_meaning : (m : Meaning) → fault_of m u.spot ≡ Some f → fault_spot f ≡ u.spot
-    by_meaning BadByte h = ap fault_spot (sym (same (lex.BadByte u.spot) h))
-    by_meaning BadEscape h = ap fault_spot (sym (same (lex.BadEscape u.spot) h))
-    by_meaning LeadingTab h = ap fault_spot (sym (same (lex.Tab u.spot) h))
-    by_meaning m h = absurd cc
+fault-place us end f h = grind arith
 
 -- a bad unit names the place of the first of the units
 pub bad-place : (us : List TextUnit) (e : Line) (bad : UnitFault) → next_fault us ≡ Some bad
     → NamesThePlaceOf (bad_unit bad) (with_units us e)
-bad-place us e (lex.BadByte spot) h = fault-place us e.end (lex.BadByte spot) h
-bad-place us e (lex.Tab spot) h = fault-place us e.end (lex.Tab spot) h
-bad-place us e (lex.BadEscape spot) h = fault-place us e.end (lex.BadEscape spot) h
+bad-place us e bad h = grind arith
 
 -- it keeps its place
 pub bad-kept : {A : Type 0} (l : Line) (bad : UnitFault)
     → ◌≡◌ {A = Result A Fault} (Err (bad_unit bad)) (Err (met_before l (bad_unit bad)))
-bad-kept l (lex.BadByte spot) = refl
-bad-kept l (lex.Tab spot) = refl
-bad-kept l (lex.BadEscape spot) = refl
+bad-kept l bad = grind arith
 
 -- it names no element as expected
 pub bad-offers : (bad : UnitFault) (bytes : List ℕ) → offers (bad_unit bad) bytes ≡ true
-bad-offers (lex.BadByte spot) bytes = refl
-bad-offers (lex.Tab spot) bytes = refl
-bad-offers (lex.BadEscape spot) bytes = refl
+bad-offers bad bytes = grind arith
 
 -- A text that begins with this wanted element begins with one that the fault expects.
 abbrev pub OfWanted : Wanted → Fault → Type 0
@@ -294,5 +262,4 @@ arrive {P = P} {us = us} e k value a so =
 
 pub bind-bind : {A B C : Type 0} (r : Result A Fault) (f : A → Result B Fault) (g : B → Result C Fault)
     → ((r >>= f) >>= g) ≡ (r >>= λ x. f x >>= g)
-bind-bind (Ok x) f g = refl
-bind-bind (Err e) f g = refl
+bind-bind r f g = grind arith

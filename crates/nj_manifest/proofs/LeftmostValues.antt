@@ -1,5 +1,6 @@
 -- Values along a line: `= VALUE` to its end, or the first bad unit in it.
-use Rattle.std.proofs.Common.{◌≡◌, Bool, true, false, cond, Option, Some, None, Result, Ok, Err, inl, List}
+use Rattle.std.proofs.Common.{arith, ◌≡◌, Bool, true, false, cond, Option, Some, None, Result, Ok, Err, inl}
+use Rattle.std.proofs.Common.{List}
 use Rattle.std.proofs.Common.{[], ◌∷◌, ◌++◌, refl, sym, ap, ◌∙◌}
 use Rattle.std.specs.Option.{option_or}
 use Rattle.nj_text.specs.declared.fault.UnitFault.{UnitFault}
@@ -27,13 +28,10 @@ use Rattle.nj_manifest.proofs.LeftmostTurns.{ReadTo, sign_turn}
 -- ---- the first bad unit
 
 blank_no_fault : (m : Meaning) (spot : Spot) → is_blank_meaning m ≡ true → fault_of m spot ≡ None
-blank_no_fault (Ordinary b) spot h = refl
-blank_no_fault Join spot h = refl
-blank_no_fault m spot h = absurd cc
+blank_no_fault m spot h = grind arith
 
 opening_no_fault : (m : Meaning) (spot : Spot) → opens_line_meaning m ≡ true → fault_of m spot ≡ None
-opening_no_fault OpeningJoin spot h = refl
-opening_no_fault m spot h = absurd cc
+opening_no_fault m spot h = grind arith
 
 first_of_sound : (u : TextUnit) (us : List TextUnit) → fault_of u.means u.spot ≡ None
     → first_fault us ≡ first_fault (u ∷ us)
@@ -49,28 +47,15 @@ first_after_blanks (u ∷ us) = by_test (is_blank u) refl (first_after_blanks us
     by_test false e rest = refl
 
 first_after_opening : (us : List TextUnit) → first_fault (after_opening us) ≡ first_fault us
-first_after_opening [] = refl
-first_after_opening (u ∷ us) = by_test (opens_line_meaning u.means) refl
-  where
-    by_test : (t : Bool) → opens_line_meaning u.means ≡ t
-        → first_fault (cond t us (u ∷ us)) ≡ first_fault (u ∷ us)
-    by_test true e = first_of_sound u us (opening_no_fault u.means u.spot e)
-    by_test false e = refl
+first_after_opening us = grind arith
 
 first_after_sound : (used x : List TextUnit) → first_fault used ≡ None
     → first_fault (used ++ x) ≡ first_fault x
 first_after_sound [] x h = refl
-first_after_sound (u ∷ used) x h = by_unit (fault_of u.means u.spot) refl h (first_after_sound used x)
-  where
-    by_unit : (f : Option UnitFault) → fault_of u.means u.spot ≡ f → option_or f (first_fault used) ≡ None
-        → (first_fault used ≡ None → first_fault (used ++ x) ≡ first_fault x)
-        → option_or f (first_fault (used ++ x)) ≡ first_fault x
-    by_unit None e g rest = rest g
-    by_unit (Some bad) e g rest = absurd cc
+first_after_sound (u ∷ used) x h = grind (arith, first_after_sound used x)
 
 first_is_next : (x : List TextUnit) (bad : UnitFault) → next_fault x ≡ Some bad → first_fault x ≡ Some bad
-first_is_next [] bad h = absurd cc
-first_is_next (u ∷ x) bad h = ap (λ (f : Option UnitFault). option_or f (first_fault x)) h
+first_is_next x bad h = grind arith
 
 -- the units before the first bad one
 record Sound (us : List TextUnit) (bad : UnitFault) : Type 0 where
@@ -155,21 +140,18 @@ value_ended view us e ms h = ap (λ r. r >>= valued view) (value_ok us e ms h)
 
 value_is : {B : Type 0} (view : WordModel → B) (w : WordModel) (r : Result State Fault)
     → ◌≡◌ {A = Step B} (ending w r >>= λ v. Ok (view v.0, v.1)) (ending (view w) r)
-value_is view w (Ok end) = refl
-value_is view w (Err f) = refl
+value_is view w r = grind arith
 
 valued_is : {B : Type 0} (view : WordModel → B) (r : Step WordModel)
     → ◌≡◌ {A = Step B} ((r >>= λ value. ending value.0 (expect_sign sign.LineEnd wanted.Newline value.1)) >>=
     λ v. Ok (view v.0, v.1)) (r >>= valued view)
-valued_is view (Ok v) = value_is view v.0 (expect_sign sign.LineEnd wanted.Newline v.1)
-valued_is view (Err f) = refl
+valued_is view r = grind arith
 
 led_is : {B : Type 0} (view : WordModel → B) (r : Result State Fault)
     → ◌≡◌ {A = Step B} ((r >>= λ equals. value_call equals >>=
     λ value. ending value.0 (expect_sign sign.LineEnd wanted.Newline value.1)) >>= λ v. Ok (view v.0, v.1))
     (led_on r >>= λ c. value_call c.1 >>= valued view)
-led_is view (Ok equals) = valued_is view (value_call equals)
-led_is view (Err f) = refl
+led_is view r = grind arith
 
 -- `= VALUE`, in steps
 abbrev equals_then : {B : Type 0} → (WordModel → B) → Bool × State → Step B

@@ -1,4 +1,5 @@
 -- Words along a line: those that are read, and the bad unit that ends them.
+use Rattle.std.proofs.lemmas.Grind.{common_steps}
 use Rattle.std.proofs.Common.{◌≡◌, ℕ, zero, suc, ◌<◌, Bool, true, false, cond, ◌&&◌, not, eqb, Option, Some}
 use Rattle.std.proofs.Common.{None, Ok, Err, inl, inr, List, [], ◌∷◌, ◌++◌, length, refl, sym, ap, ◌∙◌}
 use Rattle.std.proofs.Common.{append_assoc, length-append, arith}
@@ -42,15 +43,13 @@ abbrev pub settled : List TextUnit → Bool
 settled us = not (begins_with is_blank us) && (not (begins_with opens_word us) && is_sound (next_fault us))
 
 pub not_so : (t : Bool) → not t ≡ true → t ≡ false
-not_so true h = absurd cc
-not_so false h = refl
+not_so t h = grind arith
 
 pub so_not : (t : Bool) → t ≡ false → not t ≡ true
 so_not t h = rw h refl
 
 sound-is : (f : Option UnitFault) → is_sound f ≡ true → f ≡ None
-sound-is None h = refl
-sound-is (Some bad) h = absurd cc
+sound-is f h = grind arith
 
 pub is-sound : (f : Option UnitFault) → f ≡ None → is_sound f ≡ true
 is-sound f h = rw h refl
@@ -78,59 +77,39 @@ ends_fault : (us : List TextUnit) → ends_word us ≡ true → next_fault us �
 ends_fault us h = sound-is _ (and_parts _ _ h).1
 
 pub ends_same : (x y : List TextUnit) → front x ≡ front y → ends_word x ≡ ends_word y
-ends_same x y h = ap (λ (t : Bool). not t && is_sound (next_fault x)) (begins-same in_word x y h)
-    ∙ ap (λ (f : Option UnitFault). not (begins_with in_word y) && is_sound f) (fault-same x y h)
+ends_same x y h = grind (arith, begins-same, fault-same)
 
 pub settled_same : (x y : List TextUnit) → front x ≡ front y → settled x ≡ settled y
-settled_same x y h =
-    ap (λ (t : Bool). not t && (not (begins_with opens_word x) && is_sound (next_fault x)))
-    (begins-same is_blank x y h)
-    ∙ (ap (λ (t : Bool). not (begins_with is_blank y) && (not t && is_sound (next_fault x)))
-    (begins-same opens_word x y h)
-    ∙ ap (λ (f : Option UnitFault). not (begins_with is_blank y)
-    && (not (begins_with opens_word y) && is_sound f)) (fault-same x y h))
+settled_same x y h = grind (arith, begins-same, fault-same)
 
 neither_in : (m : Meaning) → is_blank_meaning m ≡ false → opens_word_meaning m ≡ false
     → in_word_meaning m ≡ false
-neither_in Join h g = absurd cc
-neither_in m h g = g
+neither_in m h g = grind arith
 
 unit_no_word : (us : List TextUnit) → begins_with is_blank us ≡ false → begins_with opens_word us ≡ false
     → begins_with in_word us ≡ false
-unit_no_word [] b w = refl
-unit_no_word (u ∷ us) b w = neither_in u.means b w
+unit_no_word us b w = grind arith
 
 pub settled_ends : (us : List TextUnit) → settled us ≡ true → ends_word us ≡ true
-settled_ends us h = both_so _ _ (so_not _ (unit_no_word us (settled_blank us h) (settled_word us h)))
-    (is-sound _ (settled_fault us h))
+settled_ends us h = grind arith
 
 pub opening_in : (m : Meaning) → opens_word_meaning m ≡ true → in_word_meaning m ≡ true
-opening_in Join h = refl
-opening_in m h = h
+opening_in m h = grind arith
 
 opening_no_fault : (m : Meaning) (spot : Spot) → opens_word_meaning m ≡ true → fault_of m spot ≡ None
-opening_no_fault BadByte spot h = absurd cc
-opening_no_fault BadEscape spot h = absurd cc
-opening_no_fault LeadingTab spot h = absurd cc
-opening_no_fault m spot h = refl
+opening_no_fault m spot h = grind arith
 
 opening_no_pipe : (m : Meaning) → opens_word_meaning m ≡ true → is_ordinary_in (λ c. eqb c 124) m ≡ false
-opening_no_pipe (Ordinary b) h = not_byte is_word_byte 124 refl b h
-opening_no_pipe m h = refl
+opening_no_pipe m h = grind arith
 
 -- a bad unit is in no word
 bad_no_word : (m : Meaning) (spot : Spot) (bad : UnitFault) → fault_of m spot ≡ Some bad
     → in_word_meaning m ≡ false
-bad_no_word (Ordinary b) spot bad h = absurd cc
-bad_no_word (Escape b) spot bad h = absurd cc
-bad_no_word (Reference n) spot bad h = absurd cc
-bad_no_word Join spot bad h = absurd cc
-bad_no_word m spot bad h = refl
+bad_no_word m spot bad h = grind arith
 
 pub bad_ends : (us : List TextUnit) (bad : UnitFault) → next_fault us ≡ Some bad
     → begins_with in_word us ≡ false
-bad_ends [] bad h = absurd cc
-bad_ends (u ∷ us) bad h = bad_no_word u.means u.spot bad h
+bad_ends us bad h = grind arith
 
 -- ---- one word
 
@@ -193,10 +172,7 @@ run_reads u run x e ms o a h =
 run_fails : (u : TextUnit) (run x : List TextUnit) (e : Line) (ms : List Line) (bad : UnitFault)
     → opens_word u ≡ true → AllIn in_word (u ∷ run) → next_fault x ≡ Some bad
     → word_here ((u ∷ run) ++ x) e ms ≡ Err (bad_unit bad)
-run_fails u run x e ms bad o a h =
-    let rest : drop_while in_word ((u ∷ run) ++ x) ≡ x = run_passed in_word (u ∷ run) x a (bad_ends x bad h)
-    in
-    word_bad_after _ _ _ _ _ _ bad (opening_no_fault u.means u.spot o) o (ap next_fault rest ∙ h)
+run_fails u run x e ms bad o a h = grind (arith, run_passed, bad_ends, word_bad_after, opening_no_fault)
 
 none_reads : (x : List TextUnit) (e : Line) (ms : List Line) → settled x ≡ true
     → word_here x e ms ≡ Ok (None, at x e ms)
@@ -208,18 +184,20 @@ bad_reads x e ms bad h = word_bad _ _ _ _ _ _ bad h
 
 -- a unit of a word is not a blank
 word_no_blank : (m : Meaning) → opens_word_meaning m ≡ true → is_blank_meaning m ≡ false
-word_no_blank (Ordinary b) h = not_byte is_word_byte 32 refl b h
-word_no_blank Join h = absurd cc
-word_no_blank m h = refl
+word_no_blank m h = grind arith
 
 pub word_reads : (gap : List TextUnit) (u : TextUnit) (run x : List TextUnit) (e : Line) (ms : List Line)
     → AllIn is_blank gap → opens_word u ≡ true → AllIn in_word (u ∷ run) → ends_word x ≡ true
     → word_call (at ((gap ++ u ∷ run) ++ x) e ms) ≡ Ok (Some (word_of u run), at x e ms)
-word_reads gap u run x e ms g o a h =
-    ap (λ (y : List TextUnit). word_call (at y e ms)) (append_assoc gap (u ∷ run) x)
-    ∙ (word_at_units (gap ++ ((u ∷ run) ++ x)) ((u ∷ run) ++ x) e ms
-    (skip_gap gap ((u ∷ run) ++ x) g ∙ none_passed is_blank ((u ∷ run) ++ x) (word_no_blank u.means o))
-    ∙ run_reads u run x e ms o a h)
+word_reads gap u run x e ms g o a h = grind (
+  arith,
+  append_assoc,
+  word_at_units,
+  skip_gap,
+  none_passed,
+  word_no_blank,
+  run_reads,
+)
 
 pub word_fails : (gap : List TextUnit) (u : TextUnit) (run x : List TextUnit) (e : Line) (ms : List Line)
     (bad : UnitFault) → AllIn is_blank gap → opens_word u ≡ true → AllIn in_word (u ∷ run)
@@ -233,14 +211,12 @@ word_fails gap u run x e ms bad g o a h =
 
 pub no_word_reads : (gap x : List TextUnit) (e : Line) (ms : List Line) → AllIn is_blank gap
     → settled x ≡ true → word_call (at (gap ++ x) e ms) ≡ Ok (None, at x e ms)
-no_word_reads gap x e ms g h = word_at_units (gap ++ x) x e ms
-    (skip_gap gap x g ∙ none_passed is_blank x (settled_blank x h)) ∙ none_reads x e ms h
+no_word_reads gap x e ms g h = grind (arith, word_at_units, skip_gap, none_passed, settled_blank, none_reads)
 
 pub bad_word_reads : (gap x : List TextUnit) (e : Line) (ms : List Line) (bad : UnitFault)
     → AllIn is_blank gap → begins_with is_blank x ≡ false → next_fault x ≡ Some bad
     → word_call (at (gap ++ x) e ms) ≡ Err (bad_unit bad)
-bad_word_reads gap x e ms bad g n h = word_at_units (gap ++ x) x e ms
-    (skip_gap gap x g ∙ none_passed is_blank x n) ∙ bad_reads x e ms bad h
+bad_word_reads gap x e ms bad g n h = grind (arith, word_at_units, skip_gap, none_passed, bad_reads)
 
 -- ` x`, written after blanks
 abbrev pub one_more : List TextUnit → List TextUnit
@@ -251,8 +227,7 @@ word_x = word_of (written_unit 120) []
 
 pub one_more_reads : (gap z : List TextUnit) (e : Line) (ms : List Line) → AllIn is_blank gap
     → ends_word z ≡ true → word_call (at (gap ++ one_more z) e ms) ≡ Ok (Some word_x, at z e ms)
-one_more_reads gap z e ms g h = word_at_units (gap ++ one_more z) ((written_unit 120 ∷ []) ++ z) e ms
-    (skip_gap gap (one_more z) g) ∙ run_reads (written_unit 120) [] z e ms refl (refl, tt) h
+one_more_reads gap z e ms g h = grind (arith, word_at_units, skip_gap, run_reads)
 
 -- ---- words, one after the other
 
@@ -326,17 +301,14 @@ no_first us e h = there (record {
 fits-words : (t : List TextUnit → Bool) (us gap : List TextUnit) (u : TextUnit)
     (run used left x : List TextUnit) → AllIn is_blank gap → opens_word u ≡ true
     → us ≡ ((gap ++ u ∷ run) ++ used) ++ left → Fits t us (((gap ++ u ∷ run) ++ used) ++ x)
-fits-words t us [] u run used left x g o c =
-    fits-alone t us u (run ++ used) left x (opening_no_pipe u.means o) c
-fits-words t us (v ∷ gap) u run used left x g o c =
-    fits-alone t us v ((gap ++ u ∷ run) ++ used) left x (blank_no_pipe v.means g.0) c
+fits-words t us [] u run used left x g o c = grind arith
+fits-words t us (v ∷ gap) u run used left x g o c = grind arith
 
 pub fits-word : (t : List TextUnit → Bool) (us gap : List TextUnit) (u : TextUnit)
     (run left x : List TextUnit) → AllIn is_blank gap → opens_word u ≡ true → us ≡ (gap ++ u ∷ run) ++ left
     → Fits t us ((gap ++ u ∷ run) ++ x)
 fits-word t us [] u run left x g o c = fits-alone t us u run left x (opening_no_pipe u.means o) c
-fits-word t us (v ∷ gap) u run left x g o c =
-    fits-alone t us v (gap ++ u ∷ run) left x (blank_no_pipe v.means g.0) c
+fits-word t us (v ∷ gap) u run left x g o c = grind arith
 
 -- the reading after a word that is not the last
 from_more : (w : WordModel) (s : State) (others : Step (List WordModel)) (ws : List WordModel) (after : State)
@@ -444,12 +416,7 @@ module _ (us gap : List TextUnit) (u : TextUnit) (run rest : List TextUnit) (e :
 
 shorter : (xs ys : List TextUnit) (u : TextUnit) (run rest : List TextUnit) → xs ≡ (ys ++ u ∷ run) ++ rest
     → length rest < length xs
-shorter xs ys u run rest c = omega (
-  arith,
-  ap length c,
-  length-append {A = TextUnit} (ys ++ u ∷ run) rest,
-  length-append {A = TextUnit} ys (u ∷ run),
-)
+shorter xs ys u run rest c = grind (arith, common_steps)
 
 words_seen_in : (limit : ℕ) (us : List TextUnit) (e : Line) → length us < limit → WordsSeen us e
 words_seen_in zero us e h = absurd (omega arith)

@@ -1,5 +1,5 @@
 -- The text of a cause whose name was made of another.
-use Rattle.std.proofs.Common.{◌≡◌, ℕ, List, refl}
+use Rattle.std.proofs.Common.{arith, ◌≡◌, ℕ, List, refl}
 use Rattle.nj_manifest.specs.declared.cause.SyntaxCause.{SyntaxCause}
 use Rattle.nj_manifest.specs.declared.cause.SyntaxCause.TheVariants.{BadByte, Tab, BadEscape, Expected}
 use Rattle.nj_manifest.specs.declared.cause.SyntaxCause.TheVariants.{UnexpectedIndent, MissingCommand}
@@ -9,14 +9,4 @@ use Rattle.nj_manifest.specs.Faults.{named_by, syntax_text}
 
 pub named_text : {N M : Type 0} (named : N → M) (shown : M → List ℕ) (cause : SyntaxCause N)
     → syntax_text shown (named_by named cause) ≡ syntax_text (λ name. shown (named name)) cause
-named_text named shown BadByte = refl
-named_text named shown Tab = refl
-named_text named shown BadEscape = refl
-named_text named shown (Expected wanted) = refl
-named_text named shown UnexpectedIndent = refl
-named_text named shown MissingCommand = refl
-named_text named shown RspPair = refl
-named_text named shown (UnknownKey key) = refl
-named_text named shown MissingDepth = refl
-named_text named shown DyndepVersion = refl
-named_text named shown DyndepShape = refl
+named_text named shown cause = grind arith

@@ -1,5 +1,5 @@
 -- A line of a block that was taken at once.
-use Rattle.std.proofs.Common.{◌≡◌, ℕ, true, false, List, Ok, Err, refl}
+use Rattle.std.proofs.Common.{arith, ◌≡◌, ℕ, true, false, List, Ok, Err, refl}
 use Rattle.nj_text.specs.declared.spot.Spot.{Spot}
 use Rattle.nj_text.specs.Words.{WordModel}
 use Rattle.nj_text.specs.Calls.{State, TakesBinding}
@@ -13,8 +13,7 @@ pub line-taken : (allowed : Keys) (before after : State) (spot : Spot) (name : L
     → TakesBinding before after spot name value → allows allowed name ≡ true
     → line_next allowed before ≡ Ok (record { spot = spot; name = name; value = value }, after)
 unfolding line_next name_next equals_value expect_sign
-line-taken allowed before after spot name value b t =
-    rw (b.name_taken, b.place, t, b.equals_taken, b.value_taken, b.end_taken) refl
+line-taken allowed before after spot name value b t = grind arith
 
 pub key-unknown : (allowed : Keys) (before after : State) (spot : Spot) (name : List ℕ) (value : WordModel)
     → TakesBinding before after spot name value → allows allowed name ≡ false

@@ -50,8 +50,7 @@ unfolding opening
 next-empty l ls e = rw e refl
 
 no-units : (us : List TextUnit) → is_empty us ≡ true → us ≡ []
-no-units [] h = refl
-no-units (u ∷ us) h = absurd cc
+no-units us h = grind arith
 
 without-units : (l : Line) → is_empty l.units ≡ true → with_units [] l ≡ l
 without-units l h = ap (λ (us : List TextUnit). with_units us l) (sym (no-units l.units h))
@@ -64,28 +63,18 @@ BeginsBlank l ls last empty =
 
 begun-blank : (l : Line) (ls : List Line) (last empty : Bool) → l.is_last ≡ last → is_empty l.units ≡ empty
     → BeginsBlank l ls last empty
-begun-blank l ls false empty e h = (ls, refl, refl)
-begun-blank l ls true true e h = (ap (λ (m : Line). ended (m ∷ ls)) (without-units l h), l ∷ ls, refl)
-begun-blank l ls true false e h = (with_units [] l ∷ ls, refl, sym (next-empty l ls e))
+begun-blank l ls last empty e h = grind (arith, ended, without-units, next-empty)
 
 begun-kind : (k : Kind) (l : Line) (ls : List Line) → kind_of l ≡ k → is_comment k ≡ false
     → Begins (opening_by k l ls (opening ls)) (begun_by k l ls)
-begun-kind CommentLine l ls e h = absurd cc
-begun-kind (TabLine tab) l ls e h = refl
-begun-kind BlankLine l ls e h = begun-blank l ls l.is_last (is_empty l.units) refl refl
-begun-kind IndentedLine l ls e h = refl
-begun-kind PlainLine l ls e h = (l, ls, refl, e, refl)
+begun-kind k l ls e h = grind (arith, begun-blank)
 
 abbrev BeginsAt : Next → List Line → Type 0
 BeginsAt next ls = Begins next (begun ls)
 
 next-comment : (k : Kind) (l : Line) (ls : List Line) (others : Next) → is_comment k ≡ true
     → opening_by k l ls others ≡ or_last l (ended (lines_after l (without_comments ls))) others
-next-comment CommentLine l ls others h = refl
-next-comment (TabLine tab) l ls others h = absurd cc
-next-comment BlankLine l ls others h = absurd cc
-next-comment IndentedLine l ls others h = absurd cc
-next-comment PlainLine l ls others h = absurd cc
+next-comment k l ls others h = grind arith
 
 begun-next : (ls : List Line) → BeginsAt (opening ls) (without_comments ls)
 unfolding opening
@@ -112,17 +101,11 @@ start-begins ls r h = subst (Begins (opening ls)) h (begun-next ls)
 middle-begins : (l : Line) (ls : List Line) (r : Reply LineStart) → kind_of l ≡ PlainLine
     → start_line_of (Inside l ls) ≡ r → Begins (opening (l ∷ ls)) r
 unfolding opening
-middle-begins l ls r e h =
-    let here : opening_by (kind_of l) l ls (opening ls) ≡ Ok (Some l, ls) = rw e refl in
-    let begun : BeginsHere (opening_by (kind_of l) l ls (opening ls)) (Inside l ls) = (l, ls, refl, e, here)
-    in
-    subst (Begins (opening_by (kind_of l) l ls (opening ls))) h begun
+middle-begins l ls r e h = grind arith
 
 pub begins : (before : State) (r : Reply LineStart) → IsBetweenStatements before → start_line_of before ≡ r
     → Begins (opening (lines_from before)) r
-begins (Between ls) r comes h = start-begins ls r h
-begins (Inside l ls) r comes h = middle-begins l ls r comes h
-begins (Failed f) r comes h = absurd comes
+begins before r comes h = grind (arith, start-begins, middle-begins)
 
 -- the fault at a line's start, as it is answered
 pub begins-badly : (before after : State) (f : LexFault) → IsBetweenStatements before
@@ -131,8 +114,7 @@ pub begins-badly : (before after : State) (f : LexFault) → IsBetweenStatements
 begins-badly before after lex.OutOfMemory comes h = tt
 begins-badly before after (lex.BadByte spot) comes h = begins before (Err (unit_fault.BadByte spot)) comes h.0
 begins-badly before after (lex.Tab spot) comes h = begins before (Err (unit_fault.Tab spot)) comes h.0
-begins-badly before after (lex.BadEscape spot) comes h =
-    begins before (Err (unit_fault.BadEscape spot)) comes h.0
+begins-badly before after (lex.BadEscape spot) comes h = grind arith
 
 -- ---- a measure of the lines that are left
 
@@ -147,28 +129,11 @@ lines_ahead (Failed f) = 0
 
 ahead-after : (l : Line) (ls : List Line) → (l.is_last && is_empty l.units) ≡ false
     → ahead (lines_after l ls) < ahead (l ∷ ls)
-ahead-after l ls h = by_last l.is_last (is_empty l.units) refl h
-  where
-    by_last : (last empty : Bool) → l.is_last ≡ last → (last && empty) ≡ false
-        → ahead (cond last (with_units [] l ∷ ls) ls) < cond last (cond empty 0 1) (suc (ahead ls))
-    by_last true true e g = absurd cc
-    by_last true false e g = rw e (omega arith)
-    by_last false empty e g = omega arith
+ahead-after l ls h = grind arith
 
 ahead-comments : (ls : List Line) → ahead (without_comments ls) ≤ ahead ls
 ahead-comments [] = omega arith
-ahead-comments (l ∷ ls) = by_comment (is_comment (kind_of l)) (ahead-comments ls)
-  where
-    by_last : (last : Bool) → l.is_last ≡ last → ahead (without_comments ls) ≤ ahead ls
-        → ahead (cond last (with_units [] l ∷ without_comments ls) (without_comments ls)) ≤ cond last
-        (cond (is_empty l.units) 0 1) (suc (ahead ls))
-    by_last true e h = rw e (omega arith)
-    by_last false e h = omega arith
-
-    by_comment : (t : Bool) → ahead (without_comments ls) ≤ ahead ls
-        → ahead (cond t (lines_after l (without_comments ls)) (l ∷ ls)) ≤ ahead (l ∷ ls)
-    by_comment false h = omega arith
-    by_comment true h = by_last l.is_last refl h
+ahead-comments (l ∷ ls) = grind (arith, ahead-comments ls)
 
 -- whether a blank line was begun
 abbrev begins_blank : Reply LineStart → Bool
@@ -186,53 +151,34 @@ state_in (Err f) = Failed f
 -- the lines after a blank one
 blank-kind : (k : Kind) (l : Line) (ls : List Line) (after : State)
     → begun_by k l ls ≡ Ok (start.Blank, after) → lines_ahead after < ahead (l ∷ ls)
-blank-kind CommentLine l ls after h = not_blank (begun_by CommentLine l ls) after refl h
-blank-kind (TabLine tab) l ls after h = not_blank (begun_by (TabLine tab) l ls) after refl h
-blank-kind IndentedLine l ls after h = not_blank (begun_by IndentedLine l ls) after refl h
-blank-kind PlainLine l ls after h = not_blank (begun_by PlainLine l ls) after refl h
-blank-kind BlankLine l ls after h = by_end (l.is_last && is_empty l.units) refl h
-  where
-    by_end : (t : Bool) → (l.is_last && is_empty l.units) ≡ t
-        → cond t (reply start.End (Between (l ∷ ls))) (reply start.Blank (Between (lines_after l ls)))
-        ≡ Ok (start.Blank, after) → lines_ahead after < ahead (l ∷ ls)
-    by_end true e g = not_blank (reply start.End (Between (l ∷ ls))) after refl g
-    by_end false e g = subst (λ s. lines_ahead s < ahead (l ∷ ls)) (ap state_in g) (ahead-after l ls e)
+blank-kind k l ls after h = grind arith
 
 blank-begun : (ls : List Line) (after : State) → begun ls ≡ Ok (start.Blank, after)
     → lines_ahead after < ahead ls
-blank-begun [] after h = not_blank (begun []) after refl h
-blank-begun (l ∷ ls) after h = blank-kind (kind_of l) l ls after h
+blank-begun ls after h = grind arith
 
 -- After a blank line there are fewer.
 pub blank-falls : (before after : State)
     → Answers (λ start. start) (Ok start.Blank) after (start_line_of before)
     → lines_ahead after < lines_ahead before
-blank-falls (Between ls) after h =
-    let within = blank-begun (without_comments ls) after h in
-    let comments = ahead-comments ls in
-    omega (arith, within, comments)
+blank-falls (Between ls) after h = grind (arith, blank-begun (without_comments ls) after h, ahead-comments ls)
 blank-falls (Inside l ls) after h = not_blank (start_line_of (Inside l ls)) after refl h
 blank-falls (Failed f) after h = not_blank (start_line_of (Failed f)) after refl h
 
 pub begins-as : (before after : State) (got want : LineStart) → got ≡ want → IsBetweenStatements before
     → Answers (λ start. start) (Ok got) after (start_line_of before)
     → Begins (opening (lines_from before)) (Ok (want, after))
-begins-as before after got want e comes h =
-    subst (λ x. Begins (opening (lines_from before)) (Ok (x, after))) e
-    (begins before (Ok (got, after)) comes h)
+begins-as before after got want e comes h = grind (arith, begins)
 
 pub blank-falls-as : (before after : State) (got : LineStart) → got ≡ start.Blank
     → Answers (λ start. start) (Ok got) after (start_line_of before) → lines_ahead after < lines_ahead before
-blank-falls-as before after got e h = blank-falls before after
-    (subst (λ x. Answers (λ start. start) (Ok x) after (start_line_of before)) e h)
+blank-falls-as before after got e h = grind (arith, blank-falls)
 
 -- ---- the code's search
 
 pub found-end : (before after : State) → opening (lines_from before) ≡ ended (lines_from after)
     × (ls : List Line) × (after ≡ Between ls) → FindsOpening before after (Ok false)
-found-end before (Between ls) h = (h.0, tt, refl)
-found-end before (Inside l ls) h = absurd cc
-found-end before (Failed f) h = absurd cc
+found-end before after h = grind arith
 
 pub found-line : (before after : State) → BeginsHere (opening (lines_from before)) after
     → FindsOpening before after (Ok true)
