@@ -1,5 +1,5 @@
 -- Chains, whatever their steps are.
-use Rattle.std.proofs.Common.{arith, ◌≡◌, ℕ, ◌⊎◌, inl, inr, subst, sym}
+use Rattle.std.proofs.Common.{arith, ◌≡◌, ℕ, ◌⊎◌}
 use Rattle.nj_cycles.specs.Cycles.{Chain}
 use Rattle.nj_cycles.specs.Cycles.Chain.{one, more}
 

@@ -2,13 +2,13 @@
 -- cycle, and else the edges that lie on one.
 use Rattle.std.proofs.lemmas.Grind.{common_steps}
 use Rattle.std.proofs.Common.{◌≡◌, ℕ, ◌<◌, ◌≤◌, ◌+◌, ◌-◌, Bool, Some, None, Option, List, [], ◌∷◌, length}
-use Rattle.std.proofs.Common.{take, drop, get_or, refl, sym, ap, subst, ◌∙◌, ◌⊎◌, inl, inr, arith}
+use Rattle.std.proofs.Common.{take, drop, refl, sym, subst, ◌∙◌, ◌⊎◌, inl, inr, arith}
 use Rattle.std.specs.Prelude.{Contains, slice_index, nat_eq, min, MatchOption}
 use Rattle.std.specs.List.{position_or_len}
 use Rattle.std.proofs.lemmas.Bool.{cases_lt, eqb-true, eq-eqb, both_ways}
-use Rattle.std.proofs.lemmas.List.{length-drop, get_or-drop, drop_more}
+use Rattle.std.proofs.lemmas.List.{length-drop, get_or-drop}
 use Rattle.std.proofs.lemmas.List.Sums.{fails_before_first, passes_at_first}
-use Rattle.std.proofs.lemmas.List.Elements.{Contains-append_left, Contains-append_cases}
+use Rattle.std.proofs.lemmas.List.Elements.{Contains-append_left}
 use Rattle.nj_cycles.specs.Cycles.{Needs, NeedsByChain, IsOnCycle, FallsAlongNeeds, IsAcyclic, IsFirstOnCycle}
 use Rattle.nj_cycles.specs.Cycles.{FallingRanksLeaveNoCycle}
 use Rattle.nj_cycles.specs.Cycles.Chain.{one, more}

@@ -1,10 +1,9 @@
 -- The turns of the walk, as the code takes them.
 use Rattle.std.proofs.lemmas.Grind.{common_steps}
-use Rattle.std.proofs.Common.{◌≡◌, ◌≢◌, ℕ, ◌+◌, ◌-◌, ◌<◌, ◌≤◌, Bool, false, Option, Some, None, Result, Ok}
-use Rattle.std.proofs.Common.{Err, List, [], ◌∷◌, ◌++◌, length, set, sym, ap, subst, ◌∙◌, inl, inr, arith}
+use Rattle.std.proofs.Common.{◌≡◌, ◌≢◌, ℕ, ◌+◌, ◌-◌, ◌<◌, ◌≤◌, Bool, false, Option, Some, None, Result}
+use Rattle.std.proofs.Common.{List, [], ◌∷◌, ◌++◌, length, set, sym, ap, subst, ◌∙◌, inl, inr, arith}
 use Rattle.std.specs.Prelude.{slice_get, slice_index, sum_by, IfSome, OnOk}
 use Rattle.std.proofs.lemmas.List.{get_or-set_same}
-use Rattle.std.proofs.lemmas.List.Sums.{sum_by-set}
 use Rattle.std.proofs.lemmas.Option.{slice_get_within, slice_get_cases}
 use Rattle.nj_cycles.specs.declared.finishing_order.Stage.{Stage}
 use Rattle.nj_cycles.specs.declared.finishing_order.Stage.TheVariants.{Unseen, Open, Done}
@@ -12,7 +11,7 @@ use Rattle.nj_cycles.specs.declared.finishing_order.Walk.{Walk}
 use Rattle.nj_cycles.specs.Cycles.{Needs, AreEdges}
 use Rattle.nj_cycles.specs.Inside.Walks.{stage_of, stage_of_maker, turns_of, Sound, WalkIsSound, IsSoundAt}
 use Rattle.nj_cycles.specs.Inside.Walks.{EndsAt, TakesTurn, Walked}
-use Rattle.nj_cycles.proofs.Places.{index_of, needs_got}
+use Rattle.nj_cycles.proofs.Places.{needs_got}
 use Rattle.nj_cycles.proofs.Walking.{stage_cases, kept_by_set, open_is_seen, done_is_seen, passes, opens}
 use Rattle.nj_cycles.proofs.Walking.{top_in, top_open, top_links, finishes}
 

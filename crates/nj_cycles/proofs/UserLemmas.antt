@@ -6,7 +6,7 @@ use Rattle.std.specs.Prelude.{Contains, slice_get, slice_index_or}
 use Rattle.std.specs.Global.{Vec}
 use Rattle.std.proofs.lemmas.Bool.{cases_lt}
 use Rattle.std.proofs.lemmas.List.{length-map, length-set, length_push, get_or_append_left, get_or_past}
-use Rattle.std.proofs.lemmas.List.{get_or_push, get_or-map}
+use Rattle.std.proofs.lemmas.List.{get_or_push}
 use Rattle.std.proofs.lemmas.List.Elements.{Contains-append_left, Contains-push, Contains-push_cases}
 use Rattle.nj_cycles.specs.Cycles.{Needs, AreEdges}
 use Rattle.nj_cycles.specs.Inside.Users.{HaveUsers, NeedsSoFar, lists_of, users_of, with_user}

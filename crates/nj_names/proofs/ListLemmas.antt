@@ -1,12 +1,10 @@
 -- Lemmas on lists.
 use Rattle.std.proofs.lemmas.Grind.{common_steps}
-use Rattle.std.proofs.Common.{◌≡◌, ◌≤◌, ◌-◌, ◌||◌, ℕ, zero, suc, Bool, true, false, List, [], ◌∷◌, ◌++◌}
+use Rattle.std.proofs.Common.{◌≡◌, ◌≤◌, ◌||◌, ℕ, zero, suc, true, List, [], ◌∷◌, ◌++◌}
 use Rattle.std.proofs.Common.{length, drop, slice_get, slice_range, Some, is_some, unwrap_or, bytes_eq, refl}
-use Rattle.std.proofs.Common.{sym, ap, true≢false, arith, length-drop}
+use Rattle.std.proofs.Common.{sym, ap, true≢false, arith}
 use Rattle.std.specs.List.{list_any}
-use Rattle.std.proofs.lemmas.List.{take-append-le, drop-append-le}
 use Rattle.std.proofs.lemmas.Slice.Eq.{bytes_eq-Decides}
-use Rattle.std.proofs.Math.Seq.{take-length}
 
 -- a part of a list is the same with more after it
 pub slice_range-append : {A : Type 0} (items others : List A) (start end : ℕ) → start ≤ end

@@ -13,7 +13,6 @@ use Rattle.std.proofs.lemmas.Map.Keys.{IsDistinct-push, IsDistinct-tail, apart_f
 use Rattle.std.proofs.lemmas.Option.{slice_get-get_or, slice_get_within, get_or_from_slice_get}
 use Rattle.std.proofs.lemmas.Slice.Eq.{bytes_eq-Decides}
 use Rattle.std.proofs.Math.Seq.{get_or-append_seam, drop-append_seam}
-use Rattle.std.specs.Map.{lookup}
 use Rattle.indexmap.specs.IndexMap.{IndexMap, Updates, get}
 use Rattle.nj_names.specs.NameTables.{with_name}
 use Rattle.nj_names.specs.Inside.NamesHeld.{AreChained, AreHeld, EndsRise, Hash, IsFound, IsStart, held_names}

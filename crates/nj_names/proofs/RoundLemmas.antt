@@ -6,7 +6,7 @@ use Rattle.std.specs.Prelude.{sum_by}
 use Rattle.std.specs.List.{All, AllByRecursion, IsDistinct}
 use Rattle.std.proofs.lemmas.Bool.Decides.{Decides-eqb, eqb_tells}
 use Rattle.std.proofs.lemmas.List.{get_or_default, get_or-set_other, get_or-set_same, length_push, length-set}
-use Rattle.std.proofs.lemmas.List.Elements.{All-nil, All-push, recursion_from_All}
+use Rattle.std.proofs.lemmas.List.Elements.{All-push, recursion_from_All}
 use Rattle.std.proofs.lemmas.Cmp.{nat_eq_equiv}
 use Rattle.std.proofs.lemmas.List.Sums.{sum_by-cons, sum_by-set}
 use Rattle.std.proofs.lemmas.Map.Keys.{IsDistinct-push}

@@ -1,14 +1,12 @@
 -- From the units that are left of a text to the line that is left, and the lines after it.
-use Rattle.std.proofs.Common.{arith, ◌≡◌, ℕ, Bool, true, false, cond, eqb, List, [], ◌∷◌, take, drop, Option}
+use Rattle.std.proofs.Common.{arith, ◌≡◌, ℕ, Bool, true, false, cond, List, [], ◌∷◌, take, drop, Option}
 use Rattle.std.proofs.Common.{Some}
 use Rattle.std.proofs.Common.{None, refl, sym, ap, ◌∙◌, ◌⊎◌, inl, inr}
-use Rattle.std.specs.Option.{option_or}
 use Rattle.std.specs.Prelude.{is_some}
 use Rattle.std.specs.List.{take_while}
 use Rattle.std.proofs.lemmas.Bool.{false≢true}
 use Rattle.nj_text.specs.declared.spot.Spot.{Spot}
 use Rattle.nj_text.specs.declared.fault.UnitFault.{UnitFault}
-use Rattle.nj_text.specs.declared.fault.UnitFault.TheVariants as fault
 use Rattle.nj_text.specs.Bytes.{is_identifier_byte, drop_while, begins_with}
 use Rattle.nj_text.specs.Units.{Meaning, Ordinary, Escape, Reference, Join, OpeningJoin, Comment, LeadingTab}
 use Rattle.nj_text.specs.Units.{LineEnd, TextEnd, BadByte, BadEscape, TextUnit, is_ordinary_in, Position}
@@ -18,7 +16,7 @@ use Rattle.nj_text.specs.Lines.{lines_after, line_spot}
 use Rattle.nj_text.specs.Inside.Scans.{units_within, Begins, BeginsBadly}
 use Rattle.nj_text.specs.Words.{is_blank, in_identifier, in_word, next_fault, fault_of, first_fault}
 use Rattle.nj_text.specs.Words.{begins_with_byte, opens_word}
-use Rattle.nj_text.specs.Inside.Meanings.{is_blank_meaning, in_word_meaning, opens_word_meaning}
+use Rattle.nj_text.specs.Inside.Meanings.{is_blank_meaning, in_word_meaning}
 use Rattle.nj_text.specs.Calls.{Inside}
 use Rattle.nj_text.specs.declared.parts.TextKind.TheVariants as kind
 use Rattle.nj_text.specs.Inside.Gathering.{in_value_meaning, in_text}

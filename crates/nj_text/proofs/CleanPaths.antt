@@ -4,22 +4,19 @@ use Rattle.std.proofs.Common.{rules, ◌≡◌, ◌≢◌, ℕ, zero, suc, ◌+�
 use Rattle.std.proofs.Common.{◌++◌}
 use Rattle.std.proofs.Common.{length, drop, replicate, refl, sym, ap, ◌∙◌, subst, arith, append_assoc}
 use Rattle.std.proofs.Common.{length-append}
-use Rattle.std.specs.Prelude.{◌||◌, ◌↔◌, IsTrue, codes}
+use Rattle.std.specs.Prelude.{◌||◌, ◌↔◌, IsTrue}
 use Rattle.std.specs.List.{slice_split, AllByRecursion}
 use Rattle.std.proofs.lemmas.Bool.Decides.{nat_tests}
 use Rattle.std.proofs.lemmas.List.Elements.{All-from_recursion, recursion_from_All}
-use Rattle.std.proofs.lemmas.Slice.Eq.{bytes_eq-Decides}
 use Rattle.std.proofs.lemmas.List.Splits.{length-slice_split, join_with_byte-slice_split}
-use Rattle.nj_text.specs.Bytes.{drop_while}
-use Rattle.nj_text.specs.Paths.{is_slash, is_up, leads_nowhere, is_absolute, IsName, without_leftmost_pair}
+use Rattle.nj_text.specs.Paths.{is_slash, leads_nowhere, is_absolute, IsName, without_leftmost_pair}
 use Rattle.nj_text.specs.Paths.{relative_text, absolute_text, clean_path_of}
 use Rattle.nj_text.specs.PathLaws.{IsCleanPath, IsHere, IsRoot, IsRelative, IsAbsolute, CleanedPathsAreClean}
 use Rattle.nj_text.specs.PathLaws.{CleanPathsStay, CleaningIsIdempotent}
 use Rattle.nj_text.specs.Inside.Cleaning.{components_kept, nothing_kept, text_kept, all_stay, is_here}
 use Rattle.nj_text.specs.Inside.Cleaning.{stays_clean}
 use Rattle.nj_text.proofs.KeptComponents.{down_from_names, components_after, kept-ups, drop-kept}
-use Rattle.nj_text.proofs.SlashComponents.{slash_is}
-use Rattle.nj_text.proofs.WrittenComponents.{text_of, AllGo, go-kept, long_text}
+use Rattle.nj_text.proofs.WrittenComponents.{text_of, AllGo, go-kept}
 use Rattle.nj_text.proofs.CleanStrings.{AllWhole, kept_of, names-kept, relative-kept, absolute-kept}
 use Rattle.nj_text.proofs.CleanStrings.{components-text, text-relative, stay-names, stay-ups, stay-kept}
 use Rattle.nj_text.proofs.CleanStrings.{stay-down}

@@ -15,7 +15,7 @@ use Rattle.nj_text.specs.Inside.Cleaning.{component_of, Kept, nothing_kept, with
 use Rattle.nj_text.specs.Inside.Cleaning.{components_kept, stays, named_after, all_stay}
 use Rattle.nj_text.proofs.KeptComponents.{down_from_names, component-nowhere, component-up, component-name}
 use Rattle.nj_text.proofs.KeptComponents.{up_is, replicate-push, components_after, pairs-kept, drop-kept}
-use Rattle.nj_text.proofs.SlashComponents.{or_false, or_of, components-at, components-none}
+use Rattle.nj_text.proofs.SlashComponents.{or_false, components-at, components-none}
 use Rattle.nj_text.proofs.WrittenComponents.{text_of}
 
 -- ---- no component has a slash

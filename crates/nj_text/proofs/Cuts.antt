@@ -1,18 +1,18 @@
 -- The cut of a text, unit by unit and run by run.
-use Rattle.std.proofs.Common.{rules, ◌≡◌, ℕ, zero, suc, ◌+◌, ◌≤◌, Bool, true, false, cond, not, eqb, ◌||◌}
+use Rattle.std.proofs.Common.{rules, ◌≡◌, ℕ, zero, suc, ◌+◌, ◌≤◌, Bool, true, false, not, eqb}
 use Rattle.std.proofs.Common.{List, []}
 use Rattle.std.proofs.Common.{◌∷◌, ◌++◌, length, take, drop, refl, sym, ap, ◌∙◌, append_assoc, arith}
 use Rattle.std.proofs.Math.Numerals.{one-add}
 use Rattle.std.specs.List.{prefix_len, take_while}
 use Rattle.std.proofs.lemmas.List.{take_at, length-append}
-use Rattle.std.proofs.lemmas.Bool.{eqb-true, false≢true}
+use Rattle.std.proofs.lemmas.Bool.{eqb-true}
 use Rattle.nj_text.specs.declared.spot.Spot.{Spot}
 use Rattle.nj_text.specs.Bytes.{is_space, is_line_feed, is_ordinary_byte, is_name_byte, is_identifier_byte}
 use Rattle.nj_text.specs.Units.{Ordinary, Reference, TextUnit, Position, Within, unit_at, position_after}
 use Rattle.nj_text.specs.Units.{spot_after, cut, Found, after_dollar}
 use Rattle.nj_text.specs.Inside.Scans.{spots_after}
 use Rattle.nj_text.specs.Inside.Scans.{advance, on_next_line}
-use Rattle.nj_text.proofs.Lists.{take_while-cons_yes, take_while-cons_no, AllIn, AllIn-take_while}
+use Rattle.nj_text.proofs.Lists.{take_while-cons_yes, AllIn, AllIn-take_while}
 use Rattle.nj_text.proofs.Lists.{AllIn-weaker, length-take_while}
 
 -- bytes that belong to the unit before are passed

@@ -1,8 +1,8 @@
 -- Gathering the parts of a word or a value, one after another.
 use Rattle.std.proofs.lemmas.Grind.{common_steps}
-use Rattle.std.proofs.Common.{arith, ◌≡◌, ℕ, Bool, true, false, cond, ◌&&◌, eqb, List, [], ◌∷◌, ◌++◌, length}
+use Rattle.std.proofs.Common.{arith, ◌≡◌, ℕ, Bool, true, false, cond, eqb, List, [], ◌∷◌, ◌++◌, length}
 use Rattle.std.proofs.Common.{take}
-use Rattle.std.proofs.Common.{Some, None, refl, sym, ap, ◌∙◌, append_assoc}
+use Rattle.std.proofs.Common.{Some, None, refl, sym, ap, ◌∙◌}
 use Rattle.std.specs.List.{take_while}
 use Rattle.std.proofs.lemmas.Bool.{false≢true}
 use Rattle.std.proofs.lemmas.List.{append-nil}
@@ -11,18 +11,17 @@ use Rattle.nj_text.specs.declared.fault.UnitFault.{UnitFault}
 use Rattle.nj_text.specs.declared.fault.UnitFault.TheVariants as fault
 use Rattle.nj_text.specs.declared.parts.TextKind.{TextKind}
 use Rattle.nj_text.specs.declared.parts.TextKind.TheVariants as kind
-use Rattle.nj_text.specs.Bytes.{is_ordinary_byte, is_identifier_byte, is_name_byte, is_escapable, begins_with}
+use Rattle.nj_text.specs.Bytes.{is_ordinary_byte, begins_with}
 use Rattle.nj_text.specs.Bytes.{drop_while}
 use Rattle.nj_text.specs.Units.{Meaning, Ordinary, LineEnd, BadByte, BadEscape, TextUnit, is_ordinary_in}
 use Rattle.nj_text.specs.Units.{Within, position_after, spot_after, unit_at, after_dollar, named, Found, cut}
 use Rattle.nj_text.specs.declared.runs.Run.{Run}
 use Rattle.nj_text.specs.Inside.Runs.{in_run}
-use Rattle.nj_text.specs.Inside.Scans.{advance, units_within, Begins, BeginsBadly, is_first}
+use Rattle.nj_text.specs.Inside.Scans.{advance, units_within, Begins, BeginsBadly}
 use Rattle.nj_text.specs.Words.{fault_of, next_fault, parts_of, PartModel, Text, longer_run, is_ordinary}
 use Rattle.nj_text.specs.Inside.Gathering.{run_of, in_text, gathered, after_text, NoneInRun}
 use Rattle.nj_text.proofs.Lists.{AllIn, AllIn-weaker, AllIn-take_while, drop_while-append, take_while-append}
-use Rattle.nj_text.proofs.Lists.{take_while-cons_yes, take_while-cons_no, drop_while-cons_no}
-use Rattle.nj_text.proofs.Cuts.{plain_units, cut-run, unit-ordinary}
+use Rattle.nj_text.proofs.Cuts.{plain_units, cut-run}
 
 -- ---- the end of a text
 

@@ -5,7 +5,7 @@ use Rattle.std.proofs.Common.{subst, ◌∙◌, arith}
 use Rattle.std.proofs.Math.Numerals.{one-add}
 use Rattle.std.specs.List.{prefix_len, take_while, AllByRecursion}
 use Rattle.std.proofs.lemmas.List.Sums.{prefix_len-le-length}
-use Rattle.std.proofs.lemmas.Bool.{eqb-true, false≢true, true≢false}
+use Rattle.std.proofs.lemmas.Bool.{eqb-true, true≢false}
 use Rattle.nj_text.specs.declared.spot.Spot.{Spot}
 use Rattle.nj_text.specs.declared.line_start.LineStart.TheVariants as start
 use Rattle.nj_text.specs.declared.fault.UnitFault.TheVariants as fault
@@ -26,11 +26,11 @@ use Rattle.nj_text.specs.declared.cursor.Cursor.{Cursor}
 use Rattle.nj_text.specs.declared.line_start.Begun.{Begun}
 use Rattle.nj_text.specs.Inside.States.{reply, failing, BegunIs, BegunAfterSpaces, first_line, other_lines}
 use Rattle.nj_text.specs.Inside.States.{inside, lines_from, lines_within, space_units}
-use Rattle.nj_text.proofs.Lists.{AllIn, AllIn-take_while, drop_while-cons_no, drop_while-cons_yes}
+use Rattle.nj_text.proofs.Lists.{AllIn, AllIn-take_while, drop_while-cons_no}
 use Rattle.nj_text.proofs.Lists.{drop_while-append, take_while-cons_yes, length-take_while, drop-prefix_len}
-use Rattle.nj_text.proofs.Cuts.{cut-skip, spots_advance, advance-advance, advance-zero, unit-ordinary}
+use Rattle.nj_text.proofs.Cuts.{cut-skip, spots_advance, advance-advance, advance-zero}
 use Rattle.std.proofs.lemmas.List.{nil_from_length}
-use Rattle.nj_text.proofs.Gathered.{not_ordinary, none_after}
+use Rattle.nj_text.proofs.Gathered.{none_after}
 use Rattle.nj_text.proofs.Passed.{first_is_not_space}
 use Rattle.nj_text.specs.Inside.Gathering.{NoneInRun}
 

@@ -1,8 +1,7 @@
 -- Where no slash comes before a slash or a dot, and the ends are the ends of names, each component is a name.
 use Rattle.std.proofs.Common.{◌≡◌, ℕ, suc, Bool, true, false, not, List, [], ◌∷◌, drop, refl, sym, ap, ◌∙◌}
-use Rattle.std.proofs.Common.{subst, arith, get_or, length, ◌<◌, ◌-◌}
-use Rattle.std.specs.Prelude.{◌||◌, ◌&&◌, ◌==◌, codes}
-use Rattle.std.specs.Str.{bytes_eq}
+use Rattle.std.proofs.Common.{arith, get_or, length, ◌<◌, ◌-◌}
+use Rattle.std.specs.Prelude.{◌||◌, ◌&&◌, ◌==◌}
 use Rattle.std.specs.Bool.{OnTrue}
 use Rattle.std.specs.List.{slice_split, onto_first, list_any, AllByRecursion}
 use Rattle.std.proofs.lemmas.List.Splits.{slice_split-cons_yes, slice_split-cons_no}

@@ -6,11 +6,11 @@ use Rattle.std.specs.List.{take_while}
 use Rattle.std.proofs.Math.Seq.{take-append-add, take-append_seam}
 use Rattle.std.proofs.lemmas.List.{append-nil}
 use Rattle.nj_text.specs.declared.spot.Spot.{Spot}
-use Rattle.nj_text.specs.Bytes.{is_identifier_byte, is_name_byte, is_ordinary_byte, is_escapable, begins_with}
+use Rattle.nj_text.specs.Bytes.{is_identifier_byte, is_name_byte, is_escapable, begins_with}
 use Rattle.nj_text.specs.Bytes.{drop_while}
-use Rattle.nj_text.specs.Units.{Meaning, Ordinary, Escape, Reference, Join, TextUnit, is_ordinary_in, Found}
-use Rattle.nj_text.specs.Units.{named, after_dollar, unit_at, opening, opens_comment, Position, AtStart}
-use Rattle.nj_text.specs.Units.{AfterSpaces, Within, found_at, position_after, spot_after, first_spot, cut}
+use Rattle.nj_text.specs.Units.{Meaning, Ordinary, Escape, Reference, TextUnit, is_ordinary_in, Found}
+use Rattle.nj_text.specs.Units.{named, after_dollar, unit_at, opening, Position, AtStart}
+use Rattle.nj_text.specs.Units.{found_at, position_after, spot_after, first_spot, cut}
 use Rattle.nj_text.specs.Words.{PartModel, Text, longer_run, part_before, parts_of, is_ordinary}
 use Rattle.nj_text.specs.Calls.{bytes_of}
 use Rattle.nj_text.specs.Laws.{part_bytes, AreInOrder, PartsComeInOrder}

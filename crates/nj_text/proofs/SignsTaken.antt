@@ -1,27 +1,24 @@
 -- Signs that come next in a line.
 use Rattle.std.proofs.Common.{rules, ◌≡◌, ℕ, Bool, true, false, cond, not, ◌&&◌, eqb, List, [], ◌∷◌, drop}
-use Rattle.std.proofs.Common.{Option}
-use Rattle.std.proofs.Common.{Some, None, refl, sym, ap, ◌∙◌, arith}
-use Rattle.std.specs.Prelude.{is_some}
-use Rattle.std.proofs.lemmas.Bool.{eqb-true, false≢true}
+use Rattle.std.proofs.Common.{Some, None, refl, arith}
+use Rattle.std.proofs.lemmas.Bool.{eqb-true}
 use Rattle.nj_text.specs.declared.spot.Spot.{Spot}
 use Rattle.nj_text.specs.declared.fault.UnitFault.{UnitFault}
 use Rattle.nj_text.specs.declared.sign.Sign.{Sign}
 use Rattle.nj_text.specs.declared.sign.Sign.TheVariants as sign
 use Rattle.nj_text.specs.Bytes.{is_ordinary_byte}
-use Rattle.nj_text.specs.Units.{Ordinary, TextUnit, Within, unit_at, is_ordinary_in, cut}
-use Rattle.nj_text.specs.Lines.{Line, ending_of, lines_of, lines_before, before_first_line, with_units}
+use Rattle.nj_text.specs.Units.{Ordinary, TextUnit, Within, cut}
+use Rattle.nj_text.specs.Lines.{Line, lines_of, with_units}
 use Rattle.nj_text.specs.Lines.{lines_after}
 use Rattle.nj_text.specs.Words.{begins_with_byte, next_fault}
 use Rattle.nj_text.specs.Inside.Scans.{advance, units_within, has_sign, sign_size, sign_length, is_first}
 use Rattle.nj_text.specs.Calls.{State, Between, Inside, Reply, is_empty, is_sign, state_after_sign, sign_at}
-use Rattle.nj_text.specs.Inside.States.{reply, failing, unless_bad, first_line, other_lines, inside}
+use Rattle.nj_text.specs.Inside.States.{reply, failing, unless_bad, first_line, inside}
 use Rattle.nj_text.specs.Inside.States.{lines_within, ends_next}
-use Rattle.nj_text.proofs.Cuts.{unit-ordinary, cut-ordinary, advance-advance}
-use Rattle.nj_text.proofs.Gathered.{not_ordinary}
-use Rattle.nj_text.proofs.LineStarts.{cut_has_line, fails_if_no_byte}
-use Rattle.nj_text.proofs.Bridges.{begins_with_byte_of_line, line_after}
-use Rattle.nj_text.proofs.Steps.{line, others, fails_here, continues_here}
+use Rattle.nj_text.proofs.Cuts.{cut-ordinary, advance-advance}
+use Rattle.nj_text.proofs.LineStarts.{cut_has_line}
+use Rattle.nj_text.proofs.Bridges.{begins_with_byte_of_line}
+use Rattle.nj_text.proofs.Steps.{line, others, fails_here}
 
 abbrev sign_or_none : Sign → Spot → List ℕ → Bool → Reply Bool
 sign_or_none want spot bytes t = cond t

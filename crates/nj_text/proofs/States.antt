@@ -1,28 +1,26 @@
 -- The states of a lexer, by where it is.
-use Rattle.std.proofs.Common.{arith, ◌≡◌, ℕ, Bool, true, false, List, [], ◌∷◌, map, Result, Ok, Err, refl}
+use Rattle.std.proofs.Common.{arith, ◌≡◌, ℕ, Bool, true, false, List, [], ◌∷◌, map, Result, refl}
 use Rattle.std.proofs.Common.{sym, ap}
 use Rattle.std.proofs.Common.{◌∙◌}
 use Rattle.nj_text.specs.declared.spot.Spot.{Spot}
 use Rattle.nj_text.specs.declared.cursor.Cursor.{Cursor}
 use Rattle.nj_text.specs.declared.fault.LexFault.{LexFault}
 use Rattle.nj_text.specs.declared.fault.WordFault.{WordFault}
-use Rattle.nj_text.specs.declared.fault.WordFault.TheVariants as word_fault
 use Rattle.nj_text.specs.declared.sign.Sign.{Sign}
-use Rattle.nj_text.specs.declared.sign.Sign.TheVariants as sign
 use Rattle.nj_text.specs.declared.word.Word.{Word}
 use Rattle.nj_text.specs.declared.word.Part.{Part}
 use Rattle.nj_text.specs.Units.{OpeningJoin, TextUnit, AtStart, Within, cut}
-use Rattle.nj_text.specs.Lines.{Line, lines_of, before_first_line, with_units, line_spot}
+use Rattle.nj_text.specs.Lines.{Line, before_first_line, with_units, line_spot}
 use Rattle.nj_text.specs.Words.{is_blank, WordModel, word_model, part_model, after_opening}
 use Rattle.nj_text.specs.Inside.Meanings.{opens_line_meaning}
 use Rattle.nj_text.specs.Calls.{State, Between, Inside, Reply, after_blanks, value_at, value_of, sign_of}
 use Rattle.nj_text.specs.Calls.{first_line_spot, ReturnsOrLacksMemory, skip_blanks_of, is_inside}
 use Rattle.nj_text.specs.Bytes.{drop_while}
 use Rattle.nj_text.specs.Inside.Scans.{units_within}
-use Rattle.nj_text.specs.Inside.States.{reply, first_line, other_lines, inside, lines_from, lines_within}
+use Rattle.nj_text.specs.Inside.States.{reply, first_line, inside, lines_from, lines_within}
 use Rattle.nj_text.specs.Inside.States.{StepsOrLacksMemory, FailsStep, FinishesValue, FinishesAtFault}
 use Rattle.nj_text.proofs.LineStarts.{cut_has_line, IsUnsaid, unit_is_unsaid}
-use Rattle.nj_text.proofs.Bridges.{spot_of_line, of_first, first_of_line, passed_by, blanks_end}
+use Rattle.nj_text.proofs.Bridges.{spot_of_line, of_first, first_of_line, passed_by}
 use Rattle.nj_text.proofs.Steps.{line, others}
 
 abbrev HasLine : List Line → Type 0

@@ -1,20 +1,19 @@
 -- The result of a call within a line, from the units at its cursor.
-use Rattle.std.proofs.Common.{arith, ◌≡◌, ℕ, Bool, true, false, cond, not, ◌||◌, eqb, List, [], ◌∷◌, ◌++◌}
+use Rattle.std.proofs.Common.{arith, ◌≡◌, ℕ, Bool, true, false, cond, eqb, List, [], ◌∷◌, ◌++◌}
 use Rattle.std.proofs.Common.{length}
-use Rattle.std.proofs.Common.{take, Option, Some, None, refl, sym, ap, subst, ◌∙◌}
+use Rattle.std.proofs.Common.{Option, Some, None, refl, sym, ap, subst, ◌∙◌}
 use Rattle.std.specs.List.{take_while}
-use Rattle.std.proofs.lemmas.Bool.{eqb-true, false≢true, true≢false}
+use Rattle.std.proofs.lemmas.Bool.{eqb-true}
 use Rattle.std.proofs.lemmas.List.{append-nil, nil_from_length}
 use Rattle.nj_text.specs.declared.spot.Spot.{Spot}
 use Rattle.nj_text.specs.declared.fault.UnitFault.{UnitFault}
 use Rattle.nj_text.specs.declared.fault.WordFault.{WordFault}
-use Rattle.nj_text.specs.declared.fault.WordFault.TheVariants as word_fault
 use Rattle.nj_text.specs.declared.parts.TextKind.TheVariants as kind
 use Rattle.nj_text.specs.Bytes.{is_ordinary_byte, is_identifier_byte, drop_while, begins_with}
-use Rattle.nj_text.specs.Units.{Meaning, Within, unit_at, position_after, spot_after, is_ordinary_in, cut}
-use Rattle.nj_text.specs.Lines.{Line, lines_of, with_units, line_spot}
+use Rattle.nj_text.specs.Units.{Meaning, Within, cut}
+use Rattle.nj_text.specs.Lines.{Line, lines_of, with_units}
 use Rattle.nj_text.specs.Inside.Scans.{advance, units_within, BeginsBadly}
-use Rattle.nj_text.specs.Words.{is_blank, in_identifier, in_word, next_fault, parts_of, PartModel, WordModel}
+use Rattle.nj_text.specs.Words.{is_blank, in_identifier, in_word, next_fault, PartModel, WordModel}
 use Rattle.nj_text.specs.Words.{opens_word}
 use Rattle.nj_text.specs.Inside.Meanings.{opens_word_meaning}
 use Rattle.nj_text.specs.Calls.{State, Inside, Reply, unless_fault, after_blanks, bytes_of, some_bytes}
@@ -22,12 +21,12 @@ use Rattle.nj_text.specs.Calls.{ident_at, word_here, word_at, value_at}
 use Rattle.nj_text.specs.Inside.Gathering.{gathered, after_text, FailsText}
 use Rattle.nj_text.specs.Inside.States.{reply, failing, unless_bad, first_line, other_lines, inside}
 use Rattle.nj_text.specs.Inside.States.{lines_within, FailsStep}
-use Rattle.nj_text.proofs.Lists.{AllIn, AllIn-weaker, AllIn-take_while, take_while-append, take_while-cons_no}
-use Rattle.nj_text.proofs.Lists.{drop_while-append, drop_while-cons_no}
-use Rattle.nj_text.proofs.Cuts.{plain_units, cut-run, unit-ordinary}
-use Rattle.nj_text.proofs.Gathered.{not_ordinary, none_after}
-use Rattle.nj_text.proofs.LineStarts.{cut_has_line, fails_if_no_byte}
-use Rattle.nj_text.proofs.Bridges.{passed_by, front_of, blanks_end, identifiers_end, words_end}
+use Rattle.nj_text.proofs.Lists.{AllIn, AllIn-weaker, AllIn-take_while, take_while-append}
+use Rattle.nj_text.proofs.Lists.{drop_while-append}
+use Rattle.nj_text.proofs.Cuts.{plain_units, cut-run}
+use Rattle.nj_text.proofs.Gathered.{none_after}
+use Rattle.nj_text.proofs.LineStarts.{cut_has_line}
+use Rattle.nj_text.proofs.Bridges.{passed_by, front_of, identifiers_end, words_end}
 use Rattle.nj_text.proofs.Bridges.{next_fault_of_line, begins_word_of_line, spot_of_line, value_of_line}
 use Rattle.nj_text.proofs.Bridges.{passed_has_line}
 use Rattle.nj_text.specs.Inside.Gathering.{NoneInRun}

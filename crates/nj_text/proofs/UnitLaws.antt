@@ -1,20 +1,18 @@
 -- The laws of the cut.
 use Rattle.std.proofs.lemmas.Grind.{common_steps}
-use Rattle.std.proofs.Common.{◌≡◌, ℕ, zero, suc, Bool, true, false, Option, Some, None, is_some, List, []}
-use Rattle.std.proofs.Common.{◌∷◌, ◌++◌, take, drop, map, reverse, ◌+◌, cond, not, refl, sym, ap, subst, ◌∙◌}
+use Rattle.std.proofs.Common.{◌≡◌, ℕ, zero, suc, Bool, true, Option, is_some, List, []}
+use Rattle.std.proofs.Common.{◌∷◌, ◌++◌, take, drop, map, reverse, refl, sym, ap, ◌∙◌}
 use Rattle.std.proofs.Common.{arith}
-use Rattle.std.specs.List.{flat_map, count_by, suffix_len}
+use Rattle.std.specs.List.{flat_map}
 use Rattle.std.proofs.lemmas.List.{take-append-drop, reverse-append, reverse-reverse}
-use Rattle.std.proofs.lemmas.List.Sums.{sum_by_push}
 use Rattle.nj_text.specs.declared.spot.Spot.{Spot}
-use Rattle.nj_text.specs.Bytes.{is_line_feed}
 use Rattle.nj_text.specs.Units.{TextUnit, Position, AtStart, found_at, position_after, spot_after, first_spot}
 use Rattle.nj_text.specs.Units.{units, cut}
 use Rattle.nj_text.specs.Inside.Scans.{spots_after}
 use Rattle.nj_text.specs.Lines.{Line, spot_of_first, lines_of, lines_before, ending_of}
 use Rattle.nj_text.specs.Calls.{bytes_of}
 use Rattle.nj_text.specs.Laws.{UnitsAreTheText, UnitsComeInPlace, counted_spot, LinesAreTheUnits, Mark}
-use Rattle.nj_text.specs.Laws.{InLine, AtEnd, mark_by, mark_of, marks_of}
+use Rattle.nj_text.specs.Laws.{mark_by, mark_of, marks_of}
 
 -- the units of the bytes after those that are skipped
 bytes_of-cut : (position : Position) (skip : ℕ) (spot : Spot) (bs : List ℕ)

@@ -1,18 +1,17 @@
 -- The components of a path as they are written, one more component at a time.
 use Rattle.std.proofs.lemmas.Grind.{common_steps}
-use Rattle.std.proofs.Common.{rules, ◌≡◌, ℕ, zero, suc, ◌+◌, ◌≤◌, ◌<◌, Bool, true, false, ltb, Option, Some}
+use Rattle.std.proofs.Common.{rules, ◌≡◌, ℕ, zero, suc, ◌+◌, ◌≤◌, ◌<◌, Bool, true, false, Option, Some}
 use Rattle.std.proofs.Common.{List}
 use Rattle.std.proofs.Common.{[], ◌∷◌, ◌++◌, length, replicate, refl, sym, ap, ◌∙◌, arith, length-append}
 use Rattle.std.proofs.Common.{append_assoc}
 use Rattle.std.specs.List.{slice_split, join_with_byte, list_any, AllByRecursion}
-use Rattle.std.proofs.lemmas.Bool.Decides.{nat_tests}
 use Rattle.std.proofs.lemmas.List.{append-nil}
 use Rattle.nj_text.specs.declared.components.Component.TheVariants.{Nowhere, Up, Name}
-use Rattle.nj_text.specs.Paths.{is_slash, is_up, leads_nowhere, IsName}
+use Rattle.nj_text.specs.Paths.{is_slash, leads_nowhere, IsName}
 use Rattle.nj_text.specs.Inside.Cleaning.{component_of, components_left, Kept, nothing_kept, kept_after}
 use Rattle.nj_text.specs.Inside.Cleaning.{with_component, components_kept, ups_seen, IsWritten}
 use Rattle.nj_text.specs.Inside.Cleaning.{text_with_component, DropsName}
-use Rattle.nj_text.proofs.KeptComponents.{up_is, replicate-push}
+use Rattle.nj_text.proofs.KeptComponents.{replicate-push}
 use Rattle.nj_text.proofs.NamesDropped.{drops-at, drops-alone}
 
 abbrev pub text_of : List (List ℕ) → List ℕ
