@@ -112,7 +112,7 @@ fn changed_paths(rt: HostRuntime) -> Result<Vec<Vec<u8>>, Failure> {
 
 fn read_lines(rt: HostRuntime) -> io::Result<Vec<Vec<u8>>> {
     let mut lines = Vec::new(rt.alloc());
-    'lines: for line in BufReader::new(rt.alloc(), rt.reader())?.split(rt.alloc(), b'\n') {
+    for line in BufReader::new(rt.alloc(), rt.reader())?.split(rt.alloc(), b'\n') {
         let line = line?;
         if !line.is_empty() {
             lines.push(line)?;

@@ -11,7 +11,7 @@ pub fn finding_lines(
     is_json: bool,
 ) -> Result<Vec<u8>, AllocError> {
     let mut lines = Vec::new(alloc);
-    'findings: for finding in found.as_slice() {
+    for finding in found.as_slice() {
         if is_json {
             push_object(&mut lines, finding)?;
         } else {
@@ -24,7 +24,7 @@ pub fn finding_lines(
 /// A line for each finding about a source that cannot be looked up.
 pub fn lookup_lines(alloc: Global, found: &Findings<'_>) -> Result<Vec<u8>, AllocError> {
     let mut lines = Vec::new(alloc);
-    'findings: for finding in found.as_slice() {
+    for finding in found.as_slice() {
         push_plain(&mut lines, finding, "cannot look up source")?;
     }
     Ok(lines)
@@ -33,7 +33,7 @@ pub fn lookup_lines(alloc: Global, found: &Findings<'_>) -> Result<Vec<u8>, Allo
 /// A line for each kind: its name, whether it is on by default, and its meaning.
 pub fn kind_lines(alloc: Global) -> Result<Vec<u8>, AllocError> {
     let mut lines = Vec::new(alloc);
-    'kinds: for kind in Kind::ALL {
+    for kind in Kind::ALL {
         push_kind(&mut lines, kind)?;
     }
     Ok(lines)

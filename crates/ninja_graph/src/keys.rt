@@ -96,7 +96,7 @@ fn page_of(
 #[inline(never)]
 fn bases_of(alloc: Global, paths: &[&str]) -> Result<Bases, Failure> {
     let mut bases = Bases::new(alloc);
-    'paths: for path in paths {
+    for path in paths {
         if !bases.add(alloc, path.as_bytes())? {
             return Err(Failure::Base(String::from_str(alloc, path)?));
         }

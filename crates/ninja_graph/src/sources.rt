@@ -35,7 +35,7 @@ impl Sources {
     /// Looks up each source of a graph.
     pub fn look_up(rt: HostRuntime, graph: &Graph) -> Result<Sources, AllocError> {
         let mut sources = Sources::new(rt.alloc());
-        'files: for number in 0..graph.file_count() {
+        for number in 0..graph.file_count() {
             let file = FileNo(number);
             let found = match graph.maker(file) {
                 Some(_) => Found::Something,

@@ -34,7 +34,7 @@ pub fn draw_needed(
     let edges = graph.needed_by(alloc, files)?;
     let mut drawing = Drawing::new(alloc, graph, extent)?;
     drawing.add_files(graph, files)?;
-    'edges: for edge in &edges {
+    for edge in &edges {
         if drawing.has_output(graph, *edge) {
             drawing.add_edge(graph, *edge)?;
         }
@@ -57,7 +57,7 @@ pub fn draw_affected(
     let edges = touched_by(alloc, known, files, affected)?;
     let mut drawing = Drawing::new(alloc, graph, extent)?;
     drawing.add_files(graph, files)?;
-    'edges: for edge in &edges {
+    for edge in &edges {
         drawing.add_edge(graph, *edge)?;
     }
     drawing.end(edges.as_slice().len())
@@ -127,7 +127,7 @@ impl Drawing {
     fn add_files(&mut self, graph: &Graph, files: &[FileNo]) -> io::Result<()>
         requires { All (λ file. file.0 < length (files_of graph.now)) files.now }
     {
-        'files: for file in files {
+        for file in files {
             self.add_file(graph, *file)?;
         }
         Ok(())
@@ -171,7 +171,7 @@ impl Drawing {
     fn add_outputs(&mut self, graph: &Graph, edge: EdgeNo) -> io::Result<()>
         requires { edge.0 < length (edges_of graph.now) }
     {
-        'outputs: for output in graph.outputs(edge) {
+        for output in graph.outputs(edge) {
             if let Some(node) = self.add_file(graph, *output)? {
                 writeln!(self.text, "  {} -> {node};", Node::Edge(edge))?;
             }
@@ -186,7 +186,7 @@ impl Drawing {
     {
         let inputs = graph.inputs(edge);
         let mut shown: usize = 0;
-        'inputs: for (index, input) in inputs.iter().enumerate() {
+        for (index, input) in inputs.iter().enumerate() {
             if let Some(node) = self.input_node(graph, *input, shown)? {
                 let style = match graph.input_kind(edge, index) {
                     Kind::OrderOnly => " [style=dashed]",
