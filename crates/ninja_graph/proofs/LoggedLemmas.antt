@@ -1,9 +1,9 @@
 -- The numbers of a graph that follows another one.
-use Rattle.std.proofs.Common.{◌≡◌, ◌<◌, ◌+◌, arith, ℕ, List, ◌++◌, length, sym, ap, ◌∙◌, subst}
+use Rattle.std.proofs.Common.{◌<◌, arith, List, length, sym, ap, ◌∙◌, subst}
 use Rattle.std.specs.Prelude.{All}
 use Rattle.std.proofs.lemmas.List.{length-append}
 use Rattle.std.proofs.lemmas.List.Elements.{All-weaker}
-use Rattle.nj_graph.specs.Graph.{GraphModel, edges_of, files_of}
+use Rattle.nj_graph.specs.Graph.{GraphModel, files_of}
 use Rattle.nj_graph.specs.declared.undeclared.UndeclaredInput.{UndeclaredInput}
 use Rattle.nj_ask.specs.Joined.{Follows}
 use Rattle.ninja_graph.specs.Inside.Logged.{AreInputsOf}

@@ -1,6 +1,6 @@
 -- The first piece of a text, and the pieces after it.
-use Rattle.std.proofs.Common.{◌≡◌, ℕ, zero, suc, ◌-◌, ◌<◌, List, [], ◌∷◌, length, drop, refl, ap, ◌∙◌, arith}
-use Rattle.nj_depfiles.specs.Pieces.{Piece, first_piece, pieces_after, pieces}
+use Rattle.std.proofs.Common.{◌≡◌, ℕ, zero, suc, ◌-◌, ◌<◌, List, [], ◌∷◌, length, drop, refl, arith}
+use Rattle.nj_depfiles.specs.Pieces.{first_piece, pieces_after, pieces}
 
 pieces-skip : (skip : ℕ) (text : List ℕ) → pieces_after skip text ≡ pieces_after 0 (drop skip text)
 unfolding pieces_after

@@ -1,5 +1,5 @@
 -- Reading a depfile piece by piece is reading it line by line.
-use Rattle.std.proofs.Common.{arith, ◌≡◌, inl, inr, subst, IsErr, ℕ, Bool, true, false, cond, not, ◌||◌, ◌&&◌}
+use Rattle.std.proofs.Common.{arith, ◌≡◌, IsErr, ℕ, Bool, true, false, not, ◌||◌, ◌&&◌}
 use Rattle.std.proofs.Common.{if◌then◌else◌, Result, Ok, Err, List, [], ◌∷◌, ◌++◌, length, drop, refl, sym}
 use Rattle.std.proofs.Common.{ap, ◌∙◌}
 use Rattle.std.specs.Prelude.{filter, fold, IfOk, IfErr, ◌⊎◌}
@@ -8,9 +8,9 @@ use Rattle.std.specs.Result.{IsErrAnd}
 use Rattle.nj_names.specs.NameTables.{is_among, with_name}
 use Rattle.nj_depfiles.specs.Pieces.{Piece, pieces, pieces_after}
 use Rattle.nj_depfiles.specs.Pieces.Piece.{NameBytes, NameEnd, LineEnd}
-use Rattle.nj_depfiles.specs.Depfiles.{DepfileModel, nothing_named, is_no_input, word_of, onto_first}
+use Rattle.nj_depfiles.specs.Depfiles.{DepfileModel, is_no_input, word_of, onto_first}
 use Rattle.nj_depfiles.specs.Depfiles.{words_from, ends_in_colon, name_in, names_in, left_of, right_of}
-use Rattle.nj_depfiles.specs.Depfiles.{with_line, with_lines, has_colon, named_in_lines, depfile_of}
+use Rattle.nj_depfiles.specs.Depfiles.{with_line, with_lines, has_colon, depfile_of}
 use Rattle.nj_depfiles.specs.declared.depfile_fault.DepfileFault.{DepfileFault}
 use Rattle.nj_depfiles.specs.declared.depfile_fault.DepfileFault.TheVariants.{InputHasInputs, NoColon}
 use Rattle.nj_depfiles.specs.declared.depfile_fault.DepfileFault.TheVariants.{OutOfMemory}

@@ -1,7 +1,7 @@
 -- Lemmas on names that are added to a list of names.
 use Rattle.std.proofs.lemmas.Grind.{common_steps}
 use Rattle.std.proofs.Common.{◌≡◌, ◌≢◌, ℕ, Bool, true, false, cond, List, [], ◌∷◌, ◌++◌, length, bytes_eq}
-use Rattle.std.proofs.Common.{refl, arith, length-append}
+use Rattle.std.proofs.Common.{refl, arith}
 use Rattle.std.specs.List.{list_any}
 use Rattle.nj_names.specs.NameTables.{with_name}
 

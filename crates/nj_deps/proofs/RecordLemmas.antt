@@ -3,7 +3,7 @@ use Rattle.std.proofs.lemmas.Grind.{common_steps}
 use Rattle.std.proofs.Common.{◌≡◌, ◌<◌, ◌≤◌, ◌+◌, ◌^◌, ◌%◌, ℕ, List, [], ◌∷◌, ◌++◌, length, refl, sym, ap}
 use Rattle.std.proofs.Common.{subst, ◌∙◌, arith, append_assoc, length-append}
 use Rattle.std.specs.List.{AllByRecursion, flat_map, fold}
-use Rattle.nj_deps.specs.LogRecords.{LogRecord, word, content_of, kind_bit, bytes_of, path_in, Counts}
+use Rattle.nj_deps.specs.LogRecords.{LogRecord, word, content_of, kind_bit, bytes_of, Counts}
 use Rattle.nj_deps.specs.LogRecords.LogRecord.{path, dependencies}
 use Rattle.nj_deps.specs.Logs.{with_path, CountInTurn, EndsBefore}
 use Rattle.nj_deps.specs.Inside.RecordsRead.{IsFramed, IsUnframed, IsContent, IsKind}

@@ -1,5 +1,5 @@
 -- Lemmas on what edges discover, by the numbers of paths.
-use Rattle.std.proofs.Common.{rules, ◌≡◌, ◌<◌, ◌≤◌, ◌+◌, ◌-◌, ◌==◌, ◌⊎◌, inl, inr, ℕ, zero, suc, Bool, true}
+use Rattle.std.proofs.Common.{rules, ◌≡◌, ◌<◌, ◌≤◌, ◌+◌, ◌-◌, ◌==◌, ◌⊎◌, ℕ, zero, suc, Bool, true}
 use Rattle.std.proofs.Common.{false}
 use Rattle.std.proofs.Common.{cond, not, Option, Some, Result, Ok, Err, List, [], ◌∷◌, ◌++◌, length, take}
 use Rattle.std.proofs.Common.{drop, slice_get, slice_range, refl, sym, ap, subst, ◌∙◌, true≢false, arith}
@@ -9,8 +9,7 @@ use Rattle.std.specs.Prelude.{IfSome}
 use Rattle.std.specs.Global.{Vec}
 use Rattle.std.specs.declared.alloc.AllocError.{AllocError}
 use Rattle.std.proofs.lemmas.Grind.{common_steps}
-use Rattle.std.proofs.lemmas.List.{drop-append-le, length-drop, length-map, take-append-le, take_more}
-use Rattle.std.proofs.Math.Seq.{drop-append_seam, take-length}
+use Rattle.std.proofs.lemmas.List.{length-map, take_more}
 use Rattle.std.specs.List.{AllByRecursion}
 use Rattle.std.proofs.lemmas.Option.{slice_get_within, get_or_from_slice_get}
 use Rattle.nj_text.specs.Calls.{is_empty}
@@ -33,7 +32,7 @@ use Rattle.nj_discovered.specs.declared.verdict.Unknown.TheVariants.{OtherTarget
 use Rattle.nj_discovered.specs.declared.verdict.Verdict.{Verdict}
 use Rattle.nj_discovered.specs.declared.verdict.Verdict.TheVariants as verdict
 use Rattle.nj_discovered.specs.declared.discoveries.FoundEdge.{FoundEdge}
-use Rattle.nj_discovered.specs.Discoveries.{FoundModel, discovery_at}
+use Rattle.nj_discovered.specs.Discoveries.{discovery_at}
 use Rattle.nj_discovered.specs.Inside.Finding.{Finds, IsFinderHeld, IsWithin, found_held, found_of}
 use Rattle.nj_discovered.specs.Inside.Numbers.{Appends, AreBelow, AreCleanNumbers}
 

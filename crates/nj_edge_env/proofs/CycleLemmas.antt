@@ -1,9 +1,9 @@
 -- Lemmas on cycles of a rule's variables: a key lies on one where its number leads back to itself.
 use Rattle.std.proofs.lemmas.Grind.{common_steps}
 use Rattle.std.proofs.Common.{inl, inr, ◌≡◌, ◌≢◌, ◌<◌, ◌≤◌, ◌+◌, ℕ, zero, suc, Bool, true, false, not, ◌&&◌}
-use Rattle.std.proofs.Common.{if◌then◌else◌, length-append, List, [], ◌∷◌, ◌++◌, length, replicate, slice_get}
+use Rattle.std.proofs.Common.{if◌then◌else◌, List, [], ◌∷◌, ◌++◌, length, replicate, slice_get}
 use Rattle.std.proofs.Common.{get_or, Option, Some, None, Result, Ok, Err, is_some, option_map, unwrap_or}
-use Rattle.std.proofs.Common.{Less, refl, sym, ap, subst, ◌∙◌, true≢false, arith, below_more}
+use Rattle.std.proofs.Common.{Less, refl, sym, ap, subst, ◌∙◌, true≢false, arith}
 use Rattle.std.specs.Prelude.{slice_index_or, IfOk, IfSome}
 use Rattle.std.specs.Ordering.{nat_cmp}
 use Rattle.std.specs.Cmp.Lexicographic.{slice_cmp}

@@ -14,7 +14,7 @@ use Rattle.nj_scope.specs.Rules.{RuleLineModel, given}
 use Rattle.nj_scope.specs.RulesHeld.{has_key}
 use Rattle.nj_scope.specs.Scopes.{expanded}
 use Rattle.nj_edge_env.specs.LateStrings.{LateNames, text_of_paths, paths_text, names_paths, value_given}
-use Rattle.nj_edge_env.specs.LateStrings.{unless_empty, is_of_command, rule_value, file_value, refers}
+use Rattle.nj_edge_env.specs.LateStrings.{rule_value, file_value, refers}
 use Rattle.nj_edge_env.specs.LateStrings.{Denotes, late_in, late_text}
 use Rattle.nj_edge_env.specs.LateStrings.Denotes.{by_paths, by_block, by_rule, by_file}
 use Rattle.nj_edge_env.specs.VariableCycles.{RefersTo, Reaches, IsOnCycle, HasNoCycle}

@@ -1,5 +1,5 @@
 -- Lemmas on which keys of a rule refer to which.
-use Rattle.std.proofs.Common.{◌≡◌, ◌≢◌, ◌<◌, ◌≤◌, ◌+◌, inl, inr, ℕ, zero, suc, Bool, true, false, ◌||◌, List}
+use Rattle.std.proofs.Common.{◌≡◌, ◌≢◌, ◌<◌, ◌≤◌, ◌+◌, inl, inr, ℕ, zero, suc, true, false, ◌||◌, List}
 use Rattle.std.proofs.Common.{[], ◌∷◌, ◌++◌, length, map, take, slice_get, get_or, Option, Some, None}
 use Rattle.std.proofs.Common.{option_map, unwrap_or, Less, refl, sym, ap, subst, ◌∙◌, true≢false, arith}
 use Rattle.std.proofs.Common.{add-one, below_more, Bor}

@@ -1,7 +1,7 @@
 -- The lines of a block, as the lexer comes to them.
 use Rattle.std.proofs.lemmas.Grind.{common_steps}
-use Rattle.std.proofs.Common.{◌≡◌, ℕ, suc, ◌+◌, ◌<◌, ◌≤◌, Bool, true, false, cond, ◌&&◌, Result, Ok, Err}
-use Rattle.std.proofs.Common.{List, [], ◌∷◌, ◌++◌, refl, sym, ap, subst, ◌∙◌, append_assoc, arith}
+use Rattle.std.proofs.Common.{◌≡◌, ℕ, ◌+◌, ◌<◌, ◌≤◌, Bool, true, false, cond, ◌&&◌, Result, Ok, Err}
+use Rattle.std.proofs.Common.{List, [], ◌∷◌, ◌++◌, refl, sym, ap, subst, ◌∙◌, arith}
 use Rattle.std.proofs.lemmas.List.{append-nil}
 use Rattle.std.specs.Result.{IsErr, IsErrAnd}
 use Rattle.std.proofs.lemmas.Bool.{false≢true}
@@ -10,11 +10,8 @@ use Rattle.nj_text.specs.declared.fault.LexFault.{LexFault}
 use Rattle.nj_text.specs.declared.fault.LexFault.TheVariants as lex
 use Rattle.nj_text.specs.declared.line_start.LineStart.{LineStart}
 use Rattle.nj_text.specs.declared.line_start.LineStart.TheVariants as start
-use Rattle.nj_text.specs.Bytes.{drop_while, begins_with}
-use Rattle.nj_text.specs.Units.{TextUnit}
-use Rattle.nj_text.specs.Lines.{Line, with_units, lines_after, Kind, CommentLine, TabLine, BlankLine}
-use Rattle.nj_text.specs.Lines.{IndentedLine, PlainLine, kind_of, is_space_unit, kind_after_spaces}
-use Rattle.nj_text.specs.Inside.States.{reply}
+use Rattle.nj_text.specs.Lines.{Line, with_units, lines_after, Kind, BlankLine}
+use Rattle.nj_text.specs.Lines.{IndentedLine, kind_of}
 use Rattle.nj_text.specs.Calls.{State, Between, Inside, Failed, Answers, start_line_of, begun, begun_by}
 use Rattle.nj_text.specs.Calls.{is_comment, is_empty, without_comments, Reply}
 use Rattle.nj_manifest.specs.declared.block_lines.Keys.{Keys}

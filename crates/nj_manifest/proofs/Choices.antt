@@ -1,7 +1,6 @@
 -- Short names for the choices of the steps, each with its cases.
 use Rattle.std.proofs.Common.{arith, ◌≡◌, ℕ, suc, Bool, cond, Option, None, Result, Ok, Err, List, [], ◌∷◌}
 use Rattle.std.proofs.Common.{length}
-use Rattle.std.proofs.Common.{refl}
 use Rattle.std.specs.Prelude.{ok_or}
 use Rattle.std.specs.Option.{option_map_or}
 use Rattle.nj_text.specs.declared.spot.Spot.{Spot}

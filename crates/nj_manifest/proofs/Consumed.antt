@@ -1,23 +1,21 @@
 -- Each statement takes a line at least, and a text has no more lines than bytes.
-use Rattle.std.proofs.Common.{◌≡◌, ℕ, zero, suc, ◌<◌, ◌≤◌, Bool, true, false, cond, Option, Some, None}
-use Rattle.std.proofs.Common.{Result, Ok, Err, List, [], ◌∷◌, length, take, refl, sym, ap, subst, ◌∙◌, arith}
+use Rattle.std.proofs.Common.{◌≡◌, ℕ, zero, suc, ◌<◌, ◌≤◌, Bool, false, Option, Some}
+use Rattle.std.proofs.Common.{Result, Ok, List, [], ◌∷◌, length, take, refl, sym, ap, subst, ◌∙◌, arith}
 use Rattle.nj_text.specs.declared.spot.Spot.{Spot}
-use Rattle.nj_text.specs.Bytes.{drop_while, begins_with}
 use Rattle.nj_text.specs.Units.{TextUnit, Position, found_at, position_after, spot_after, cut}
-use Rattle.nj_text.specs.Lines.{Line, ending_of, lines_before, lines_of, text_lines, line_spot, with_units}
-use Rattle.nj_text.specs.Lines.{lines_after, Kind, CommentLine, TabLine, BlankLine, IndentedLine, PlainLine}
-use Rattle.nj_text.specs.Lines.{kind_after_spaces, is_space_unit, kind_of}
+use Rattle.nj_text.specs.Lines.{Line, ending_of, lines_before, lines_of, text_lines, line_spot}
+use Rattle.nj_text.specs.Lines.{lines_after, Kind, PlainLine}
+use Rattle.nj_text.specs.Lines.{kind_of}
 use Rattle.nj_text.specs.Calls.{Inside, is_empty, without_comments}
 use Rattle.nj_manifest.specs.declared.block_lines.Keys.{Keys}
 use Rattle.nj_manifest.specs.declared.block_lines.Keys.TheVariants as keys
 use Rattle.nj_manifest.specs.Faults.{Fault}
 use Rattle.nj_manifest.specs.LineSteps.{◌>>=◌}
-use Rattle.nj_manifest.specs.Statements.{LineModel, lines_from, line_next, block_by, block, PlacedModel}
+use Rattle.nj_manifest.specs.Statements.{LineModel, lines_from, block_by, block, PlacedModel}
 use Rattle.nj_manifest.specs.Statements.{RuleModel, PoolModel, next_statement}
 use Rattle.nj_manifest.specs.Grammar.{HeadModel, Alone, RuleHead, PoolHead, BuildHead}
-use Rattle.nj_manifest.specs.Openings.{Parse, or_last, without_spaces}
+use Rattle.nj_manifest.specs.Openings.{Parse, or_last}
 use Rattle.nj_manifest.specs.Inside.Heads.{head_next, whole_rule, whole_pool, with_block, statement_here}
-use Rattle.nj_manifest.proofs.Choices.{no_lines}
 use Rattle.nj_manifest.proofs.NextTurns.{nothing_more, next_by, next-nothing, next-line}
 use Rattle.nj_manifest.proofs.Framing.{head-inside}
 use Rattle.nj_manifest.proofs.Starts.{ahead}

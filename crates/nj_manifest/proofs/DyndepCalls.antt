@@ -1,10 +1,9 @@
 -- The calls of a parser of dyndep files, by the lines that they read.
 use Rattle.std.proofs.Common.{arith, ◌≡◌, Bool, true, false, Option, Some, option_map, Result, Ok, Err, List}
 use Rattle.std.proofs.Common.{refl}
-use Rattle.std.proofs.Common.{sym, ap, subst, ◌∙◌}
 use Rattle.nj_text.specs.declared.spot.Spot.{Spot}
-use Rattle.nj_text.specs.Lines.{Line, lines_after}
-use Rattle.nj_text.specs.Calls.{State, Between, Inside, Failed, spot_of}
+use Rattle.nj_text.specs.Lines.{Line}
+use Rattle.nj_text.specs.Calls.{State, Inside, spot_of}
 use Rattle.nj_manifest.specs.declared.cause.SyntaxCause.TheVariants as cause
 use Rattle.nj_manifest.specs.declared.parse_fault.ParseFault.{ParseFault}
 use Rattle.nj_manifest.specs.declared.entries.Entry.{Entry}
@@ -13,7 +12,7 @@ use Rattle.nj_manifest.specs.LineSteps.{◌>>=◌}
 use Rattle.nj_manifest.specs.Statements.{lines_from}
 use Rattle.nj_manifest.specs.Openings.{Parse, opening}
 use Rattle.nj_manifest.specs.Parsers.{Fails}
-use Rattle.nj_manifest.specs.Inside.ParserContracts.{LeadsTo, IsBetweenStatements, ParsesAt, FindsOpening}
+use Rattle.nj_manifest.specs.Inside.ParserContracts.{LeadsTo, ParsesAt, FindsOpening}
 use Rattle.nj_manifest.specs.Inside.ParserContracts.{entry_here}
 use Rattle.nj_manifest.specs.Dyndeps.{EntryModel, version_line, version_from, version_next, entry_line}
 use Rattle.nj_manifest.specs.Dyndeps.{restat_block, entry_from, next_entry}

@@ -29,7 +29,7 @@ use Rattle.nj_manifest.proofs.EntryBlocks.{first_output, output-steps, restat_li
 use Rattle.nj_manifest.proofs.EntryBlocks.{block-lines}
 use Rattle.nj_manifest.proofs.FormsKeys.{unless_missing-ok}
 use Rattle.nj_manifest.proofs.BlockLines.{lines_weight, Begins, start-begins}
-use Rattle.nj_manifest.proofs.Framing.{bind-ok, after-is, On, InLine, line_end-inside, colon-inside}
+use Rattle.nj_manifest.proofs.Framing.{bind-ok, after-is, On, InLine, colon-inside}
 use Rattle.nj_manifest.proofs.Framing.{name-inside, word-inside, sign-inside, section-inside, ends-line}
 use Rattle.nj_manifest.proofs.Framing.{equals_value-inside}
 use Rattle.nj_manifest.proofs.Framing as framing

@@ -1,5 +1,5 @@
 -- Lines of dyndep files: their readings and their form.
-use Rattle.std.proofs.Common.{arith, ◌≡◌, ℕ, Bool, true, false, not, Option, Some, None, Ok, Err, List, []}
+use Rattle.std.proofs.Common.{arith, ◌≡◌, ℕ, Bool, false, Option, Some, None, Ok, List, []}
 use Rattle.std.proofs.Common.{refl}
 use Rattle.std.proofs.Common.{sym, ap, subst, ◌∙◌, codes}
 use Rattle.std.proofs.lemmas.Slice.Eq.{bytes_eq-Decides}
@@ -7,16 +7,14 @@ use Rattle.nj_text.specs.declared.sign.Sign.{Sign}
 use Rattle.nj_text.specs.declared.sign.Sign.TheVariants as sign
 use Rattle.nj_text.specs.Bytes.{begins_with}
 use Rattle.nj_text.specs.Units.{TextUnit}
-use Rattle.nj_text.specs.Lines.{Line, with_units, lines_after}
+use Rattle.nj_text.specs.Lines.{Line, lines_after}
 use Rattle.nj_text.specs.Words.{WordModel, is_blank, next_fault, opens_word}
-use Rattle.nj_text.specs.Calls.{State, Between, Inside, Failed, is_sign, skip_blanks_of, sign_of}
-use Rattle.nj_text.specs.Calls.{path_word_of, word_at, spot_of}
-use Rattle.nj_text.specs.Inside.States.{unless_bad}
+use Rattle.nj_text.specs.Calls.{State, Between, is_sign, skip_blanks_of, sign_of}
+use Rattle.nj_text.specs.Calls.{path_word_of, spot_of}
 use Rattle.nj_manifest.specs.declared.cause.SyntaxCause.TheVariants as cause
 use Rattle.nj_manifest.specs.declared.cause.Wanted.{Wanted}
 use Rattle.nj_manifest.specs.declared.cause.Wanted.TheVariants as wanted
-use Rattle.nj_manifest.specs.Faults.{Placed}
-use Rattle.nj_manifest.specs.LineSteps.{Step, called, name_next, expect_sign, words_next, section_next}
+use Rattle.nj_manifest.specs.LineSteps.{called, name_next, expect_sign, words_next, section_next}
 use Rattle.nj_manifest.specs.Grammar.{AreBlanks, KeywordForm, WordForm, WordsForm, SectionForm}
 use Rattle.nj_manifest.specs.Dyndeps.{EntryModel, word_of_form, no_path_by, no_path, no_section, output_next}
 use Rattle.nj_manifest.specs.Dyndeps.{added_inputs, entry_line}

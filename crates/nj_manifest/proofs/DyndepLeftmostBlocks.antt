@@ -18,17 +18,16 @@ use Rattle.nj_text.specs.Calls.{without_comments}
 use Rattle.nj_text.proofs.Lists.{AllIn}
 use Rattle.nj_manifest.specs.declared.cause.SyntaxCause.TheVariants as cause
 use Rattle.nj_manifest.specs.declared.cause.Wanted.TheVariants as wanted
-use Rattle.nj_manifest.specs.Faults.{Fault, Placed, OutOfMemory}
+use Rattle.nj_manifest.specs.Faults.{Fault, Placed}
 use Rattle.nj_manifest.specs.LineSteps.{Step, ◌>>=◌, called, NameModel, name_next, expect_sign}
 use Rattle.nj_manifest.specs.Statements.{equals_value}
 use Rattle.nj_manifest.specs.Leftmost.{continues, element, written, are_plain, NamesThePlaceOf, met_before}
 use Rattle.nj_manifest.specs.Leftmost.{offers}
-use Rattle.nj_manifest.specs.Dyndeps.{word_of_form, restat_block}
+use Rattle.nj_manifest.specs.Dyndeps.{restat_block}
 use Rattle.nj_manifest.specs.Grammar.{AreBlanks}
 use Rattle.nj_manifest.specs.DyndepLeftmost.{NamesPlaceInEntry}
 use Rattle.nj_manifest.proofs.EntryBlocks.{end_of, restat_end, too_many_end, end_if_indented, first_end}
 use Rattle.nj_manifest.proofs.EntryBlocks.{block-end}
-use Rattle.nj_manifest.proofs.Framing.{after-is}
 use Rattle.nj_manifest.proofs.LeftmostRuns.{skip, gap_of, gap_passes, gap_cut}
 use Rattle.nj_manifest.proofs.LeftmostFronts.{front, front-append, element-front}
 use Rattle.nj_manifest.proofs.LeftmostSteps.{at, text, Fits, Claim, Along, begin, Stuck, Outcome, stuck}

@@ -1,7 +1,7 @@
 -- The first fault of the next entry of some lines.
 use Rattle.std.proofs.Common.{arith, ◌≡◌, Bool, true, false, cond, inl, inr, ◌⊎◌, Option, Some, None, Ok, Err}
 use Rattle.std.proofs.Common.{List}
-use Rattle.std.proofs.Common.{[], ◌∷◌, ◌++◌, map, refl, sym, ap, subst, ◌∙◌, codes}
+use Rattle.std.proofs.Common.{[], ◌∷◌, ◌++◌, refl, sym, ap, subst, ◌∙◌, codes}
 use Rattle.std.specs.List.{list_all}
 use Rattle.std.proofs.lemmas.Bool.{and_parts}
 use Rattle.nj_text.specs.declared.spot.Spot.{Spot}

@@ -11,7 +11,7 @@ use Rattle.nj_text.specs.declared.sign.Sign.{Sign}
 use Rattle.nj_text.specs.declared.sign.Sign.TheVariants as sign
 use Rattle.nj_text.specs.declared.spot.Spot.{Spot}
 use Rattle.nj_text.specs.Words.{WordModel}
-use Rattle.nj_text.specs.Calls.{State, Reply, skip_blanks_of, ident_of, sign_of, path_word_of, value_of}
+use Rattle.nj_text.specs.Calls.{State, Reply, skip_blanks_of, sign_of, path_word_of}
 use Rattle.nj_text.specs.Calls.{spot_of, fault_spot}
 use Rattle.nj_manifest.specs.declared.cause.SyntaxCause.TheVariants as cause
 use Rattle.nj_manifest.specs.declared.cause.Wanted.{Wanted}
@@ -20,7 +20,7 @@ use Rattle.nj_manifest.specs.Faults.{Fault, Placed, bad_unit}
 use Rattle.nj_manifest.specs.LineSteps.{Step, ◌>>=◌, called, NameModel, name_next, expect_sign, words_within}
 use Rattle.nj_manifest.specs.LineSteps.{words_next, section_next}
 use Rattle.nj_manifest.specs.Statements.{equals_value}
-use Rattle.nj_manifest.specs.Dyndeps.{EntryModel, word_of_form, is_same_spot, no_path_by, no_path, no_section}
+use Rattle.nj_manifest.specs.Dyndeps.{EntryModel, word_of_form, is_same_spot, no_path, no_section}
 use Rattle.nj_manifest.specs.Dyndeps.{output_next, added_inputs, entry_line}
 use Rattle.nj_manifest.proofs.Choices.{named, if_there, words_if, unless_missing, words_next-is, words_from}
 use Rattle.nj_manifest.proofs.LeftmostSteps.{bind-bind}

@@ -1,7 +1,7 @@
 -- The one output after `build`: it is read, or stuck where it is missing or broken.
 use Rattle.std.proofs.Common.{arith, ◌≡◌, ℕ, Bool, true, false, cond, not, Option, Some, None, Ok, Err, inl}
 use Rattle.std.proofs.Common.{inr}
-use Rattle.std.proofs.Common.{List, [], ◌∷◌, ◌++◌, take, refl, sym, ap, ◌∙◌, append_assoc, codes}
+use Rattle.std.proofs.Common.{List, [], ◌∷◌, ◌++◌, refl, sym, ap, ◌∙◌, append_assoc, codes}
 use Rattle.std.specs.List.{take_while}
 use Rattle.nj_text.specs.declared.fault.UnitFault.{UnitFault}
 use Rattle.nj_text.specs.declared.sign.Sign.TheVariants as sign
@@ -10,7 +10,7 @@ use Rattle.nj_text.specs.Bytes.{drop_while, begins_with}
 use Rattle.nj_text.specs.Units.{TextUnit}
 use Rattle.nj_text.specs.Lines.{Line, with_units, spot_of_first}
 use Rattle.nj_text.specs.Words.{is_blank, opens_word, in_word, next_fault, WordModel}
-use Rattle.nj_text.specs.Calls.{State, unless_fault, is_empty, is_sign, state_after_sign}
+use Rattle.nj_text.specs.Calls.{State, unless_fault, is_empty, is_sign}
 use Rattle.nj_text.specs.Inside.States.{reply}
 use Rattle.nj_text.proofs.Lists.{AllIn, AllIn-take_while, take_while-cons_yes}
 use Rattle.nj_manifest.specs.declared.cause.SyntaxCause.TheVariants as cause
@@ -19,13 +19,13 @@ use Rattle.nj_manifest.specs.Faults.{Fault, Placed, bad_unit}
 use Rattle.nj_manifest.specs.LineSteps.{Step, ◌>>=◌, called}
 use Rattle.nj_manifest.specs.Leftmost.{are_plain, offers}
 use Rattle.nj_manifest.proofs.Choices.{unless_missing}
-use Rattle.nj_manifest.proofs.LeftmostRuns.{both_parts, after_stops, none_passed, skip, skip_stops, gap_of}
+use Rattle.nj_manifest.proofs.LeftmostRuns.{both_parts, after_stops, skip, skip_stops, gap_of}
 use Rattle.nj_manifest.proofs.LeftmostRuns.{gap_passes, gap_cut}
-use Rattle.nj_manifest.proofs.LeftmostFronts.{front, same-head, fault-same, sign-same, element-front}
+use Rattle.nj_manifest.proofs.LeftmostFronts.{front, fault-same, sign-same, element-front}
 use Rattle.nj_manifest.proofs.LeftmostSteps.{at, text, after_name, after_words, Fits, fits-gap, Passes}
 use Rattle.nj_manifest.proofs.LeftmostSteps.{FailsAt, bad-place, bad-kept, bad-offers}
 use Rattle.nj_manifest.proofs.LeftmostNames.{no_blank_there}
-use Rattle.nj_manifest.proofs.LeftmostWords.{settled, settled_so, settled_blank, settled_fault, settled_same}
+use Rattle.nj_manifest.proofs.LeftmostWords.{settled, settled_so, settled_same}
 use Rattle.nj_manifest.proofs.LeftmostWords.{settled_ends, ends_word, ends_same, so_not, both_so, is-sound}
 use Rattle.nj_manifest.proofs.LeftmostWords.{opening_in, word_of, word_x, word_reads, word_fails}
 use Rattle.nj_manifest.proofs.LeftmostWords.{no_word_reads, bad_word_reads, one_more_reads, fits-word}

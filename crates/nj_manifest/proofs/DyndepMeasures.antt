@@ -1,16 +1,14 @@
 -- Each entry of a dyndep file takes a line at least, and so does the version.
-use Rattle.std.proofs.Common.{◌≡◌, ℕ, suc, ◌<◌, ◌≤◌, Bool, true, false, cond, Option, Some, None, Ok, List}
-use Rattle.std.proofs.Common.{[], ◌∷◌, length, refl, sym, ap, ◌∙◌, arith}
-use Rattle.nj_text.specs.Bytes.{drop_while, begins_with}
-use Rattle.nj_text.specs.Units.{TextUnit}
-use Rattle.nj_text.specs.Lines.{Line, text_lines, with_units, lines_after, Kind, CommentLine, TabLine}
-use Rattle.nj_text.specs.Lines.{BlankLine, IndentedLine, PlainLine, kind_after_spaces, is_space_unit, kind_of}
-use Rattle.nj_text.specs.Calls.{State, Inside, is_empty, without_comments}
+use Rattle.std.proofs.Common.{◌≡◌, ℕ, suc, ◌<◌, ◌≤◌, Bool, true, false, cond, Option, Some, Ok, List}
+use Rattle.std.proofs.Common.{[], ◌∷◌, length, refl, ap, arith}
+use Rattle.nj_text.specs.Lines.{Line, text_lines, lines_after, Kind, CommentLine, TabLine}
+use Rattle.nj_text.specs.Lines.{BlankLine, IndentedLine, PlainLine, kind_of}
+use Rattle.nj_text.specs.Calls.{is_empty, without_comments}
 use Rattle.nj_manifest.specs.declared.block_lines.Keys.{Keys}
-use Rattle.nj_manifest.specs.Statements.{LineModel, lines_from}
+use Rattle.nj_manifest.specs.Statements.{LineModel}
 use Rattle.nj_manifest.specs.Openings.{Parse, opening_by, opening, or_last}
 use Rattle.nj_manifest.specs.Grammar.{BlockForm}
-use Rattle.nj_manifest.specs.Dyndeps.{EntryModel, version_line, version_from, version_next, next_entry}
+use Rattle.nj_manifest.specs.Dyndeps.{EntryModel, version_next, next_entry}
 use Rattle.nj_manifest.specs.Dyndeps.{left_entry}
 use Rattle.nj_manifest.specs.DyndepForms.{NextEntryForm}
 use Rattle.nj_manifest.proofs.Choices.{ended}

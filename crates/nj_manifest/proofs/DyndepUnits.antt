@@ -1,10 +1,9 @@
 -- Each unit of a text has a place of its own.
-use Rattle.std.proofs.Common.{◌≡◌, ℕ, zero, suc, ◌+◌, ◌<◌, Bool, true, false, cond, not, ◌==◌, Option, Some}
-use Rattle.std.proofs.Common.{None, ◌⊎◌, inl, inr, List, [], ◌∷◌, refl, ap, arith}
+use Rattle.std.proofs.Common.{◌≡◌, ℕ, zero, suc, ◌<◌, Bool, true, false, cond, not, Option, Some}
+use Rattle.std.proofs.Common.{None, ◌⊎◌, List, [], ◌∷◌, refl, ap, arith}
 use Rattle.std.specs.List.{list_all}
-use Rattle.std.proofs.lemmas.Bool.{and_parts, and_from, and_left, and_right, ne_eqb}
+use Rattle.std.proofs.lemmas.Bool.{and_parts, and_from}
 use Rattle.nj_text.specs.declared.spot.Spot.{Spot}
-use Rattle.nj_text.specs.Bytes.{is_line_feed}
 use Rattle.nj_text.specs.Units.{TextUnit, Position, AtStart, first_spot, found_at, position_after, spot_after}
 use Rattle.nj_text.specs.Units.{cut}
 use Rattle.nj_text.specs.Lines.{Line, ending_of, lines_before, lines_of, text_lines, with_units, lines_after}

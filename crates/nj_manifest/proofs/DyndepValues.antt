@@ -1,9 +1,6 @@
 -- The bytes of a value in which each reference is empty.
 use Rattle.std.proofs.lemmas.Grind.{common_steps}
-use Rattle.std.proofs.Common.{arith, ◌≡◌, ℕ, ◌+◌, ◌<◌, List, [], ◌∷◌, ◌++◌, length, take, get_or, map, sym}
-use Rattle.std.proofs.Common.{ap, ◌∙◌}
-use Rattle.std.proofs.Common.{append_assoc}
-use Rattle.std.proofs.lemmas.List.{map-append, take_more, append-nil}
+use Rattle.std.proofs.Common.{arith, ◌≡◌, ℕ, ◌+◌, ◌<◌, List, [], ◌∷◌, ◌++◌, length, take, get_or, map}
 use Rattle.nj_text.specs.declared.word.Part.{Part}
 use Rattle.nj_text.specs.Words.{PartModel, part_model}
 use Rattle.nj_manifest.specs.Expansion.{part_expanded, expanded, no_values}

@@ -1,8 +1,6 @@
 -- The output and the block of an entry, step by step.
-use Rattle.std.proofs.Common.{arith, ◌≡◌, Bool, true, false, cond, not, Option, Some, None, Result, Ok, Err}
-use Rattle.std.proofs.Common.{refl}
-use Rattle.std.proofs.Common.{ap, ◌∙◌, codes}
-use Rattle.std.specs.Option.{option_map_or}
+use Rattle.std.proofs.Common.{arith, ◌≡◌, Bool, false, not, Option, Some, None, Result, Ok, Err}
+use Rattle.std.proofs.Common.{codes}
 use Rattle.nj_text.specs.declared.sign.Sign.TheVariants as sign
 use Rattle.nj_text.specs.declared.line_start.LineStart.{LineStart}
 use Rattle.nj_text.specs.declared.line_start.LineStart.TheVariants as start
@@ -11,7 +9,7 @@ use Rattle.nj_text.specs.Calls.{State, start_line_of, sign_of, path_word_of, spo
 use Rattle.nj_manifest.specs.declared.cause.SyntaxCause.TheVariants as cause
 use Rattle.nj_manifest.specs.declared.cause.Wanted.TheVariants as wanted
 use Rattle.nj_manifest.specs.Faults.{Fault, Placed}
-use Rattle.nj_manifest.specs.LineSteps.{Step, ◌>>=◌, called, NameModel, name_next}
+use Rattle.nj_manifest.specs.LineSteps.{Step, ◌>>=◌, called, name_next}
 use Rattle.nj_manifest.specs.Statements.{equals_value}
 use Rattle.nj_manifest.specs.Dyndeps.{word_of_form, no_path, output_next, has_text, if_indented, in_block}
 use Rattle.nj_manifest.specs.Dyndeps.{restat_block}

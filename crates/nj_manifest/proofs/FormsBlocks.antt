@@ -3,8 +3,8 @@ use Rattle.std.proofs.Common.{arith, ◌≡◌, Bool, true, false, cond, Result,
 use Rattle.std.proofs.Common.{subst}
 use Rattle.std.proofs.Common.{◌∙◌}
 use Rattle.nj_text.specs.Bytes.{drop_while, is_space}
-use Rattle.nj_text.specs.Units.{Meaning, Ordinary, Escape, Reference, Join, OpeningJoin, Comment, LeadingTab}
-use Rattle.nj_text.specs.Units.{LineEnd, TextEnd, BadByte, BadEscape, TextUnit, is_ordinary_in}
+use Rattle.nj_text.specs.Units.{Meaning}
+use Rattle.nj_text.specs.Units.{TextUnit, is_ordinary_in}
 use Rattle.nj_text.specs.Lines.{Line, with_units, lines_after, Kind, CommentLine, TabLine, BlankLine}
 use Rattle.nj_text.specs.Lines.{IndentedLine, PlainLine, kind_of, is_space_unit}
 use Rattle.nj_text.specs.Inside.Meanings.{is_blank_meaning}

@@ -7,14 +7,14 @@ use mathlib.Core.Bool.{beq}
 use Rattle.std.specs.Prelude.{◌↔◌}
 use Rattle.std.specs.List.{list_any}
 use Rattle.std.specs.Str.{bytes_eq}
-use Rattle.std.proofs.lemmas.Bool.{not-true, or_left, or_right}
+use Rattle.std.proofs.lemmas.Bool.{not-true}
 use Rattle.std.proofs.lemmas.Slice.Eq.{bytes_eq-Decides}
 use Rattle.nj_text.specs.declared.spot.Spot.{Spot}
 use Rattle.nj_text.specs.Calls.{is_empty}
 use Rattle.nj_manifest.specs.Faults.{Fault}
 use Rattle.nj_manifest.specs.Statements.{LineModel, gives}
 use Rattle.nj_manifest.specs.Grammar.{Gives}
-use Rattle.nj_manifest.specs.Inside.Heads.{whole_rule, whole_pool, names}
+use Rattle.nj_manifest.specs.Inside.Heads.{whole_rule, whole_pool}
 use Rattle.nj_manifest.proofs.Choices.{unless_missing}
 use Rattle.nj_manifest.proofs.FormsLines.{same_bytes}
 use Rattle.nj_manifest.proofs.GivenKeys.{gives-cons}

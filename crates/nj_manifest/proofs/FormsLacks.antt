@@ -1,5 +1,5 @@
 -- Missing lines of rules and pools: the faults that are read, and the forms of the grammar.
-use Rattle.std.proofs.Common.{arith, ◌≡◌, Bool, true, false, cond, Result, Ok, Err, List, [], ◌∷◌, refl, sym}
+use Rattle.std.proofs.Common.{arith, ◌≡◌, Bool, true, false, Result, Ok, Err, List, [], ◌∷◌, refl, sym}
 use Rattle.std.proofs.Common.{ap}
 use Rattle.std.proofs.Common.{subst, ◌∙◌, codes}
 use mathlib.Core.Bool.{beq}
@@ -13,7 +13,7 @@ use Rattle.nj_text.specs.Calls.{Between, without_comments}
 use Rattle.nj_manifest.specs.declared.cause.SyntaxCause.TheVariants as cause
 use Rattle.nj_manifest.specs.declared.block_lines.Keys.{Keys}
 use Rattle.nj_manifest.specs.declared.block_lines.Keys.TheVariants as keys
-use Rattle.nj_manifest.specs.Faults.{Fault, Placed, OutOfMemory, is_syntax}
+use Rattle.nj_manifest.specs.Faults.{Fault, Placed, is_syntax}
 use Rattle.nj_manifest.specs.LineSteps.{◌>>=◌, NameModel}
 use Rattle.nj_manifest.specs.Statements.{LineModel, StatementModel, RuleModel, PoolModel, BuildModel, gives}
 use Rattle.nj_manifest.specs.Statements.{block, next_statement}

@@ -1,8 +1,7 @@
 -- The first lines of statements: their readings, and the forms of the grammar.
-use Rattle.std.proofs.Common.{arith, ◌≡◌, ℕ, Bool, true, false, cond, ◌&&◌, ◌||◌, Option, Some, None, Result}
+use Rattle.std.proofs.Common.{arith, ◌≡◌, ℕ, Bool, true, false, cond, ◌&&◌, ◌||◌, None, Result}
 use Rattle.std.proofs.Common.{Ok}
 use Rattle.std.proofs.Common.{List, refl, sym, ap, subst, ◌∙◌, codes}
-use Rattle.std.specs.Prelude.{ok_or}
 use Rattle.std.specs.List.{list_any}
 use Rattle.std.specs.Str.{bytes_eq}
 use Rattle.std.proofs.lemmas.Bool.{or_from}
@@ -13,12 +12,12 @@ use Rattle.nj_text.specs.Bytes.{begins_with}
 use Rattle.nj_text.specs.Units.{TextUnit}
 use Rattle.nj_text.specs.Lines.{Line, lines_after}
 use Rattle.nj_text.specs.Words.{WordModel, next_fault, opens_word}
-use Rattle.nj_text.specs.Calls.{State, Between, Inside, is_empty, is_sign, path_word_of, spot_of}
+use Rattle.nj_text.specs.Calls.{State, Between, Inside, is_empty, is_sign}
 use Rattle.nj_manifest.specs.declared.cause.SyntaxCause.TheVariants as cause
 use Rattle.nj_manifest.specs.declared.cause.Wanted.{Wanted}
 use Rattle.nj_manifest.specs.declared.cause.Wanted.TheVariants as wanted
-use Rattle.nj_manifest.specs.Faults.{Fault, Placed}
-use Rattle.nj_manifest.specs.LineSteps.{Step, ◌>>=◌, called, NameModel, name_next, expect_sign, words_next}
+use Rattle.nj_manifest.specs.Faults.{Fault}
+use Rattle.nj_manifest.specs.LineSteps.{Step, ◌>>=◌, NameModel, name_next, expect_sign, words_next}
 use Rattle.nj_manifest.specs.LineSteps.{section_next}
 use Rattle.nj_manifest.specs.Statements.{OutputsModel, InputsModel, BindingModel, DefaultModel, IncludeModel}
 use Rattle.nj_manifest.specs.Statements.{SubninjaModel, equals_value, outputs_next, inputs_next, targets_next}

@@ -3,26 +3,25 @@ use Rattle.std.proofs.Common.{arith, ◌≡◌, ℕ, Bool, true, false, cond, �
 use Rattle.std.proofs.Common.{List}
 use Rattle.std.proofs.Common.{[], ◌∷◌, ◌++◌, map, ◌⊎◌, inl, inr, refl, sym, ap, ◌∙◌, append_assoc}
 use Rattle.std.specs.List.{list_all, take_while}
-use Rattle.std.proofs.lemmas.Bool.{and_parts, and_right, not-true, eqb-true, false≢true}
+use Rattle.std.proofs.lemmas.Bool.{and_parts, not-true, false≢true}
 use Rattle.nj_text.specs.declared.fault.UnitFault.{UnitFault}
 use Rattle.nj_text.specs.declared.sign.Sign.{Sign}
 use Rattle.nj_text.specs.declared.sign.Sign.TheVariants as sign
 use Rattle.nj_text.specs.declared.spot.Spot.{Spot}
 use Rattle.nj_text.specs.Bytes.{drop_while, is_space, is_identifier_byte, begins_with}
-use Rattle.nj_text.specs.Units.{Meaning, Ordinary, Escape, Reference, Join, OpeningJoin, Comment, LeadingTab}
-use Rattle.nj_text.specs.Units.{LineEnd, TextEnd, BadByte, BadEscape, TextUnit, is_ordinary_in}
+use Rattle.nj_text.specs.Units.{Meaning, Ordinary, LeadingTab}
+use Rattle.nj_text.specs.Units.{LineEnd, BadByte, BadEscape, TextUnit, is_ordinary_in}
 use Rattle.nj_text.specs.Lines.{Line, with_units, lines_after, spot_of_first}
 use Rattle.nj_text.specs.Words.{is_blank, in_identifier, begins_with_byte, fault_of, next_fault, opens_word}
 use Rattle.nj_text.specs.Inside.Meanings.{is_blank_meaning, opens_word_meaning}
 use Rattle.nj_text.specs.Calls as calls
 use Rattle.nj_text.specs.Inside.States.{reply, unless_bad}
-use Rattle.nj_text.specs.Calls.{State, Between, Inside, Reply, bytes_of, some_bytes, is_empty, is_sign}
+use Rattle.nj_text.specs.Calls.{State, Between, Inside, bytes_of, some_bytes, is_empty, is_sign}
 use Rattle.nj_text.specs.Calls.{state_after_sign, sign_of}
 use Rattle.nj_manifest.specs.declared.cause.Wanted.{Wanted}
 use Rattle.nj_manifest.specs.LineSteps.{Step, ◌>>=◌, called, NameModel, name_next, expect_sign}
 use Rattle.nj_manifest.specs.Grammar.{AreBlanks, IdentifierForm, SignForm}
 use Rattle.nj_manifest.proofs.Choices.{named, if_there}
-use Rattle.nj_manifest.proofs.Framing.{bind-ok, called-fault, after-is, value-is}
 use Rattle.nj_manifest.proofs.FormsGaps.{both_parts, front_passes, after_stops, run_passed, run_taken, skip}
 use Rattle.nj_manifest.proofs.FormsGaps.{skip_again, skip_gap, gap_of, gap_passes, gap_cut, blanks_end}
 use Rattle.nj_manifest.proofs.FormsGaps.{end_of_blanks}

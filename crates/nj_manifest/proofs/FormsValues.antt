@@ -1,8 +1,7 @@
 -- Values and bindings: the readings to the end of a line, and the forms of the grammar.
-use Rattle.std.proofs.Common.{arith, ◌≡◌, Bool, true, false, cond, Option, Some, None, Ok, List, [], ◌∷◌}
+use Rattle.std.proofs.Common.{arith, ◌≡◌, Bool, true, false, cond, Option, None, Ok, List, [], ◌∷◌}
 use Rattle.std.proofs.Common.{◌++◌, refl}
 use Rattle.std.proofs.Common.{sym, ap, subst, ◌∙◌, append_assoc}
-use Rattle.std.proofs.lemmas.Bool.{false≢true}
 use Rattle.nj_text.specs.declared.fault.UnitFault.{UnitFault}
 use Rattle.nj_text.specs.declared.sign.Sign.TheVariants as sign
 use Rattle.nj_text.specs.declared.spot.Spot.{Spot}

@@ -7,11 +7,11 @@ use Rattle.nj_text.specs.declared.fault.UnitFault.{UnitFault}
 use Rattle.nj_text.specs.declared.sign.Sign.{Sign}
 use Rattle.nj_text.specs.declared.sign.Sign.TheVariants as sign
 use Rattle.nj_text.specs.declared.spot.Spot.{Spot}
-use Rattle.nj_text.specs.Bytes.{drop_while, is_word_byte, begins_with}
-use Rattle.nj_text.specs.Units.{Meaning, Ordinary, Escape, Reference, Join, OpeningJoin, Comment, LeadingTab}
-use Rattle.nj_text.specs.Units.{LineEnd, TextEnd, BadByte, BadEscape, TextUnit}
+use Rattle.nj_text.specs.Bytes.{drop_while, begins_with}
+use Rattle.nj_text.specs.Units.{Meaning}
+use Rattle.nj_text.specs.Units.{LineEnd, TextUnit}
 use Rattle.nj_text.specs.Lines.{Line, spot_of_first}
-use Rattle.nj_text.specs.Words.{WordModel, is_blank, in_word, opens_word, fault_of, next_fault, parts_of}
+use Rattle.nj_text.specs.Words.{WordModel, in_word, opens_word, fault_of, next_fault, parts_of}
 use Rattle.nj_text.specs.Inside.Meanings.{is_blank_meaning, opens_word_meaning}
 use Rattle.nj_text.specs.Calls as calls
 use Rattle.nj_text.specs.Inside.States.{reply}
@@ -25,7 +25,7 @@ use Rattle.nj_manifest.proofs.WordLimits.{opening_is_within, words_next-fails, w
 use Rattle.nj_manifest.proofs.WordLimits.{words_next-more}
 use Rattle.nj_manifest.proofs.FormsGaps.{both_parts, front_passes, after_stops, run_passed, run_taken, skip}
 use Rattle.nj_manifest.proofs.FormsGaps.{skip_gap, gap_of, gap_passes, gap_cut}
-use Rattle.nj_manifest.proofs.FormsTokens.{within, passes_without_fault, ordinary_no_blank, sign-form}
+use Rattle.nj_manifest.proofs.FormsTokens.{within, passes_without_fault, sign-form}
 use Rattle.nj_manifest.proofs.FormsTokens.{sign-left_out, sign-none, sign-read, sign_skips}
 
 -- ---- tests on a unit

@@ -1,8 +1,7 @@
 -- Where the readings of a line leave the lexer.
 use Rattle.std.proofs.Common.{arith, ◌≡◌, ℕ, zero, suc, Bool, true, false, cond, ◌&&◌, Option, Some, None}
 use Rattle.std.proofs.Common.{Result}
-use Rattle.std.proofs.Common.{Ok, Err, List, [], refl, sym, ap, subst, ◌∙◌, codes}
-use Rattle.std.proofs.lemmas.Bool.{false≢true}
+use Rattle.std.proofs.Common.{Ok, List, [], refl, sym, ap, subst, ◌∙◌, codes}
 use Rattle.std.specs.Prelude.{ok_or}
 use Rattle.std.specs.Str.{bytes_eq}
 use Rattle.nj_text.specs.declared.fault.UnitFault.{UnitFault}
@@ -12,13 +11,13 @@ use Rattle.nj_text.specs.declared.spot.Spot.{Spot}
 use Rattle.nj_text.specs.Bytes.{drop_while, begins_with}
 use Rattle.nj_text.specs.Units.{TextUnit}
 use Rattle.nj_text.specs.Lines.{Line, with_units, lines_after}
-use Rattle.nj_text.specs.Words.{WordModel, in_identifier, is_blank, after_opening, in_word, next_fault}
+use Rattle.nj_text.specs.Words.{WordModel, is_blank, after_opening, in_word, next_fault}
 use Rattle.nj_text.specs.Words.{first_fault, opens_word}
 use Rattle.nj_text.specs.Calls as calls
 use Rattle.nj_text.specs.Inside.States.{reply}
-use Rattle.nj_text.specs.Calls.{State, Between, Inside, Failed, Reply, skip_blanks_of, ident_of, sign_of}
-use Rattle.nj_text.specs.Calls.{path_word_of, value_of, spot_of, after_blanks, state_after_sign, is_sign}
-use Rattle.nj_text.specs.Calls.{is_empty, word_here, some_bytes, bytes_of}
+use Rattle.nj_text.specs.Calls.{State, Between, Inside, Reply, sign_of}
+use Rattle.nj_text.specs.Calls.{path_word_of, value_of, spot_of, after_blanks, state_after_sign}
+use Rattle.nj_text.specs.Calls.{is_empty, word_here}
 use Rattle.nj_manifest.specs.declared.cause.SyntaxCause.TheVariants as cause
 use Rattle.nj_manifest.specs.declared.cause.Wanted.{Wanted}
 use Rattle.nj_manifest.specs.declared.cause.Wanted.TheVariants as wanted
@@ -26,7 +25,7 @@ use Rattle.nj_manifest.specs.declared.block_lines.Keys.{Keys}
 use Rattle.nj_manifest.specs.Faults.{Fault, Placed}
 use Rattle.nj_manifest.specs.LineSteps.{Step, ◌>>=◌, called, NameModel, name_next, expect_sign, words_within}
 use Rattle.nj_manifest.specs.LineSteps.{words_next, section_next}
-use Rattle.nj_manifest.specs.Statements.{LineModel, allows, equals_value, line_next, OutputsModel}
+use Rattle.nj_manifest.specs.Statements.{LineModel, equals_value, line_next, OutputsModel}
 use Rattle.nj_manifest.specs.Statements.{InputsModel, BindingModel, DefaultModel, IncludeModel, SubninjaModel}
 use Rattle.nj_manifest.specs.Statements.{outputs_next, inputs_next, targets_next, file_next}
 use Rattle.nj_manifest.specs.Grammar.{HeadModel, Alone, RuleHead, PoolHead, BuildHead}

@@ -1,18 +1,16 @@
 -- ` and `|@` both. || The units before a reading that it sees: the first one, and both of `||` and
 -- `|@`.||` and `|@` both.
-use Rattle.std.proofs.Common.{arith, ◌≡◌, ℕ, Bool, true, false, ◌&&◌, ◌||◌, not, eqb, List, [], ◌∷◌, ◌++◌}
+use Rattle.std.proofs.Common.{arith, ◌≡◌, ℕ, Bool, true, false, ◌&&◌, ◌||◌, not, List, [], ◌∷◌, ◌++◌}
 use Rattle.std.proofs.Common.{take}
-use Rattle.std.proofs.Common.{refl, sym, ap, ◌∙◌}
+use Rattle.std.proofs.Common.{sym, ap, ◌∙◌}
 use Rattle.std.specs.List.{take_while}
 use Rattle.nj_text.specs.declared.sign.Sign.{Sign}
 use Rattle.nj_text.specs.declared.sign.Sign.TheVariants as sign
-use Rattle.nj_text.specs.Bytes.{is_identifier_byte, begins_with}
-use Rattle.nj_text.specs.Units.{TextUnit, is_ordinary_in}
+use Rattle.nj_text.specs.Bytes.{begins_with}
+use Rattle.nj_text.specs.Units.{TextUnit}
 use Rattle.nj_text.specs.Words.{in_identifier, begins_with_byte, next_fault}
 use Rattle.nj_text.specs.Calls.{is_sign}
-use Rattle.nj_text.proofs.Lists.{take_while-cons_yes}
 use Rattle.nj_manifest.specs.Leftmost.{element_by, element}
-use Rattle.nj_manifest.proofs.LeftmostRuns.{no_other, not_byte}
 
 abbrev pub front : List TextUnit → List TextUnit
 front us = element_by false (is_sign sign.Pipe2 us || is_sign sign.PipeAt us) us

@@ -1,15 +1,14 @@
 -- The first line of a statement: it is read to its end, or stuck at its first fault.
-use Rattle.std.proofs.Common.{arith, ◌≡◌, ℕ, Bool, true, false, cond, Option, Some, None, Result, Ok, Err}
+use Rattle.std.proofs.Common.{arith, ◌≡◌, ℕ, Bool, true, false, cond, Result, Ok}
 use Rattle.std.proofs.Common.{List, []}
 use Rattle.std.proofs.Common.{◌∷◌, ◌++◌, refl, ap, ◌∙◌, codes}
-use Rattle.std.specs.Prelude.{ok_or}
 use Rattle.std.specs.Str.{bytes_eq}
 use Rattle.nj_text.specs.declared.sign.Sign.TheVariants as sign
 use Rattle.nj_text.specs.Bytes.{begins_with}
 use Rattle.nj_text.specs.Units.{TextUnit, first_spot}
 use Rattle.nj_text.specs.Lines.{Line, spot_of_first}
 use Rattle.nj_text.specs.Words.{in_identifier, WordModel}
-use Rattle.nj_text.specs.Calls.{State, is_empty, spot_of}
+use Rattle.nj_text.specs.Calls.{State, is_empty}
 use Rattle.nj_manifest.specs.declared.cause.SyntaxCause.TheVariants as cause
 use Rattle.nj_manifest.specs.declared.cause.Wanted.{Wanted}
 use Rattle.nj_manifest.specs.declared.cause.Wanted.TheVariants as wanted
@@ -20,12 +19,12 @@ use Rattle.nj_manifest.specs.Statements.{equals_value, targets_next, file_next}
 use Rattle.nj_manifest.specs.Leftmost.{written, offers_next}
 use Rattle.nj_manifest.specs.Grammar.{HeadModel, Alone, RuleHead, PoolHead}
 use Rattle.nj_manifest.specs.Inside.Heads.{build_head, as_head, head_after, head_next, name_alone}
-use Rattle.nj_manifest.proofs.Choices.{unless_none, path_there}
+use Rattle.nj_manifest.proofs.Choices.{unless_none}
 use Rattle.nj_manifest.proofs.LeftmostFronts.{element-front}
 use Rattle.nj_manifest.proofs.LeftmostSteps.{at, text, after_name, after_words, FailsAt, Claim, Along}
 use Rattle.nj_manifest.proofs.LeftmostSteps.{Outcome, stuck, stick, pass}
 use Rattle.nj_manifest.proofs.LeftmostSigns.{ending, finish}
-use Rattle.nj_manifest.proofs.LeftmostWords.{settled, settled_same, one_more, word_call, WordsPass}
+use Rattle.nj_manifest.proofs.LeftmostWords.{settled, settled_same, one_more, WordsPass}
 use Rattle.nj_manifest.proofs.LeftmostTurns.{ReadTo, name_turn, words_turn}
 use Rattle.nj_manifest.proofs.LeftmostValues.{value_turn}
 use Rattle.nj_manifest.proofs.LeftmostBuilds.{words_after_name, itself, build_turn}

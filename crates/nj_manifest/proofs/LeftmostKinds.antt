@@ -1,18 +1,17 @@
 -- The kind of a line, by its leading spaces and the unit after them.
 use Rattle.std.proofs.lemmas.Grind.{common_steps}
-use Rattle.std.proofs.Common.{arith, ◌≡◌, Bool, true, false, List, [], ◌∷◌, ◌++◌, take, refl, sym, ap, ◌∙◌}
+use Rattle.std.proofs.Common.{arith, ◌≡◌, Bool, true, false, List, ◌++◌, take, ◌∙◌}
 use Rattle.std.specs.List.{take_while}
 use Rattle.nj_text.specs.declared.spot.Spot.{Spot}
-use Rattle.nj_text.specs.Bytes.{drop_while, is_space, is_identifier_byte, begins_with}
-use Rattle.nj_text.specs.Units.{Meaning, Ordinary, Comment, LeadingTab, TextUnit, is_ordinary_in}
+use Rattle.nj_text.specs.Bytes.{drop_while, is_identifier_byte, begins_with}
+use Rattle.nj_text.specs.Units.{Meaning, TextUnit, is_ordinary_in}
 use Rattle.nj_text.specs.Lines.{Kind, TabLine, IndentedLine, PlainLine, is_space_unit, kind_with}
 use Rattle.nj_text.specs.Lines.{kind_after_spaces, spot_of_first}
 use Rattle.nj_text.specs.Inside.Meanings.{text_kind}
 use Rattle.nj_text.specs.Words.{in_identifier}
 use Rattle.nj_text.proofs.Lists.{AllIn, AllIn-take_while}
-use Rattle.nj_manifest.proofs.LeftmostRuns.{both_parts, after_stops, run_passed, none_passed, no_other}
-use Rattle.nj_manifest.proofs.LeftmostRuns.{not_byte}
-use Rattle.nj_manifest.proofs.LeftmostFronts.{front, same-head, begins-same}
+use Rattle.nj_manifest.proofs.LeftmostRuns.{both_parts, after_stops, run_passed}
+use Rattle.nj_manifest.proofs.LeftmostFronts.{front, begins-same}
 
 -- the kind of a line with these units
 abbrev pub kind_units : List TextUnit → Kind

@@ -9,10 +9,9 @@ use Rattle.nj_text.specs.Bytes.{drop_while, is_identifier_byte, begins_with}
 use Rattle.nj_text.specs.Units.{TextUnit, is_ordinary_in}
 use Rattle.nj_text.specs.Lines.{Line, with_units, spot_of_first}
 use Rattle.nj_text.specs.Words.{is_blank, in_identifier, fault_of, next_fault}
-use Rattle.nj_text.specs.Inside.Meanings.{is_blank_meaning}
 use Rattle.nj_text.specs.Calls.{State, unless_fault, bytes_of, some_bytes}
 use Rattle.nj_text.specs.Inside.States.{reply}
-use Rattle.nj_text.proofs.Lists.{AllIn, AllIn-take_while, take_while-cons_yes, take_while-cons_no}
+use Rattle.nj_text.proofs.Lists.{AllIn, AllIn-take_while}
 use Rattle.nj_manifest.specs.declared.cause.SyntaxCause.TheVariants as cause
 use Rattle.nj_manifest.specs.declared.cause.Wanted.{Wanted}
 use Rattle.nj_manifest.specs.Faults.{Fault, Placed, bad_unit}
@@ -21,7 +20,7 @@ use Rattle.nj_manifest.specs.Leftmost.{element}
 use Rattle.nj_manifest.proofs.Choices.{named}
 use Rattle.nj_manifest.proofs.LeftmostRuns.{both_parts, after_stops, none_passed, none_taken, run_passed}
 use Rattle.nj_manifest.proofs.LeftmostRuns.{run_taken, skip, skip_again, skip_stops, skip_gap, gap_of}
-use Rattle.nj_manifest.proofs.LeftmostRuns.{gap_passes, gap_cut, no_other, not_byte}
+use Rattle.nj_manifest.proofs.LeftmostRuns.{gap_passes, gap_cut}
 use Rattle.nj_manifest.proofs.LeftmostFronts.{identifier_no_pipe, begins-same, fault-same, element-front}
 use Rattle.nj_manifest.proofs.LeftmostFronts.{element-identifier}
 use Rattle.nj_manifest.proofs.LeftmostSteps.{at, blank_no_pipe, Fits, by_fits, fits-alone, Passes, FailsAt}

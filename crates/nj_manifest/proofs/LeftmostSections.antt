@@ -5,21 +5,19 @@ use Rattle.std.proofs.Common.{List, [], ◌∷◌, ◌++◌, refl, sym, ap, ◌�
 use Rattle.nj_text.specs.declared.fault.UnitFault.{UnitFault}
 use Rattle.nj_text.specs.declared.sign.Sign.{Sign}
 use Rattle.nj_text.specs.declared.sign.Sign.TheVariants as sign
-use Rattle.nj_text.specs.Units.{Ordinary, TextUnit, is_ordinary_in}
+use Rattle.nj_text.specs.Units.{TextUnit}
 use Rattle.nj_text.specs.Lines.{Line, with_units}
-use Rattle.nj_text.specs.Words.{is_blank, begins_with_byte, next_fault, WordModel}
-use Rattle.nj_text.specs.Inside.Meanings.{is_blank_meaning, opens_word_meaning}
+use Rattle.nj_text.specs.Words.{begins_with_byte, next_fault, WordModel}
 use Rattle.nj_text.specs.Calls.{State, unless_fault, is_sign, state_after_sign}
 use Rattle.nj_text.specs.Inside.States.{reply}
 use Rattle.nj_manifest.specs.Faults.{Fault}
 use Rattle.nj_manifest.specs.LineSteps.{Step, ◌>>=◌, called, words_next, section_next}
 use Rattle.nj_manifest.proofs.Choices.{words_if}
-use Rattle.nj_manifest.proofs.LeftmostRuns.{none_passed}
 use Rattle.nj_manifest.proofs.LeftmostFronts.{front, byte-same, sign-same, front-append, front-two}
 use Rattle.nj_manifest.proofs.LeftmostFronts.{front-bare, element-front}
-use Rattle.nj_manifest.proofs.LeftmostSteps.{at, Fits, Passes, FailsAt, opens-none, opens-no_fault}
-use Rattle.nj_manifest.proofs.LeftmostSteps.{after_words, is_colon, colon_is}
-use Rattle.nj_manifest.proofs.LeftmostWords.{settled, settled_blank, settled_fault, settled_so, settled_same}
+use Rattle.nj_manifest.proofs.LeftmostSteps.{at, Fits, Passes, FailsAt}
+use Rattle.nj_manifest.proofs.LeftmostSteps.{after_words}
+use Rattle.nj_manifest.proofs.LeftmostWords.{settled, settled_fault}
 use Rattle.nj_manifest.proofs.LeftmostWords.{one_more, WordsRun, WordsPass, WordsSeen, there, broken}
 use Rattle.nj_manifest.proofs.LeftmostWords.{words_seen}
 use Rattle.nj_manifest.specs.Leftmost.{offers}

@@ -1,6 +1,6 @@
 -- Reading on along a line: where a reading passes, where it fails, and the consequences of both for
 -- a whole line.
-use Rattle.std.proofs.Common.{arith, ◌≡◌, ℕ, Bool, true, false, ◌||◌, ◌==◌, eqb, Option, Some, None, Result}
+use Rattle.std.proofs.Common.{arith, ◌≡◌, ℕ, Bool, true, false, ◌||◌, ◌==◌, eqb, Some, None, Result}
 use Rattle.std.proofs.Common.{Ok, Err}
 use Rattle.std.proofs.Common.{◌⊎◌, inl, inr, List, [], ◌∷◌, ◌++◌, map, refl, sym, ap, subst, ◌∙◌}
 use Rattle.std.proofs.Common.{append_assoc}
@@ -9,7 +9,7 @@ use Rattle.nj_text.specs.declared.fault.UnitFault.{UnitFault}
 use Rattle.nj_text.specs.declared.fault.UnitFault.TheVariants as lex
 use Rattle.nj_text.specs.declared.spot.Spot.{Spot}
 use Rattle.nj_text.specs.Bytes.{is_space, drop_while, begins_with}
-use Rattle.nj_text.specs.Units.{Meaning, Ordinary, LeadingTab, BadByte, BadEscape, TextUnit, is_ordinary_in}
+use Rattle.nj_text.specs.Units.{Meaning, Ordinary, TextUnit, is_ordinary_in}
 use Rattle.nj_text.specs.Lines.{Line, with_units, lines_after, spot_of_first}
 use Rattle.nj_text.specs.Words.{is_blank, begins_with_byte, fault_of, next_fault}
 use Rattle.nj_text.specs.Inside.Meanings.{is_blank_meaning}
@@ -20,8 +20,8 @@ use Rattle.nj_manifest.specs.Faults.{Fault, bad_unit}
 use Rattle.nj_manifest.specs.LineSteps.{Step, ◌>>=◌}
 use Rattle.nj_manifest.specs.Leftmost.{element, written_unit, written, are_plain, NamesThePlaceOf, met_before}
 use Rattle.nj_manifest.specs.Leftmost.{offers_next, offers}
-use Rattle.nj_manifest.proofs.LeftmostRuns.{no_other, not_byte, gap_of, skip, gap_passes, gap_cut}
-use Rattle.nj_manifest.proofs.LeftmostFronts.{front, front-append, front-alone, element-front}
+use Rattle.nj_manifest.proofs.LeftmostRuns.{gap_of, skip, gap_passes, gap_cut}
+use Rattle.nj_manifest.proofs.LeftmostFronts.{front, front-append, element-front}
 
 -- the lexer within a line, before these units
 abbrev pub at : List TextUnit → Line → List Line → State

@@ -15,7 +15,7 @@ use Rattle.nj_manifest.proofs.LeftmostNames.{NamePasses, NameSeen, name_seen, na
 use Rattle.nj_manifest.proofs.LeftmostNames as names
 use Rattle.nj_manifest.proofs.LeftmostSigns.{IsSingle, SignSeen, sign_step, led_on, sign_seen, sign_skips}
 use Rattle.nj_manifest.proofs.LeftmostSigns as signs
-use Rattle.nj_manifest.proofs.LeftmostWords.{settled, one_more, WordsRun, WordsPass, WordsSeen, words_seen}
+use Rattle.nj_manifest.proofs.LeftmostWords.{settled, one_more, WordsPass, WordsSeen, words_seen}
 use Rattle.nj_manifest.proofs.LeftmostWords as words
 use Rattle.nj_manifest.proofs.LeftmostSections.{IsMark, SectionRun, SectionPass, SectionSeen, section_seen}
 use Rattle.nj_manifest.proofs.LeftmostSections.{absent, present, faulty, pass_words, pass_absent}

@@ -6,7 +6,7 @@ use Rattle.std.specs.Option.{option_or}
 use Rattle.nj_text.specs.declared.fault.UnitFault.{UnitFault}
 use Rattle.nj_text.specs.declared.sign.Sign.TheVariants as sign
 use Rattle.nj_text.specs.declared.spot.Spot.{Spot}
-use Rattle.nj_text.specs.Units.{Meaning, Ordinary, Join, OpeningJoin, TextUnit}
+use Rattle.nj_text.specs.Units.{Meaning, TextUnit}
 use Rattle.nj_text.specs.Lines.{Line, with_units, lines_after, spot_of_first}
 use Rattle.nj_text.specs.Words.{is_blank, after_opening, fault_of, next_fault, first_fault, parts_of}
 use Rattle.nj_text.specs.Words.{WordModel}

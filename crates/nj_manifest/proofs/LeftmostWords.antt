@@ -2,13 +2,13 @@
 use Rattle.std.proofs.lemmas.Grind.{common_steps}
 use Rattle.std.proofs.Common.{◌≡◌, ℕ, zero, suc, ◌<◌, Bool, true, false, cond, ◌&&◌, not, eqb, Option, Some}
 use Rattle.std.proofs.Common.{None, Ok, Err, inl, inr, List, [], ◌∷◌, ◌++◌, length, refl, sym, ap, ◌∙◌}
-use Rattle.std.proofs.Common.{append_assoc, length-append, arith}
+use Rattle.std.proofs.Common.{append_assoc, arith}
 use Rattle.std.specs.List.{take_while}
 use Rattle.std.proofs.lemmas.Bool.{and_parts}
 use Rattle.nj_text.specs.declared.fault.UnitFault.{UnitFault}
 use Rattle.nj_text.specs.declared.spot.Spot.{Spot}
-use Rattle.nj_text.specs.Bytes.{drop_while, is_word_byte, begins_with}
-use Rattle.nj_text.specs.Units.{Meaning, Ordinary, Escape, Reference, Join, LeadingTab, BadByte, BadEscape}
+use Rattle.nj_text.specs.Bytes.{drop_while, begins_with}
+use Rattle.nj_text.specs.Units.{Meaning}
 use Rattle.nj_text.specs.Units.{TextUnit, is_ordinary_in}
 use Rattle.nj_text.specs.Lines.{Line, with_units, spot_of_first}
 use Rattle.nj_text.specs.Words.{is_blank, opens_word, in_word, fault_of, next_fault, parts_of, WordModel}
@@ -22,9 +22,9 @@ use Rattle.nj_manifest.specs.Leftmost.{written_unit, offers}
 use Rattle.nj_manifest.proofs.Choices.{words_from}
 use Rattle.nj_manifest.proofs.WordLimits.{words_next-fails, words_next-ends, words_next-more}
 use Rattle.nj_manifest.proofs.LeftmostRuns.{both_parts, after_stops, none_passed, run_passed, run_taken, skip}
-use Rattle.nj_manifest.proofs.LeftmostRuns.{skip_stops, skip_gap, gap_of, gap_passes, gap_cut, not_byte}
+use Rattle.nj_manifest.proofs.LeftmostRuns.{skip_stops, skip_gap, gap_of, gap_passes, gap_cut}
 use Rattle.nj_manifest.proofs.LeftmostFronts.{front, begins-same, fault-same, front-append, element-front}
-use Rattle.nj_manifest.proofs.LeftmostSteps.{at, blank_no_pipe, Fits, fits-alone, fits-gap, FailsAt}
+use Rattle.nj_manifest.proofs.LeftmostSteps.{at, Fits, fits-alone, fits-gap, FailsAt}
 use Rattle.nj_manifest.proofs.LeftmostSteps.{bad-place, bad-kept, bad-offers}
 use Rattle.nj_manifest.proofs.LeftmostNames.{no_blank_there}
 

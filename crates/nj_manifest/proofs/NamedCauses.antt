@@ -1,10 +1,6 @@
 -- The text of a cause whose name was made of another.
-use Rattle.std.proofs.Common.{arith, ◌≡◌, ℕ, List, refl}
+use Rattle.std.proofs.Common.{arith, ◌≡◌, ℕ, List}
 use Rattle.nj_manifest.specs.declared.cause.SyntaxCause.{SyntaxCause}
-use Rattle.nj_manifest.specs.declared.cause.SyntaxCause.TheVariants.{BadByte, Tab, BadEscape, Expected}
-use Rattle.nj_manifest.specs.declared.cause.SyntaxCause.TheVariants.{UnexpectedIndent, MissingCommand}
-use Rattle.nj_manifest.specs.declared.cause.SyntaxCause.TheVariants.{RspPair, UnknownKey, MissingDepth}
-use Rattle.nj_manifest.specs.declared.cause.SyntaxCause.TheVariants.{DyndepVersion, DyndepShape}
 use Rattle.nj_manifest.specs.Faults.{named_by, syntax_text}
 
 pub named_text : {N M : Type 0} (named : N → M) (shown : M → List ℕ) (cause : SyntaxCause N)

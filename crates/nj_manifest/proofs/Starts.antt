@@ -9,8 +9,8 @@ use Rattle.nj_text.specs.declared.line_start.LineStart.{LineStart}
 use Rattle.nj_text.specs.declared.line_start.LineStart.TheVariants as start
 use Rattle.nj_text.specs.declared.spot.Spot.{Spot}
 use Rattle.nj_text.specs.Units.{TextUnit}
-use Rattle.nj_text.specs.Lines.{Line, with_units, lines_after, Kind, CommentLine, TabLine, BlankLine}
-use Rattle.nj_text.specs.Lines.{IndentedLine, PlainLine, kind_of}
+use Rattle.nj_text.specs.Lines.{Line, with_units, lines_after, Kind}
+use Rattle.nj_text.specs.Lines.{PlainLine, kind_of}
 use Rattle.nj_text.specs.Inside.States.{reply}
 use Rattle.nj_text.specs.Calls.{State, Reply, Between, Inside, Failed, Answers, start_line_of, begun}
 use Rattle.nj_text.specs.Calls.{begun_by, is_comment, is_empty, without_comments, spot_of}

@@ -16,7 +16,7 @@ use Rattle.nj_needs.specs.Inside.Paths.{top_row, done_at, turns_left, IsLinked, 
 use Rattle.nj_needs.specs.declared.frame.Frame.{Frame}
 use Rattle.nj_needs.proofs.Fronts.{IsFront, front-map, front-first, front-get, front-take, front-same}
 use Rattle.nj_needs.proofs.Fronts.{first-append}
-use Rattle.nj_needs.proofs.Members.{In, In-tail, In-head, In-append_right, Among}
+use Rattle.nj_needs.proofs.Members.{In, In-tail, In-append_right, Among}
 use Rattle.nj_needs.proofs.Rounds.{next_round, with_checks, front-checks}
 use Rattle.nj_needs.proofs.Steps.{same-pass, pass-comes, open-comes, open-turns, close-comes, close-turns}
 use Rattle.nj_needs.proofs.Steps.{closed-done, closed-fresh, closed-within}

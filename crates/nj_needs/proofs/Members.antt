@@ -1,13 +1,12 @@
 -- Lists of edges as sets, and the makers in a row.
 use Rattle.std.proofs.lemmas.Grind.{common_steps}
-use Rattle.std.proofs.Common.{◌≡◌, ℕ, zero, suc, ◌<◌, get_or, take, Bool, true, false, Option, Some, List, []}
-use Rattle.std.proofs.Common.{◌∷◌, ◌++◌, length, refl, sym, ◌∙◌, ◌⊎◌, inl, inr, arith}
+use Rattle.std.proofs.Common.{◌≡◌, ℕ, zero, suc, ◌<◌, get_or, take, Bool, true, Option, Some, List, []}
+use Rattle.std.proofs.Common.{◌∷◌, ◌++◌, length, refl, ◌⊎◌, inl, inr, arith}
 use Rattle.std.specs.Prelude.{nat_eq, Contains, slice_get}
 use Rattle.std.specs.List.{list_any}
 use Rattle.std.specs.Cmp.{nat_eq_equiv}
-use Rattle.std.proofs.lemmas.Bool.{eqb-true, eq-eqb, or_cases, or_left, or_right}
+use Rattle.std.proofs.lemmas.Bool.{eqb-true, eq-eqb, or_left, or_right}
 use Rattle.std.proofs.lemmas.List.Elements.{Contains-append_right}
-use Rattle.std.proofs.lemmas.List.Folds.{list_any-append}
 use Rattle.std.proofs.lemmas.Map.Views.{Contains-from_any, list_any-from_Contains}
 
 -- x is an element of xs, by a test

@@ -1,8 +1,8 @@
 -- The state of a walk and its saved address, at the start and after each turn.
 use Rattle.std.proofs.lemmas.Grind.{common_steps}
 use Rattle.std.proofs.Common.{◌≡◌, ℕ, ◌+◌, ◌-◌, ◌<◌, ◌≤◌, min, Bool, true, false, cond, List, [], ◌∷◌, ◌++◌}
-use Rattle.std.proofs.Common.{length, get_or, take, refl, sym, ap, subst, ◌∙◌, inl, inr, arith}
-use Rattle.std.proofs.lemmas.List.{take-take, take-append-le, map_push, length-map, length_push}
+use Rattle.std.proofs.Common.{length, get_or, take, sym, ap, subst, ◌∙◌, inl, inr, arith}
+use Rattle.std.proofs.lemmas.List.{take-take, take-append-le, map_push, length-map}
 use Rattle.nj_cycles.specs.Cycles.{IsAcyclic}
 use Rattle.nj_names.specs.declared.files.FileNo.{FileNo}
 use Rattle.nj_edges.specs.EdgeGraphs.{EdgeGraph}
@@ -14,7 +14,7 @@ use Rattle.nj_needs.specs.Inside.Reserved.{Reserved}
 use Rattle.nj_needs.specs.Inside.Saved.{KeepsFront}
 use Rattle.nj_needs.specs.Inside.Standing.{IsWalkAt, IsWalk, left_of, turns_left_of, HasLooked, HasClosed}
 use Rattle.nj_needs.specs.Inside.Standing.{HasEnded}
-use Rattle.nj_needs.specs.Walks.{IsSound, IsSameWalk, bound_of, rest_of, IsFirstPlaceOf}
+use Rattle.nj_needs.specs.Walks.{IsSound, IsSameWalk, rest_of, IsFirstPlaceOf}
 use Rattle.nj_needs.specs.Inside.Views.{state_of, IsNeeds}
 use Rattle.nj_needs.specs.declared.frame.Frame.{Frame}
 use Rattle.nj_needs.specs.declared.resume_point.Saved.{Saved}

@@ -12,7 +12,7 @@ use Rattle.nj_cycles.specs.Cycles.{IsRank}
 use Rattle.nj_needs.specs.Order.{made_by, unfolded, unfolded_row}
 use Rattle.nj_needs.specs.Marks.{is_valid, edge_at, done}
 use Rattle.nj_needs.specs.Laws.{FirstPlacesAreOne}
-use Rattle.nj_needs.proofs.Members.{In, In-head, In-tail, Among, Among-get, Contains-from_Among}
+use Rattle.nj_needs.proofs.Members.{In-tail, Among, Among-get, Contains-from_Among}
 use Rattle.nj_needs.proofs.Unfolding.{within, unfolded-row}
 use Rattle.nj_needs.proofs.Walking.{done_at-pass}
 use Rattle.nj_needs.proofs.ResumeLemmas.{valid-step, inputs-some}

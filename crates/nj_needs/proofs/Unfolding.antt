@@ -6,8 +6,8 @@ use Rattle.std.specs.List.{flat_map}
 use Rattle.nj_cycles.specs.Cycles.{IsRank}
 use Rattle.nj_needs.specs.Laws.{FuelIsEnough, EdgesComeAfterMakers}
 use Rattle.nj_needs.specs.Order.{made_by, unfolded, unfolded_row}
-use Rattle.nj_needs.proofs.Members.{In, In-head, In-append_left, In-append_right, In-append_cases, In-single}
-use Rattle.nj_needs.proofs.Members.{In-last, Among, Contains-from_Among}
+use Rattle.nj_needs.proofs.Members.{In, In-append_left, In-append_right, In-append_cases, In-single}
+use Rattle.nj_needs.proofs.Members.{Among, Contains-from_Among}
 
 -- two functions that agree on the makers in a row
 same_row : (f g : ℕ → List ℕ) (row : List (Option ℕ)) → ((m : ℕ) → Among row m → f m ≡ g m)

@@ -8,9 +8,9 @@ use Rattle.std.proofs.lemmas.List.{length_push, length-append}
 use Rattle.std.proofs.lemmas.Option.{slice_get_within, slice_get-get_or, get_or_from_slice_get}
 use Rattle.std.proofs.Math.ListN.{get_or-append}
 use Rattle.std.proofs.Math.Seq.{get_or-append_seam}
-use Rattle.nj_manifest.specs.Statements.{StatementModel, BindingModel, RuleModel, PoolModel, BuildModel}
-use Rattle.nj_manifest.specs.Statements.{DefaultModel, IncludeModel, SubninjaModel}
-use Rattle.nj_scope.specs.ReadingList.{ReadStatement, scope_of, expanded_in, gathered, path_named}
+use Rattle.nj_manifest.specs.Statements.{StatementModel}
+use Rattle.nj_manifest.specs.Statements.{IncludeModel, SubninjaModel}
+use Rattle.nj_scope.specs.ReadingList.{ReadStatement, gathered}
 use Rattle.nj_scope.specs.ReadingList.{files_opened}
 use Rattle.nj_scope.specs.Laws.{givers, IsInReadingOrder}
 

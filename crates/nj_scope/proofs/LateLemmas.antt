@@ -1,10 +1,9 @@
 -- Lemmas on values that are expanded later.
-use Rattle.std.proofs.Common.{◌≡◌, ℕ, ◌+◌, ◌-◌, ◌≤◌, Bool, List, [], ◌∷◌, ◌++◌, length, take, drop, slice_get}
-use Rattle.std.proofs.Common.{Some, add-one, refl, sym, ap, subst, ◌∙◌, arith}
+use Rattle.std.proofs.Common.{◌≡◌, ℕ, ◌+◌, ◌-◌, ◌≤◌, Bool, List, [], ◌∷◌, ◌++◌, length, take, slice_get}
+use Rattle.std.proofs.Common.{Some, add-one, refl, sym, ap, ◌∙◌, arith}
 use Rattle.std.specs.List.{slice_range}
-use Rattle.std.proofs.lemmas.List.{map_push, length-append, length-drop, drop-append-le, take-append-le}
-use Rattle.std.proofs.Math.Nat.{add-sub_cancel_left, le_trans, le_refl, le-add_right}
-use Rattle.std.proofs.Math.Seq.{drop-append_seam, take-length}
+use Rattle.std.proofs.lemmas.List.{map_push, length-append}
+use Rattle.std.proofs.Math.Nat.{le_refl, le-add_right}
 use Rattle.std.proofs.Math.Seq.{take-suc}
 use Rattle.std.proofs.lemmas.Grind.{common_steps, flat_map-append}
 use Rattle.std.proofs.lemmas.List.{append-nil}
@@ -12,7 +11,7 @@ use Rattle.std.proofs.lemmas.Option.{slice_get_within, get_or_from_slice_get}
 use Rattle.nj_text.specs.Words.{PartModel}
 use Rattle.nj_scope.specs.declared.deferred.LatePart.{LatePart}
 use Rattle.nj_scope.specs.Late.{part_written, parts_written}
-use Rattle.nj_scope.specs.Inside.LateHeld.{text_or_name, late_part, late_parts, AreWithin}
+use Rattle.nj_scope.specs.Inside.LateHeld.{text_or_name, late_parts, AreWithin}
 
 sub_smaller : (n m s : ℕ) → n ≤ m → n - s ≤ m - s
 sub_smaller n m s h = omega arith

@@ -1,6 +1,6 @@
 -- Lemmas on `specs/Memory.antt`.
 use Rattle.std.proofs.Common.{arith, ◌≡◌, ℕ, Bool, true, false, cond, List, [], ◌∷◌, ◌++◌, map, reverse, find}
-use Rattle.std.proofs.Common.{Option, Some, None, option_map, bytes_eq, refl, sym, ap, ◌∙◌}
+use Rattle.std.proofs.Common.{Option, Some, option_map, bytes_eq, refl, sym, ap, ◌∙◌}
 use Rattle.std.proofs.lemmas.List.{map-append, reverse-append}
 use Rattle.nj_scope.specs.Memory.{bytes_added}
 

@@ -1,6 +1,5 @@
 -- Names that no scope binds.
-use Rattle.std.proofs.Common.{arith, ◌≡◌, ℕ, true, List, [], ◌∷◌, Option, None, unwrap_or, refl, sym, ap, ◌∙◌}
-use Rattle.std.specs.Option.{option_or}
+use Rattle.std.proofs.Common.{arith, ◌≡◌, ℕ, true, List, [], ◌∷◌, Option, None, unwrap_or, refl, ap}
 use Rattle.nj_scope.specs.Scopes.{ScopeModel, first_given, value_in, bound_at}
 use Rattle.nj_scope.specs.Declarations.{is_pool_or_dyndep}
 use Rattle.nj_scope.specs.Inside.PoolOrDyndep.{BindNeither}

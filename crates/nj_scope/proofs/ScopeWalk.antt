@@ -3,7 +3,6 @@ use Rattle.std.proofs.Common.{arith, ◌≡◌, ℕ, suc, ◌<◌, List, Option,
 use Rattle.std.proofs.Common.{length}
 use Rattle.std.proofs.Common.{refl, sym, ap, ◌∙◌, subst, true≢false}
 use Rattle.std.specs.Option.{option_or}
-use Rattle.std.proofs.Math.Nat.{lt_trans, zero-lt-suc, suc-lt_of_lt-pred}
 use Rattle.nj_scope.specs.Scopes.{IsScope, first_given, ScopeModel, parent_at}
 use Rattle.nj_scope.specs.Scopes.IsScope.{outermost, child}
 

@@ -1,12 +1,11 @@
 -- Lemmas on the readings of a source, for those who read several files.
 use Rattle.std.proofs.lemmas.Grind.{common_steps}
-use Rattle.std.proofs.Common.{rules, arith, ◌≡◌, ℕ, List, [], ◌∷◌, ◌++◌, Option, Some, None, option_map, true}
-use Rattle.std.proofs.Common.{Ok, IfSome}
-use Rattle.std.proofs.Common.{refl, sym, ap, subst, ◌∙◌, inl, inr}
+use Rattle.std.proofs.Common.{rules, arith, ◌≡◌, ℕ, List, [], ◌∷◌, ◌++◌, Option, option_map, true}
+use Rattle.std.proofs.Common.{Ok}
+use Rattle.std.proofs.Common.{inl, inr}
 use Rattle.std.specs.Global.{Global}
 use Rattle.std.specs.declared.rc.RcSlice.{RcSlice}
 use Rattle.std.specs.List.{AllByRecursion}
-use Rattle.std.proofs.lemmas.List.{append-nil, append_assoc}
 use Rattle.nj_scope.specs.Readings.{Reading, is_read, bytes_in}
 use Rattle.nj_scope.specs.Sources.{SourceState, IsAsGiven, HasRead}
 use Rattle.nj_scope.specs.Opening.{OpensFile, shared_bytes}

@@ -1,16 +1,14 @@
 -- The values of names, by the statements that were read.
-use Rattle.std.proofs.Common.{arith, ◌≡◌, ℕ, Bool, true, false, ◌&&◌, ◌==◌, if◌then◌else◌, List, [], ◌∷◌}
-use Rattle.std.proofs.Common.{◌++◌, Some}
-use Rattle.std.proofs.Common.{None, unwrap_or, bytes_eq, refl, sym, ap, subst, ◌∙◌}
-use Rattle.std.specs.Option.{option_or}
+use Rattle.std.proofs.Common.{arith, ◌≡◌, ℕ, false, ◌&&◌, ◌==◌, List, [], ◌∷◌}
+use Rattle.std.proofs.Common.{◌++◌}
+use Rattle.std.proofs.Common.{None, unwrap_or, bytes_eq, refl}
 use Rattle.std.proofs.lemmas.Slice.Eq.{bytes_eq-Decides}
 use Rattle.std.proofs.lemmas.Bool.{eq-eqb}
-use Rattle.nj_manifest.specs.Statements.{StatementModel, BindingModel, RuleModel, PoolModel, BuildModel}
-use Rattle.nj_manifest.specs.Statements.{DefaultModel, IncludeModel, SubninjaModel}
-use Rattle.nj_scope.specs.Scopes.{value_in, first_given, expanded}
+use Rattle.nj_manifest.specs.Statements.{StatementModel}
+use Rattle.nj_scope.specs.Scopes.{value_in}
 use Rattle.nj_scope.specs.Laws.{binds_name, NoneBinds, LastBindingCounts, OthersAreInherited}
 use Rattle.nj_scope.specs.Laws.{OthersKeepTheirs}
-use Rattle.nj_scope.specs.ReadingList.{ReadStatement, scope_of, binds, binds_in, bounds, value_after}
+use Rattle.nj_scope.specs.ReadingList.{ReadStatement, scope_of, binds, binds_in, bounds}
 
 -- a statement that does not bind the name
 not_binding : (value : List ℕ → List ℕ) (item : StatementModel) (name : List ℕ) → binds_name item name ≡ false

@@ -1,4 +1,4 @@
-use Rattle.std.proofs.Common.{◌<◌, length, sym, subst}
+use Rattle.std.proofs.Common.{◌<◌, sym, subst}
 use Rattle.std.specs.Prelude.{All}
 use Rattle.nj_manifest.proofs.Handed.{handed}
 use Rattle.nj_graph.specs.declared.EdgeNo.{EdgeNo}

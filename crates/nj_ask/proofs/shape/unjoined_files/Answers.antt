@@ -1,4 +1,4 @@
-use Rattle.std.proofs.Common.{◌≡◌, ◌<◌, ◌≤◌, All, length, map, take, slice_get, option_map, sym, ap, subst}
+use Rattle.std.proofs.Common.{◌<◌, ◌≤◌, All, length, map, slice_get, option_map, sym, ap, subst}
 use Rattle.std.proofs.Common.{◌∙◌}
 use Rattle.std.specs.Prelude.{IfSome}
 use Rattle.std.specs.List.{filter_map}

@@ -1,4 +1,4 @@
-use Rattle.std.proofs.Common.{◌≡◌, ◌<◌, ◌≤◌, All, List, map, length, take}
+use Rattle.std.proofs.Common.{◌≡◌, ◌<◌, All, List, map, length, take}
 use Rattle.std.specs.List.{filter_map}
 use Rattle.nj_graph.specs.ReadingList.{ReadStatement}
 use Rattle.nj_graph.specs.Graph.{files_of, IsGraphOf}

@@ -1,4 +1,4 @@
-use Rattle.std.proofs.Common.{◌≡◌, ◌<◌, ◌∷◌, drop, length, subst, sym, ap, ap₂, ◌∙◌, arith, length-drop}
+use Rattle.std.proofs.Common.{◌<◌, ◌∷◌, drop, length, subst, sym, ap, ap₂, ◌∙◌, arith, length-drop}
 use Rattle.nj_depfiles.specs.Pieces.{first_piece, pieces}
 use Rattle.nj_depfiles.proofs.CutLemmas.{cut-first}
 use Rattle.nj_depfiles.proofs.pieces.next_piece.Goals as goal

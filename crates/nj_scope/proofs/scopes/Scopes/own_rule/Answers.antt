@@ -1,4 +1,4 @@
-use Rattle.std.proofs.Common.{◌≡◌, ◌<◌, option_map, length, ap, ◌∙◌, subst, sym, bytes_eq}
+use Rattle.std.proofs.Common.{◌<◌, option_map, length, ap, ◌∙◌, subst, sym, bytes_eq}
 use Rattle.std.specs.Map.{lookup}
 use Rattle.nj_scope.specs.Scopes.{rule_at}
 use Rattle.nj_scope.proofs.ScopeLemmas.{at_scope-text, lookup-text}
