@@ -6,7 +6,7 @@ import re
 
 from lib.programs import DONE, FAULT, LOOK, USAGE
 from lib.projects import MAIN
-from lib.tools import EXPLAIN, GRAPH, PROGRAMS
+from lib.tools import DEPFILE_FAULT, EXPLAIN, GRAPH, PROGRAMS
 
 LINE_START = rb"(?<![^\n])"
 WORD = rb"[^ :|\n]"
@@ -72,6 +72,7 @@ PLACELESS_FAULTS = {
         rb"cannot .*: .*",
         rb".*: (?:there is no such file|not a regular file|the file could not be read|not a deps log)",
         rb".*: deps log of version \d+",
+        rb".*: (?:%b)" % DEPFILE_FAULT,
         rb"the path of the deps log is not UTF-8",
         rb"unknown rule '.*'",
     ],

@@ -16,11 +16,13 @@ NOT_LOOKED_UP = rb"(?:[^\n]+: cannot look up source '[^\n]*'\n)+"
 # With these options standard error may end in caveats: lines about a deps log, a depfile, the time of an output
 # and a dyndep file.
 JOINING = {"--deps", "--deps-log-file"}
+DEPFILE_FAULT = (
+    rb"it cannot be read|expected ':' in depfile|inputs may not also have inputs|no outputs declared"
+    rb"|depfile mentions '[^\n]*' as an output, but no such output was declared"
+)
 CAVEATS = (
     rb"(?:[^\n]+: (?:\d+ of its \d+ bytes were read|not a deps log|deps log of version \d+"
-    rb"|it cannot be read|expected ':' in depfile|inputs may not also have inputs|no outputs declared"
-    rb"|depfile mentions '[^\n]*' as an output, but no such output was declared"
-    rb"|its time cannot be read|a dyndep file, may change)\n)+"
+    rb"|%b|its time cannot be read|a dyndep file, may change)\n)+" % DEPFILE_FAULT
 )
 
 

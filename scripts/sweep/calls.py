@@ -117,12 +117,21 @@ def with_caveat(runs, ending, caveat):
     return Ending(LOOK, ending.output, error)
 
 
+def asks_about_targets(runs):
+    """Whether a run is about some targets, and not about all edges."""
+    return bool({"why", "keys", "draw"} & {*runs.words}) and "--affected" not in runs.words
+
+
 def unread(runs, number):
-    """How a run ends in which a file cannot be read: of a depfile there is a caveat, and its edge is not known."""
+    """How a run ends in which a file cannot be read. A depfile whose edge the targets need ends it; otherwise there is
+    a caveat, and the edge of the depfile is not known."""
     name, _ = opened_files(runs)[number - 1]
-    if name in depfiles_of(runs):
-        return with_caveat(runs, runs.run_with(name, None), f"{name}: it cannot be read")
-    return fault_of_file(runs, number, "cannot read", "the file could not be read")
+    if name not in depfiles_of(runs):
+        return fault_of_file(runs, number, "cannot read", "the file could not be read")
+    ending, text = runs.run_with(name, None), f"{name}: it cannot be read"
+    if ending.status != FAULT and asks_about_targets(runs):
+        return Ending(FAULT, b"", f"{GRAPH}: {text}\n".encode())
+    return with_caveat(runs, ending, text)
 
 
 def wanted_open(runs, opened, way):
