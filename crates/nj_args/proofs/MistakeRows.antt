@@ -1,5 +1,5 @@
 -- Worked rows of mistakes. Each is there, whatever else is wrong.
-use Rattle.std.proofs.Common.{List, [], ◌∷◌, refl}
+use Rattle.std.proofs.Common.{◌≡◌, List, [], ◌∷◌, Some, refl}
 use Rattle.std.specs.Prelude.{codes}
 use Rattle.clap.proofs.OnLiterals.{clap_on_literals}
 use Rattle.nj_args.specs.CommandLine.{command}

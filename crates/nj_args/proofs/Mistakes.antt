@@ -5,7 +5,7 @@ use Rattle.std.specs.Prelude.{⊤, codes, not, ◌&&◌, is_some, find}
 use Rattle.nj_manifest.specs.LineSteps.{◌>>=◌}
 use Rattle.clap.specs.Words.{Row, first_of}
 use Rattle.nj_args.specs.Fields.{words_in}
-use Rattle.nj_args.specs.FirstFaults.{Mistake, foreign_option, bad_words, bad_depth}
+use Rattle.nj_args.specs.FirstFaults.{Mistake, foreign_option, bad_take, bad_mark, bad_words, bad_depth}
 use Rattle.nj_args.specs.FirstFaults.{TakesWords, NamesTool, HasMistake, toolless, unknown, foreign}
 use Rattle.nj_args.specs.FirstFaults.{no_number, no_mark, wrong_words, no_depth, Lacks, IsFirstOf, first}
 use Rattle.nj_args.specs.FirstFaults.{later}
