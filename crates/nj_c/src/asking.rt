@@ -66,6 +66,17 @@ macro_rules! change {
     };
 }
 
+/// Changes the contents of an open session where they stand: the answer borrows them, and is a status.
+macro_rules! alter {
+    ($session:expr, $alloc:expr, $kept:ident => $answer:expr) => {
+        $crate::asking::change!($session, $alloc, seal => {
+            let mut $kept = seal.into_box();
+            let status = $answer;
+            ($crate::sealed_box::Seal::new($kept), status)
+        })
+    };
+}
+
 /// Lists edges in an open session: the answer is the list, or the status that says why not.
 macro_rules! list {
     ($session:expr, $alloc:expr, $kept:ident => $answer:expr) => {
@@ -77,6 +88,7 @@ macro_rules! list {
     };
 }
 
+pub(crate) use alter;
 pub(crate) use ask;
 pub(crate) use ask_edge;
 pub(crate) use ask_file;

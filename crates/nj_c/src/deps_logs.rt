@@ -3,9 +3,8 @@
 ghost use Rattle.std.specs.Prelude.{◌≡◌, ◌≢◌, None};
 ghost use Rattle.nj_c.specs.Cited.{bool_code, GivesItem, IfLoaded, IfOpen, read_of, JoinsDeps, Changes, code_of, JoinsKnown, KeepsJoined};
 
-use crate::asking::{ask, change};
+use crate::asking::{alter, ask};
 use crate::loads::keep_fault;
-use crate::sealed_box::Seal;
 use crate::session::Session;
 use crate::session_state::{Kept, LogRead};
 use crate::status::Status;
@@ -24,7 +23,7 @@ pub extern "C" fn nx_join_deps(alloc: Global, session: &mut Session, log: &[u8])
     ensures { Changes session.old.kept session.new.kept result (λ kept after.
         JoinsDeps kept after log.now) }
 {
-    change!(session, alloc, seal => join_in(alloc, seal, log))
+    alter!(session, alloc, kept => join_bytes(alloc, &mut kept, log))
 }
 
 /// How far the deps log was read that was joined to the graph last: how many of its bytes, and
@@ -60,14 +59,6 @@ fn give_log(log: &Option<LogRead>, size: &mut usize, is_whole: &mut i32) -> Stat
         }
         None => Status::Nothing,
     }
-}
-
-fn join_in(alloc: Global, seal: Seal, bytes: &[u8]) -> (Seal, Status)
-    ensures { JoinsDeps seal.kept result.0.kept bytes.now result.1 }
-{
-    let mut kept = seal.into_box();
-    let status = join_bytes(alloc, &mut kept, bytes);
-    (Seal::new(kept), status)
 }
 
 fn join_bytes(alloc: Global, kept: &mut Kept, bytes: &[u8]) -> Status

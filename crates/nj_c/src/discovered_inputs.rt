@@ -3,12 +3,11 @@
 ghost use Rattle.std.specs.Prelude.{◌≡◌, ◌≢◌, ◌<◌, List, length, map, slice_get, IfOk, IfErr, Some, None};
 ghost use Rattle.nj_c.specs.Cited.{IsLogOf, IsLogFault, ReadStatement, AreDiscovered, edges_of, GraphModel, IsGraphOf, bool_code, GivesItem, IfLoaded, IfNumber, IfOpen, given_read, lacking_depfiles, log_bytes, times_of, unknown_of, ForgetsGraph, JoinsDiscovered, JoinsFound, supplied_state, SameFiles, Changes, code_of, FindsOr, JoinsTo, KeepsFound};
 
-use crate::asking::{ask, change};
+use crate::asking::{alter, ask};
 use crate::deps_logs::log_read;
 use crate::edge_times::EdgeTimes;
 use crate::lacking_depfiles::lacking_depfiles;
 use crate::loads::keep_fault;
-use crate::sealed_box::Seal;
 use crate::session::Session;
 use crate::session_state::{Kept, LogRead};
 use crate::status::Status;
@@ -41,7 +40,7 @@ pub extern "C" fn nx_join_discovered(
     ensures { Changes session.old.kept session.new.kept result (λ kept after.
         JoinsDiscovered kept after log.now times.now) }
 {
-    change!(session, alloc, seal => join_in(alloc, seal, log, times))
+    alter!(session, alloc, kept => join_bytes(alloc, &mut kept, log, times))
 }
 
 /// Whether the discovered inputs of an edge are not known: the deps log has no record that counts,
@@ -79,14 +78,6 @@ fn give_flag(flags: &[bool], index: usize, flag: &mut i32) -> Status
         }
         None => Status::Nothing,
     }
-}
-
-fn join_in(alloc: Global, seal: Seal, bytes: &[u8], times: &[u64]) -> (Seal, Status)
-    ensures { JoinsDiscovered seal.kept result.0.kept bytes.now times.now result.1 }
-{
-    let mut kept = seal.into_box();
-    let status = join_bytes(alloc, &mut kept, bytes, times);
-    (Seal::new(kept), status)
 }
 
 fn join_bytes(alloc: Global, kept: &mut Kept, bytes: &[u8], times: &[u64]) -> Status

@@ -3,9 +3,8 @@
 ghost use Rattle.std.specs.Prelude.{◌≡◌, ◌≢◌, false, map, not, nat_eq, Err};
 ghost use Rattle.nj_c.specs.Cited.{no_memory, GivesTextAt, IfOpen, KeptUnlessDone, supplied_state, graph_loaded, unread, Changes, GivesGraph, KeepsNothing, LeavesNothing, LoadsKept, SameRun, FinishesLoad, KeepsFault, KeepsLoad, KeepsResult};
 
-use crate::asking::{ask, change};
+use crate::asking::{alter, ask};
 use crate::buffers::copy_text;
-use crate::sealed_box::Seal;
 use crate::session::Session;
 use crate::session_state::Kept;
 use crate::status::Status;
@@ -29,7 +28,7 @@ pub extern "C" fn nx_load(
     ensures { Changes session.old.kept session.new.kept result (λ kept after.
         LoadsKept kept after main.now (not (nat_eq joins_dyndeps 0))) }
 {
-    change!(session, alloc, seal => load_in(alloc, seal, main, joins_dyndeps != 0))
+    alter!(session, alloc, kept => load_main(alloc, &mut kept, main, joins_dyndeps != 0))
 }
 
 /// The path at an index among those that the last load wanted and that were not supplied.
@@ -50,15 +49,6 @@ pub extern "C" fn nx_wanted(
         Some(path) => copy_text(path, buffer, needed),
         None => Status::Nothing,
     })
-}
-
-// Loads the main file at a path.
-fn load_in(alloc: Global, seal: Seal, main: &[u8], joins: bool) -> (Seal, Status)
-    ensures { LoadsKept seal.kept result.0.kept main.now joins result.1 }
-{
-    let mut kept = seal.into_box();
-    let status = load_main(alloc, &mut kept, main, joins);
-    (Seal::new(kept), status)
 }
 
 // Loads the main file at a path.

@@ -3,10 +3,9 @@
 ghost use Rattle.std.specs.Prelude.{◌≡◌, ◌≢◌, false, [], map, string_bytes};
 ghost use Rattle.nj_c.specs.Cited.{GivesText, IfOpen, KeptUnlessDone, wanted_paths, SameFiles, unread, Changes, LeavesRun, RunsKept, SameLoad, empty_memory, FinishesRun, KeepsRun, NoFailures, NoRun, Ran};
 
-use crate::asking::{ask, change};
+use crate::asking::{alter, ask};
 use crate::buffers::copy_text;
 use crate::run_words::words_in;
-use crate::sealed_box::Seal;
 use crate::session::Session;
 use crate::session_state::Kept;
 use crate::status::Status;
@@ -24,7 +23,7 @@ pub extern "C" fn nx_run(alloc: Global, session: &mut Session, words: &[u8], exi
     ensures { Changes session.old.kept session.new.kept result (λ kept after.
         RunsKept kept after words.now exit.old exit.new) }
 {
-    change!(session, alloc, seal => run_in(alloc, seal, words, exit))
+    alter!(session, alloc, kept => run_text(alloc, &mut kept, words, exit))
 }
 
 /// The standard output of the last run.
@@ -57,14 +56,6 @@ pub extern "C" fn nx_run_errors(
     ensures buffer { KeptUnlessDone buffer.old buffer.new result }
 {
     ask!(session, alloc, kept => copy_text(kept.errors.bytes(), buffer, needed))
-}
-
-fn run_in(alloc: Global, seal: Seal, words: &[u8], exit: &mut i32) -> (Seal, Status)
-    ensures { RunsKept seal.kept result.0.kept words.now exit.old exit.new result.1 }
-{
-    let mut kept = seal.into_box();
-    let status = run_text(alloc, &mut kept, words, exit);
-    (Seal::new(kept), status)
 }
 
 fn run_text(alloc: Global, kept: &mut Kept, text: &[u8], exit: &mut i32) -> Status

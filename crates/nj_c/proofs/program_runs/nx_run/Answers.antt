@@ -1,9 +1,11 @@
 use Rattle.std.proofs.Common.{rules}
-use Rattle.nj_c.proofs.AskLemmas.{changes}
+use Rattle.nj_c.specs.Runs.{RunsKept}
+use Rattle.nj_c.proofs.AskLemmas.{altered}
 use Rattle.nj_c.proofs.program_runs.nx_run.Goals as goal
 
 pub returns-in-Some : goal.returns-in-Some
 returns-in-Some c =
-    changes c.args.session.now.kept c.in-Some.seal.kept c.run_in-changed.result.0.kept c.put.new.self.kept _
-    c.run_in-changed.result.1 _ c.in-Some.ensures.taken c.put.ensures
-    (search rules) c.run_in-changed.ensures
+    altered c.run_text-status.result (λ kept then. RunsKept kept then c.args.words.now c.args.exit.now
+    c.run_text-status.new.exit)
+    c.in-Some.ensures.taken (search rules) (search rules) c.put.ensures (search rules)
+    c.run_text-status.ensures
