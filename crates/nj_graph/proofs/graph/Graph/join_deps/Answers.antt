@@ -1,4 +1,5 @@
-use Rattle.std.proofs.Common.{subst, sym}
+use Rattle.std.proofs.Common.{inl, refl, subst, sym}
+use Rattle.nj_faults.specs.Faults.{no_memory}
 use Rattle.nj_manifest.proofs.Handed.{handed}
 use Rattle.nj_graph.specs.Graph.{GraphModel, IsGraphOf}
 use Rattle.nj_graph.specs.Inside.LogSteps.{AreNumbersLogged}
@@ -38,3 +39,7 @@ returns-in_err-built-clause-joins c = λ stated is.
     c.from_residual-in_err-built.ensures)
     (c.in_err-built.ensures.comes (logged log stated) stated of.built
     (log-named log stated c.deref.result.now numbers))
+
+pub returns-in_err-numbers-clause-joins : goal.returns-in_err-numbers-clause-joins
+returns-in_err-numbers-clause-joins c = λ stated is.
+    rw (handed no_memory c.from_residual.result c.from_residual.ensures) (inl refl)
