@@ -20,7 +20,7 @@ use Rattle.nj_edges.specs.declared.edges.Span.{Span}
 use Rattle.nj_edges.specs.declared.edges.EdgeRow.{EdgeRow}
 use Rattle.nj_edges.specs.declared.edges.KindEnds.{KindEnds}
 use Rattle.nj_edges.specs.Edges.{first_edge, maker_of, is_among, outputs_of}
-use Rattle.nj_edges.specs.Inside.EdgesHeld.{Lists, paths_at, within, edge_of, edges_of, ends_of, table_of}
+use Rattle.nj_edges.specs.Inside.EdgesHeld.{Lists, paths_at, within, edge_of_row, edges_of, ends_of, table_of}
 use Rattle.nj_edges.specs.Inside.EdgesHeld.{row_between, with_row, has_number, AreNumbers, IsWithin}
 use Rattle.nj_edges.specs.Inside.EdgesHeld.{RowIsWithin, read_outputs, output_rows, HaveMakers, AreJoined}
 use Rattle.nj_edges.specs.Inside.EdgesHeld.{EdgesAreHeld, PartsAreHeld, no_lists}
@@ -254,7 +254,7 @@ module _ (files : List (List ℕ)) (l : Lists) (held : EdgesAreHeld files l) (pa
       → paths_at (files ++ path ∷ []) (drop start ns) ≡ paths_at files (drop start ns)
   open-stay start ns are = stay (drop start ns) (all-drop (λ f. f.0 < length files) start ns are)
 
-  edge-stays : (row : EdgeRow) → edge_of (files ++ path ∷ []) l row ≡ edge_of files l row
+  edge-stays : (row : EdgeRow) → edge_of_row (files ++ path ∷ []) l row ≡ edge_of_row files l row
   edge-stays row = grind (arith, stay, within-numbers)
 
   pub table-named : table_of (with_name files path) l ≡ naming (table_of files l) path
@@ -435,7 +435,7 @@ first-some test es e = some-in test (es ++ e ∷ []) ∙ list_any-append test es
 module _ (files : List (List ℕ)) (l : Lists) (held : EdgesAreHeld files l) (n : ℕ) (path : List ℕ)
     (here : slice_get files n ≡ Some path) where
   row-among : (row : EdgeRow) → has_number n (within l.outputs row.outputs)
-      ≡ is_among (outputs_of (edge_of files l row)) path
+      ≡ is_among (outputs_of (edge_of_row files l row)) path
   row-among row = grind (arith, has-among, take-append-drop, within-numbers)
 
   -- the maker of a file among the edges that were read

@@ -20,7 +20,8 @@ use Rattle.nj_edges.specs.declared.edges.KindEnds.{KindEnds}
 use Rattle.nj_edges.specs.EdgeGraphs.{EdgeGraph}
 use Rattle.nj_edges.specs.Edges.{EdgePaths, counted_inputs_of, edge_at, outputs_of, first_edge, maker_of}
 use Rattle.nj_edges.specs.Edges.{inputs_of}
-use Rattle.nj_edges.specs.Inside.EdgesHeld.{Lists, paths_at, within, edge_of, edges_of, table_of, has_number}
+use Rattle.nj_edges.specs.Inside.EdgesHeld.{Lists, paths_at, within, edge_of_row, edges_of, table_of}
+use Rattle.nj_edges.specs.Inside.EdgesHeld.{has_number}
 use Rattle.nj_edges.specs.Inside.EdgesHeld.{AreNumbers, RowIsWithin, read_outputs, output_rows}
 use Rattle.nj_edges.specs.Inside.EdgesHeld.{makers_in_rows}
 use Rattle.nj_edges.specs.Inside.EdgesHeld.{EdgesAreHeld, HasFiles}
@@ -134,7 +135,7 @@ module _ (files : List (List ℕ)) (l : Lists) (held : EdgesAreHeld files l)
 
   makers-at : (rs : List EdgeRow) → AllByRecursion (RowIsWithin l.starts) rs → (e : ℕ)
       → makers_in_rows (record l { rows = rs }) e
-      ≡ map (maker_of (edges_of files l)) (inputs_of (edge_at (map (edge_of files l) rs) e))
+      ≡ map (maker_of (edges_of files l)) (inputs_of (edge_at (map (edge_of_row files l) rs) e))
   makers-at [] all e = refl
   makers-at (row ∷ rs) all zero =
       makers-paths (within l.inputs row.inputs)

@@ -14,7 +14,7 @@ use Rattle.nj_edges.specs.declared.users.RowPart.TheVariants.{CountedInputs, Inp
 use Rattle.nj_edges.specs.EdgeGraphs.{EdgeGraph}
 use Rattle.nj_edges.specs.Edges.{edges_from, is_among}
 use Rattle.nj_edges.specs.Inside.DirtyHeld.{HaveUsersIn, paths_in, users_in}
-use Rattle.nj_edges.specs.Inside.EdgesHeld.{Lists, has_number, paths_at, within, edge_of, edges_of}
+use Rattle.nj_edges.specs.Inside.EdgesHeld.{Lists, has_number, paths_at, within, edge_of_row, edges_of}
 use Rattle.nj_edges.specs.Inside.EdgesHeld.{AreNumbers}
 use Rattle.nj_edges.specs.Inside.EdgesHeld.{EdgesAreHeld, IsWithin, RowIsWithin}
 use Rattle.nj_names.specs.Files.{path_at}
@@ -93,7 +93,7 @@ module _ (files : List (List ℕ)) (l : Lists) (held : EdgesAreHeld files l) whe
       (λ row. IsWithin (span_of part row) (length (part_of part l))) (row-within part) l.rows held.rows_are
 
   part-paths : (part : RowPart) (row : EdgeRow) → RowIsWithin l.starts row
-      → paths_at files (within (part_of part l) (span_of part row)) ≡ paths_in part (edge_of files l row)
+      → paths_at files (within (part_of part l) (span_of part row)) ≡ paths_in part (edge_of_row files l row)
   part-paths Inputs row inside = sym (inputs-joined files l row inside)
   part-paths CountedInputs row inside = grind (arith, counted-joined, counted-range, take-map)
   part-paths Outputs row inside = sym (outputs-joined files l row)
@@ -106,12 +106,12 @@ module _ (files : List (List ℕ)) (l : Lists) (held : EdgesAreHeld files l) whe
           → using_edges (part_of part l) part 0 l.rows f.0 ≡ users_in part g f.0
       users-paths f below' =
           edges-same 0 (λ row. has_number f.0 (within (part_of part l) (span_of part row)))
-          (λ row. is_among (paths_in part (edge_of files l row)) path) (RowIsWithin l.starts)
+          (λ row. is_among (paths_in part (edge_of_row files l row)) path) (RowIsWithin l.starts)
           (λ row inside. has-among files held.distinct f.0 path (get-path files f below)
           (within (part_of part l) (span_of part row))
           (within-numbers (length files) (part_of part l) (span_of part row) (part-numbers part))
           ∙ ap (λ ps. is_among ps path) (part-paths part row inside)) l.rows held.rows_are
-          ∙ sym (edges-map 0 (λ e. is_among (paths_in part e) path) (edge_of files l) l.rows)
+          ∙ sym (edges-map 0 (λ e. is_among (paths_in part e) path) (edge_of_row files l) l.rows)
           ∙ ap (λ (v : EdgeGraph). users_in part v f.0) is
         where
           path : List ℕ

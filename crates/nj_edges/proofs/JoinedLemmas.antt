@@ -21,7 +21,8 @@ use Rattle.nj_edges.specs.Edges.{EdgePaths, edge_at, first_edge, is_among, maker
 use Rattle.nj_edges.specs.Edges.{outputs_of}
 use Rattle.nj_edges.specs.EdgeTables.{EdgeTable, OpenEdge, edge_read, is_named_so_far, no_files, plus_output}
 use Rattle.nj_edges.specs.Inside.EdgesHeld.{AreNumbers, EdgesAreHeld, HasFiles, IsWithin, Lists, RowIsWithin}
-use Rattle.nj_edges.specs.Inside.EdgesHeld.{TableIsHeld, edge_of, edges_of, has_number, output_rows, paths_at}
+use Rattle.nj_edges.specs.Inside.EdgesHeld.{TableIsHeld, edge_of_row, edges_of, has_number, output_rows}
+use Rattle.nj_edges.specs.Inside.EdgesHeld.{paths_at}
 use Rattle.nj_edges.specs.Inside.EdgesHeld.{read_outputs, table_of, within}
 use Rattle.nj_edges.specs.Inside.JoiningHeld.{JoinIsHeld, added_at, all_joined, input_spans, joined_by}
 use Rattle.nj_edges.specs.Inside.JoiningHeld.{joined_edge, joined_up_to, output_spans, plus_inputs}
@@ -53,7 +54,8 @@ module _ (files : List (List ℕ)) (l : Lists) (held : EdgesAreHeld files l) (t 
     (is : table_of files l ≡ t) where
   module _ (path : List ℕ) where
     none-make : list_any (bytes_eq path) files ≡ false → (rs : List EdgeRow)
-        → AllByRecursion (λ (e : EdgePaths). is_among (outputs_of e) path ≡ false) (map (edge_of files l) rs)
+        → AllByRecursion (λ (e : EdgePaths). is_among (outputs_of e) path ≡ false)
+        (map (edge_of_row files l) rs)
     none-make absent [] = tt
     none-make absent (row ∷ rs) = (
       ap (λ ps. is_among ps path) (outputs-joined files l row)
@@ -113,8 +115,8 @@ has-files files l held edge row here =
     let o = length-range l.outputs row.outputs.start row.outputs.end inside.outputs.rises (omega arith) in
     let i = length-range l.inputs row.inputs.start row.inputs.end inside.inputs.rises (omega arith) in
     record {
-      is = get_or_from_slice_get (edges_of files l) edge (edge_of files l row) (edge_at [] 0)
-          (get-map (edge_of files l) l.rows edge row here);
+      is = get_or_from_slice_get (edges_of files l) edge (edge_of_row files l row) (edge_at [] 0)
+          (get-map (edge_of_row files l) l.rows edge row here);
       outputs_are = within-numbers (length files) l.outputs row.outputs held.outputs.are;
       inputs_are = within-numbers (length files) l.inputs row.inputs held.inputs.are;
       validations_are = within-numbers (length files) l.validations row.validations held.validations.are;

@@ -20,7 +20,6 @@ pub mod NamedLemmas
 pub mod NeededLemmas
 pub mod NeedsLemmas
 mod NeededRows
-pub mod NumberLemmas
 pub mod Passing
 pub mod RootLemmas
 pub mod SearchLemmas

@@ -14,7 +14,8 @@ use Rattle.nj_edges.specs.declared.edges.Span.{Span}
 use Rattle.nj_edges.specs.declared.edges.EdgeRow.{EdgeRow}
 use Rattle.nj_edges.specs.Edges.{EdgePaths, inputs_of, is_among, is_named, outputs_of}
 use Rattle.nj_edges.specs.EdgeGraphs.{EdgeGraph}
-use Rattle.nj_edges.specs.Inside.EdgesHeld.{Lists, paths_at, within, edge_of, edges_of, table_of, has_number}
+use Rattle.nj_edges.specs.Inside.EdgesHeld.{Lists, paths_at, within, edge_of_row, edges_of, table_of}
+use Rattle.nj_edges.specs.Inside.EdgesHeld.{has_number}
 use Rattle.nj_edges.specs.Inside.EdgesHeld.{AreNumbers, AreJoined, AreNamed, RowIsWithin, EdgesAreHeld}
 use Rattle.nj_edges.specs.Inside.EdgesHeld.{TableIsHeld}
 use Rattle.nj_edges.specs.EdgeTables.{OpenEdge, EdgeTable, no_files, is_named_so_far}
@@ -115,18 +116,18 @@ module _ (files : List (List ℕ)) (l : Lists) (held : EdgesAreHeld files l) (pa
           (none-among files path e l.validations held.validations.are))
 
   outputs-among : among l.outputs ≡ (among_edges outputs_of || among (drop l.starts.outputs l.outputs))
-  outputs-among = among-parts files outputs_of l.outputs (λ row. row.outputs) (edge_of files l) Inside
+  outputs-among = among-parts files outputs_of l.outputs (λ row. row.outputs) (edge_of_row files l) Inside
       (λ row inside. outputs-joined files l row) l.rows held.rows_are l.starts.outputs held.outputs.joined
       path
 
   inputs-among : among l.inputs ≡ (among_edges inputs_of || among (drop l.starts.inputs l.inputs))
-  inputs-among = among-parts files inputs_of l.inputs (λ row. row.inputs) (edge_of files l) Inside
+  inputs-among = among-parts files inputs_of l.inputs (λ row. row.inputs) (edge_of_row files l) Inside
       (inputs-joined files l) l.rows held.rows_are l.starts.inputs held.inputs.joined path
 
   validations-among : among l.validations
       ≡ (among_edges (λ e. e.validations) || among (drop l.starts.validations l.validations))
   validations-among = among-parts files (λ e. e.validations) l.validations (λ row. row.validations)
-      (edge_of files l) Inside (λ row inside. refl) l.rows held.rows_are l.starts.validations
+      (edge_of_row files l) Inside (λ row inside. refl) l.rows held.rows_are l.starts.validations
       held.validations.joined path
 
   numbers-named : (among l.outputs || among l.inputs || among l.validations)

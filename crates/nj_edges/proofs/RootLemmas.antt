@@ -8,7 +8,8 @@ use Rattle.nj_names.specs.declared.files.FileNo.{FileNo}
 use Rattle.nj_edges.specs.declared.edges.EdgeRow.{EdgeRow}
 use Rattle.nj_edges.specs.declared.edges.Span.{Span}
 use Rattle.nj_edges.specs.Edges.{EdgePaths, is_among, is_used, outputs_of, inputs_of, roots_of}
-use Rattle.nj_edges.specs.Inside.EdgesHeld.{Lists, paths_at, within, edge_of, edges_of, has_number, table_of}
+use Rattle.nj_edges.specs.Inside.EdgesHeld.{Lists, paths_at, within, edge_of_row, edges_of, has_number}
+use Rattle.nj_edges.specs.Inside.EdgesHeld.{table_of}
 use Rattle.nj_edges.specs.Inside.EdgesHeld.{AreNumbers, RowIsWithin, EdgesAreHeld}
 use Rattle.nj_edges.specs.EdgeTables.{no_files}
 use Rattle.nj_names.specs.Files.{path_at, AreFiles}
@@ -72,23 +73,23 @@ parts-paths files part ns span edge P same (row ∷ rows) all =
     rw (first, more) (sym join)
 
 module _ (files : List (List ℕ)) (l : Lists) (row : EdgeRow) where
-  pub outputs-joined : outputs_of (edge_of files l row) ≡ paths_at files (within l.outputs row.outputs)
+  pub outputs-joined : outputs_of (edge_of_row files l row) ≡ paths_at files (within l.outputs row.outputs)
   outputs-joined = take-append-drop row.kinds.explicit_outputs (paths_at files (within l.outputs row.outputs))
 
   pub inputs-joined : RowIsWithin l.starts row
-      → inputs_of (edge_of files l row) ≡ paths_at files (within l.inputs row.inputs)
+      → inputs_of (edge_of_row files l row) ≡ paths_at files (within l.inputs row.inputs)
   inputs-joined inside = kinds-joined (paths_at files (within l.inputs row.inputs)) row.kinds.explicit_inputs
       row.kinds.implicit_inputs inside.kinds.explicit_inputs
 
 module _ (files : List (List ℕ)) (l : Lists) (held : EdgesAreHeld files l)
     (closed : (table_of files l).«open» ≡ no_files) where
   outputs-flat : flat_map outputs_of (edges_of files l) ≡ paths_at files l.outputs
-  outputs-flat = parts-paths files outputs_of l.outputs (λ row. row.outputs) (edge_of files l)
+  outputs-flat = parts-paths files outputs_of l.outputs (λ row. row.outputs) (edge_of_row files l)
       (RowIsWithin l.starts) (λ row inside. outputs-joined files l row) l.rows held.rows_are
       ∙ ap (paths_at files) (held.outputs.joined ∙ outputs-whole files l closed)
 
   inputs-flat : flat_map inputs_of (edges_of files l) ≡ paths_at files l.inputs
-  inputs-flat = parts-paths files inputs_of l.inputs (λ row. row.inputs) (edge_of files l)
+  inputs-flat = parts-paths files inputs_of l.inputs (λ row. row.inputs) (edge_of_row files l)
       (RowIsWithin l.starts) (inputs-joined files l) l.rows held.rows_are
       ∙ ap (paths_at files) (held.inputs.joined ∙ inputs-whole files l closed)
 

@@ -13,7 +13,7 @@ pub use Rattle.nj_edges.specs.Chains.{PathIs}
 pub use Rattle.nj_edges.specs.Inside.ChainsHeld.{AddsMakers, ChainIs, ComeFromEarlier, MakesInput, StepIs, StepToIs, Traces, with_arrival}
 pub use Rattle.nj_edges.specs.Dirty.{IsDirty, OtherEdgesAreUntouched}
 pub use Rattle.nj_edges.specs.Inside.DirtyHeld.{HasOneIn, HaveUsersIn}
-pub use Rattle.std.specs.List.{IsDistinct, list_any, filter, range_with_len, AllByRecursion}
+pub use Rattle.std.specs.List.{IsDistinct, list_any, filter, AllByRecursion}
 pub use Rattle.nj_edges.specs.EdgeTables.{no_files, EndWithin, with_output, with_input, with_validation, is_made, is_named_so_far}
 pub use Rattle.nj_edges.specs.EdgeTables.{edge_read, plus_output}
 pub use Rattle.nj_edges.specs.Inside.EdgesHeld.{AreNumbers, HasFiles, EdgesAreHeld, edges_of, lists_of, no_lists, with_row, row_between}
@@ -29,6 +29,5 @@ pub use Rattle.nj_edges.specs.Inside.MarksHeld.{MarksFiles, MarksInputs, is_mark
 pub use Rattle.nj_edges.specs.MoreInputs.{at_next_edge, with_new_input}
 pub use Rattle.nj_edges.specs.Distances.{AreNearestFirst, IsNeeded, MakesOneOf}
 pub use Rattle.nj_edges.specs.Inside.NeedsSearched.{IsSearch, AreMakers, Finds, IsSearchAt, IsSearched, StartsWith, Tells}
-pub use Rattle.std.specs.Iterator.{YieldsFirstBy, item_count}
 pub use Rattle.nj_edges.specs.Inside.RootsHeld.{AreFlags}
 pub use Rattle.nj_edges.specs.Inside.RowsHeld.{wide_row, wide_span}

@@ -52,8 +52,8 @@ no_lists makers = record {
   starts = record { outputs = 0; inputs = 0; validations = 0 };
 }
 
-abbrev pub edge_of : (files : List (List ℕ)) → Lists → EdgeRow → EdgePaths
-edge_of files l row =
+abbrev pub edge_of_row : (files : List (List ℕ)) → Lists → EdgeRow → EdgePaths
+edge_of_row files l row =
     edge_read (record {
       outputs = paths_at files (within l.outputs row.outputs);
       inputs = paths_at files (within l.inputs row.inputs);
@@ -61,7 +61,7 @@ edge_of files l row =
     }) row.kinds row.is_phony
 
 abbrev pub edges_of : (files : List (List ℕ)) → Lists → List EdgePaths
-edges_of files l = map (edge_of files l) l.rows
+edges_of files l = map (edge_of_row files l) l.rows
 
 abbrev pub row_between : (starts ends : OpenStarts) → KindEnds → Bool → EdgeRow
 row_between starts ends kinds is_phony = record {
