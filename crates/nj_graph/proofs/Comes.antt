@@ -1,11 +1,13 @@
 -- A reading comes to all paths to which the statements before it come, in their order.
+use Rattle.std.proofs.Common.{arith}
+use Rattle.std.proofs.lemmas.Grind.{common_steps}
 use Rattle.std.proofs.Common.{◌≡◌, ℕ, zero, suc, Bool, true, false, cond, Option, option_map, Some, None}
-use Rattle.std.proofs.Common.{List, [], ◌∷◌, ◌++◌, nat_lt, bytes_eq, refl, sym, ap, subst, ◌∙◌}
+use Rattle.std.proofs.Common.{List, [], ◌∷◌, ◌++◌, nat_lt, bytes_eq, refl, sym, ap, subst}
 use Rattle.nj_graph.specs.Inside.PathsReached.{with_news, with_new, paths_read, come_to}
 use Rattle.std.specs.Option.{option_to_list}
 use Rattle.nj_graph.proofs.Continuing.{unless_fault}
 use Rattle.std.specs.List.{list_any}
-use Rattle.std.proofs.lemmas.List.{append-nil, append_assoc}
+use Rattle.std.proofs.lemmas.List.{append-nil}
 use Rattle.nj_manifest.specs.Faults.{Fault}
 use Rattle.nj_manifest.specs.Statements.{StatementModel, BindingModel, RuleModel, PoolModel, BuildModel}
 use Rattle.nj_manifest.specs.Statements.{DefaultModel, IncludeModel, SubninjaModel, PlacedModel}
@@ -30,11 +32,7 @@ prefix-self front = ([], sym (append-nil front))
 
 pub prefix-then : (front middle whole : List (List ℕ)) → IsPrefix front middle → IsPrefix middle whole
     → IsPrefix front whole
-prefix-then front middle whole p q = (
-  p.0 ++ q.0,
-  q.1 ∙ ap (λ paths. paths ++ q.0) p.1
-      ∙ append_assoc front p.0 q.0,
-)
+prefix-then front middle whole p q = grind (arith, common_steps)
 
 pub prefix-new : (before : List (List ℕ)) (path : List ℕ) → IsPrefix before (with_new before path)
 prefix-new before path = by_there (list_any (bytes_eq path) before)

@@ -1,4 +1,5 @@
 -- Lemmas on what edges discover, edge by edge.
+use Rattle.std.proofs.lemmas.Grind.{common_steps}
 use Rattle.std.proofs.Common.{◌≡◌, ◌<◌, ◌≤◌, ◌+◌, ◌^◌, ◌-◌, ◌⊎◌, inl, inr, ℕ, List, length, refl, sym, ap}
 use Rattle.std.proofs.Common.{subst, ◌∙◌, arith}
 use Rattle.std.specs.Prelude.{IfSome, codes}
@@ -22,11 +23,7 @@ pub later-refl : (s : SourceState) → IsLater s s
 later-refl s = record { files = λ path. refl; failures = omega arith }
 
 pub later-trans : (s t u : SourceState) → IsLater s t → IsLater t u → IsLater s u
-later-trans s t u one other = record {
-  files = λ path. other.files path ∙ one.files path;
-  failures =
-      omega (arith, one.failures, other.failures);
-}
+later-trans s t u one other = grind (arith, common_steps)
 
 rises-wider : (a b c d : ℕ) → a ≤ b → c ≤ d → Rises b c → Rises a d
 rises-wider a b c d lower higher rises = record {

@@ -1,12 +1,13 @@
 -- The values of variables for an edge of the graph of statements.
-use Rattle.std.proofs.Common.{◌≡◌, ℕ, zero, suc, ◌<◌, ◌∷◌, Bool, true, false, if◌then◌else◌, codes, Option}
+use Rattle.std.proofs.lemmas.Grind.{common_steps}
+use Rattle.std.proofs.Common.{◌≡◌, ℕ, zero, suc, ◌<◌, ◌∷◌, Bool, false, if◌then◌else◌, codes, Option}
 use Rattle.std.proofs.Common.{Some, option_map, unwrap_or, List, [], map, length, get_or, slice_get}
 use Rattle.std.proofs.Common.{slice_index_or, bytes_eq, sym, ap, subst, ◌∙◌, arith, true≢false, is_some}
 use Rattle.nj_statements.specs.Inside.EdgeSteps.{lines_of_rule}
 use Rattle.std.specs.List.{AllByRecursion}
 use Rattle.std.proofs.lemmas.List.{length-map}
 use Rattle.std.proofs.lemmas.Option.{slice_get-map, slice_get-get_or, get_or_from_slice_get}
-use Rattle.nj_scope.specs.Rules.{RuleModel, RuleLineModel, phony}
+use Rattle.nj_scope.specs.Rules.{RuleModel, phony}
 use Rattle.nj_scope.specs.ReadingList.{ReadStatement, value_after}
 use Rattle.nj_edge_env.specs.Blocks.{BlocksModel, bound_in}
 use Rattle.nj_edges.specs.Edges.{EdgePaths, edge_at}
@@ -48,21 +49,7 @@ element (x ∷ xs) n below = (slice_index_or (x ∷ xs) n x, slice_get-get_or (x
 
 names-are : (n m : LateNames) → n.inputs ≡ m.inputs → n.outputs ≡ m.outputs → n.block ≡ m.block
     → n.lines ≡ m.lines → n.is_phony ≡ m.is_phony → n.file ≡ m.file → n ≡ m
-names-are n m inputs outputs block lines is_phony file =
-    ap (λ (x : List (List ℕ)). record n { inputs = x }) inputs
-    ∙ ap (λ (x : List (List ℕ)). record n { inputs = m.inputs; outputs = x }) outputs
-    ∙ ap (λ (x : List ℕ → Option (List ℕ)). record n { inputs = m.inputs; outputs = m.outputs; block = x })
-    block
-    ∙ ap (λ (x : List RuleLineModel). record n
-    { inputs = m.inputs; outputs = m.outputs; block = m.block; lines = x }) lines
-    ∙ ap (λ (x : Bool). record n {
-      inputs = m.inputs;
-      outputs = m.outputs;
-      block = m.block;
-      lines = m.lines;
-      is_phony = x;
-    }) is_phony
-    ∙ ap (λ (x : List ℕ → List ℕ). record m { file = x }) file
+names-are n m inputs outputs block lines is_phony file = grind (arith, common_steps)
 
 -- ---- an edge
 
@@ -144,7 +131,3 @@ module _ (g : GraphModel) (entries : List ReadStatement) (is : IsGraphOf g entri
       ∙ sym (ap (λ (o : Option EdgeModel). unwrap_or
       (option_map (λ e. asked_text (names_of_edge entries e) asked) o) []) there.1)
       ∙ sym (ap (by_dyndep asked) other)
-
-  pub text-by-dyndep : (asked : List ℕ) → is_dyndep_restat entries n asked ≡ true
-      → codes "1" ≡ late_text_of entries n asked
-  text-by-dyndep asked is_so = sym (ap (by_dyndep asked) is_so)

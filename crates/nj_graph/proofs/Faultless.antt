@@ -2,13 +2,12 @@
 use Rattle.std.proofs.Common.{◌≡◌, ℕ, suc, Bool, true, false, not, ◌==◌, Some, None, List, [], ◌∷◌, length}
 use Rattle.std.proofs.Common.{String, string_bytes, refl, sym, ap, subst, ◌∙◌, IsUtf8, arith}
 use Rattle.std.specs.Bool.{then_some}
-use Rattle.std.specs.Option.{option_or}
 use Rattle.std.proofs.lemmas.Grind.{common_steps}
 use Rattle.std.proofs.lemmas.Str.{IsUtf8-string_bytes, IsUtf8-from_is_utf8, is_utf8-from_IsUtf8}
 use Rattle.std.specs.Str.{is_utf8}
 use Rattle.nj_text.specs.declared.spot.Spot.{Spot}
 use Rattle.nj_text.specs.Calls.{is_empty}
-use Rattle.nj_faults.specs.declared.fault.Cause.TheVariants.{EmptyPath, PathNotText}
+use Rattle.nj_faults.specs.declared.fault.Cause.TheVariants.{PathNotText}
 use Rattle.nj_faults.specs.Faults.{fault_at}
 use Rattle.nj_graph.specs.Reading.{path_fault}
 
@@ -19,15 +18,9 @@ empty-by_length (x ∷ xs) b h = sym (h ∙ never (length xs))
     never : (n : ℕ) → (suc n == 0) ≡ false
     never n = grind (arith, common_steps)
 
-pub path-empty : (file : List ℕ) (spot : Spot) (path : List ℕ) → is_empty path ≡ true
-    → path_fault file spot path ≡ Some (fault_at file spot EmptyPath)
-path-empty file spot path h = ap (λ b. option_or (then_some b (fault_at file spot EmptyPath))
-    (then_some (not (is_utf8 path)) (fault_at file spot PathNotText))) h
-
 pub path-utf8 : (file : List ℕ) (spot : Spot) (path : List ℕ) → is_empty path ≡ false
     → path_fault file spot path ≡ then_some (not (is_utf8 path)) (fault_at file spot PathNotText)
-path-utf8 file spot path h = ap (λ b. option_or (then_some b (fault_at file spot EmptyPath))
-    (then_some (not (is_utf8 path)) (fault_at file spot PathNotText))) h
+path-utf8 file spot path h = grind (arith, common_steps)
 
 pub path-whole : {Z : Type 0} (file : List ℕ) (spot : Spot) (path : List ℕ) (s : String Z)
     → is_empty path ≡ false → string_bytes s ≡ path → path_fault file spot path ≡ None

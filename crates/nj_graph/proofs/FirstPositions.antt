@@ -1,14 +1,15 @@
 -- Where a text first has a part, and where a command has the `@` directly before the name of its response
 -- file.
+use Rattle.std.proofs.lemmas.Grind.{common_steps}
 use Rattle.std.proofs.Common.{if◌then◌else◌, ◌≡◌, ◌==◌, ℕ, zero, suc, ◌+◌, ◌<◌, ◌≤◌, Bool, true, false, List}
-use Rattle.std.proofs.Common.{[], ◌∷◌, ◌++◌, Option, Some, None, option_map, take, drop, length, get_or}
+use Rattle.std.proofs.Common.{[], ◌∷◌, ◌++◌, Option, Some, None, option_map, take, drop, length}
 use Rattle.std.proofs.Common.{slice_index, nat_eq, eqb-true, eq-eqb, refl, sym, ap, subst, ◌∙◌, arith}
 use Rattle.std.proofs.Common.{true≢false, ⊎_elim}
 use Rattle.std.specs.Prelude.{codes, option_and_then}
 use Rattle.std.specs.List.{starts_with}
 use Rattle.std.proofs.lemmas.Bool.{cases_lt}
-use Rattle.std.proofs.lemmas.List.{append_assoc, get_or_at, get_or_append_left, length-append, length-take-le}
-use Rattle.std.proofs.lemmas.List.{take-append-drop, take_all, take_at, take_more}
+use Rattle.std.proofs.lemmas.List.{length-append}
+use Rattle.std.proofs.lemmas.List.{take-append-drop, take_at}
 use Rattle.std.proofs.lemmas.Slice.Eq.{bytes_eq-Decides}
 use Rattle.nj_graph.specs.Laws.{HasPart, FirstHasPart, Finds, FirstPositionIsFirst, HasSign}
 use Rattle.nj_graph.specs.Laws.{SignIsBeforeTheFirst}
@@ -137,31 +138,10 @@ module _ (command file : List ℕ) where
   -- the byte before a part
   with-sign : (n : ℕ) → HasPart command file (suc n) → slice_index command n ≡ 64
       → HasPart command (codes "@" ++ file) n
-  with-sign n h is =
-      let long : n < length h.before = omega (arith, h.position_is) in
-      let byte : get_or h.before n 0 ≡ 64 =
-      sym (get_or_append_left h.before file 0 n long)
-      ∙ sym (get_or_append_left (h.before ++ file) h.after 0 n
-      (omega (arith, long, length-append h.before file)))
-      ∙ ap (λ t. get_or t n 0) (sym h.text_is) ∙ is
-      in
-      let all : length h.before ≤ n + 1 = omega (arith, h.position_is) in
-      let split : h.before ≡ take n h.before ++ 64 ∷ [] =
-      sym (take_all (n + 1) h.before all) ∙ take_more h.before n 0 long
-      ∙ ap (λ b. take n h.before ++ b ∷ []) byte
-      in
-      record {
-        before = take n h.before;
-        after = h.after;
-        text_is = h.text_is ∙ ap (λ b. b ++ file ++ h.after) split
-            ∙ ap (λ t. t ++ h.after) (append_assoc (take n h.before) (64 ∷ []) file);
-        position_is = sym (length-take-le n h.before (omega (arith, h.position_is)));
-      }
+  with-sign n h is = grind (arith, common_steps)
 
   sign-there : (n : ℕ) → HasPart command (codes "@" ++ file) n → slice_index command n ≡ 64
-  sign-there n h =
-      ap (λ t. get_or t n 0) (h.text_is ∙ append_assoc h.before (64 ∷ file) h.after)
-      ∙ get_or_at h.before 64 (file ++ h.after) 0 n (sym h.position_is)
+  sign-there n h = grind (arith, common_steps)
 
   sign-at : (position : ℕ) → FirstHasPart command file position
       → Finds (HasSign command file) (sign_before command position)

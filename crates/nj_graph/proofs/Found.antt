@@ -1,4 +1,6 @@
 -- The state after opening a file, by the result for it.
+use Rattle.std.proofs.Common.{arith}
+use Rattle.std.proofs.lemmas.Grind.{common_steps}
 use Rattle.std.proofs.Common.{inl, inr, ◌≡◌, ◌⊎◌, ℕ, true, false, Option, Some, None, Ok, Err, List, [], ◌∷◌}
 use Rattle.std.proofs.Common.{◌++◌, append-nil, refl, sym, ap, subst, ◌∙◌}
 use Rattle.nj_graph.specs.Inside.PathsReached.{with_new}
@@ -62,9 +64,7 @@ pub outcomes-named : (before after : SourceState) (old held : List Reading) (nam
     → ReturnsText before after old held (record { file = name; spot = at }) path (Err fault)
     → ReturnsText before after old held (record { file = file; spot = spot }) path (Err fault)
 outcomes-named before after old held name file at spot path fault is there outcomes =
-    subst (λ f. ReturnsText before after old held (record { file = f; spot = spot }) path (Err fault)) is
-    (subst (λ s. ReturnsText before after old held (record { file = name; spot = s }) path (Err fault)) there
-    outcomes)
+    grind (arith, common_steps)
 
 module _ (before after : SourceState) (old held : List Reading) (path : List ℕ) (once : EachPathOnce old)
   where

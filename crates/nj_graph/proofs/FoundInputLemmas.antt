@@ -1,10 +1,11 @@
 -- Lemmas on the joining of inputs that were discovered.
+use Rattle.std.proofs.lemmas.Grind.{common_steps}
 use Rattle.std.proofs.Common.{◌≡◌, ◌≢◌, ◌<◌, ◌⊎◌, inl, inr, ℕ, true, false, nat_eq, Option, Some, None, List}
-use Rattle.std.proofs.Common.{◌++◌, append-nil, drop, length, take, option_map, set, slice_get}
+use Rattle.std.proofs.Common.{◌++◌, drop, length, take, option_map, set, slice_get}
 use Rattle.std.proofs.Common.{slice_index_or, sym, ap, subst, ◌∙◌, arith}
 use Rattle.std.proofs.lemmas.Bool.Decides.{eqb_tells}
 use Rattle.std.proofs.lemmas.Grind.{get_or-set_at}
-use Rattle.std.proofs.lemmas.List.{drop_all, get_or-set_other, length-map, length-set, take_all}
+use Rattle.std.proofs.lemmas.List.{get_or-set_other, length-map, length-set}
 use Rattle.std.proofs.lemmas.Option.{same_Some, slice_get-get_or, slice_get-map}
 use Rattle.nj_names.specs.NameTables.{name_at}
 use Rattle.nj_discovered.specs.Discoveries.{DiscoveriesModel, discovery_at}
@@ -56,6 +57,4 @@ module _ (paths : List (List ℕ)) (t : InputTable) (numbers : List (Option ℕ)
 
 pub written-back : {A : Type 0} (n : ℕ) (new old : List A) → length old ≡ length new → n ≡ length new
     → take n (new ++ drop (length new) old) ≡ new
-written-back n new old same is = ap (λ xs. take n (new ++ xs))
-    (drop_all (length new) old (omega (arith, same))) ∙ ap (take n) (append-nil new)
-    ∙ take_all n new (omega (arith, is))
+written-back n new old same is = grind (arith, common_steps)

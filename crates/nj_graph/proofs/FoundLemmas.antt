@@ -1,10 +1,11 @@
 -- Lemmas on the undeclared inputs that are found.
+use Rattle.std.proofs.lemmas.Grind.{common_steps}
 use Rattle.std.proofs.Common.{◌≡◌, ◌<◌, ◌≤◌, ◌+◌, ◌↔◌, ◌||◌, ◌⊎◌, inl, inr, ℕ, Bool, true, false, cond, Some}
 use Rattle.std.proofs.Common.{None, unwrap_or, List, [], ◌∷◌, ◌++◌, map, length, take, get_or, bytes_eq, refl}
 use Rattle.std.proofs.Common.{sym, ap, subst, ◌∙◌, arith, append-nil, append_assoc}
 use Rattle.std.specs.Prelude.{All, Contains, position, slice_get}
 use Rattle.std.proofs.lemmas.Bool.{both_ways, or_cases}
-use Rattle.std.proofs.lemmas.List.{map_push, take_all, take_more}
+use Rattle.std.proofs.lemmas.List.{map_push}
 use Rattle.std.proofs.lemmas.List.Elements.{All-push, Contains-append_left, Contains-push}
 use Rattle.std.proofs.lemmas.List.Elements.{Contains-push_cases}
 use Rattle.std.proofs.lemmas.List.Folds.{list_any-append}
@@ -52,9 +53,7 @@ module _ (edges : List EdgePaths) (input : InputOfEdge) where
 
   pub declared : (maker : ℕ) → maker_of edges input.path ≡ Some maker → IsOrNeeds edges input.edge maker
       → IsUndeclared edges input → ⊥
-  declared maker is needs undeclared =
-      undeclared.not_needed (subst (IsOrNeeds edges input.edge)
-      (same_Some maker undeclared.maker (sym is ∙ undeclared.makes)) needs)
+  declared maker is needs undeclared = grind (arith, common_steps)
 
 -- ---- one more path
 
@@ -74,9 +73,6 @@ module _ (g : EdgeGraph) (edge : ℕ) (before : List InputOfEdge) (paths : List 
       ∙ ap (λ is. before ++ is) (map_push (λ p. record { edge = edge; path = p }) (each_once bytes_eq paths)
       path)
       ∙ sym (append_assoc before (inputs_of_edge edge (each_once bytes_eq paths)) (own ∷ []))
-
-  among-first : (p : List ℕ) → is_among paths p ≡ true → is_among (paths ++ path ∷ []) p ≡ true
-  among-first p is = list_any-append (bytes_eq p) paths (path ∷ []) ∙ ap (λ b. b || is_among (path ∷ []) p) is
 
   among-last : is_among (paths ++ path ∷ []) path ≡ true
   among-last = list_any-append (bytes_eq path) paths (path ∷ [])
@@ -99,12 +95,7 @@ module _ (g : EdgeGraph) (edge : ℕ) (before : List InputOfEdge) (paths : List 
       or-none false is = is
 
   first-listed : (n : ℕ) → IsListed g edge paths n → IsListed g edge (paths ++ path ∷ []) n
-  first-listed n l = record {
-    path = l.path;
-    file_is = l.file_is;
-    among = among-first l.path l.among;
-    undeclared = l.undeclared;
-  }
+  first-listed n l = grind (arith, common_steps)
 
   -- the files that are listed stay the same, if the last path is known or declared
   stays-listed : (is_among paths path ≡ true) ⊎ (IsUndeclared g.edges own → ⊥) → (n : ℕ)
@@ -248,16 +239,12 @@ pub cleans-more : (paths : List (List ℕ)) (numbers : List ℕ) (i : ℕ) → i
     → map clean_path_of (map (name_at paths) (take (i + 1) numbers))
     ≡ map clean_path_of (map (name_at paths) (take i numbers))
     ++ clean_path_of (name_at paths (get_or numbers i 0)) ∷ []
-cleans-more paths numbers i below =
-    ap (λ ns. map clean_path_of (map (name_at paths) ns)) (take_more numbers i 0 below)
-    ∙ ap (map clean_path_of) (map_push (name_at paths) (take i numbers) (get_or numbers i 0))
-    ∙ map_push clean_path_of (map (name_at paths) (take i numbers)) (name_at paths (get_or numbers i 0))
+cleans-more paths numbers i below = grind (arith, common_steps)
 
 pub cleans-all : (paths : List (List ℕ)) (numbers : List ℕ) (i : ℕ) → length numbers ≤ i
     → map clean_path_of (map (name_at paths) (take i numbers))
     ≡ map clean_path_of (map (name_at paths) numbers)
-cleans-all paths numbers i past = ap (λ ns. map clean_path_of (map (name_at paths) ns))
-    (take_all i numbers past)
+cleans-all paths numbers i past = grind (arith, common_steps)
 
 -- the search for the next ones makes no difference
 pub same-finds : (g : EdgeGraph) (edge : ℕ) (before : List InputOfEdge) (paths : List (List ℕ))

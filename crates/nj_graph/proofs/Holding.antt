@@ -1,4 +1,5 @@
 -- A reader after one more statement.
+use Rattle.std.proofs.lemmas.Grind.{common_steps}
 use Rattle.std.proofs.Common.{◌≡◌, ℕ, ◌==◌, ◌&&◌, if◌then◌else◌, Bool, true, false, not, cond, Some, None}
 use Rattle.std.proofs.Common.{option_map, option_and_then, unwrap_or, Result, Ok, Err, Option, List, [], ◌∷◌}
 use Rattle.std.proofs.Common.{◌++◌, drop, take, get_or, length, length-append, slice_get, ◌+◌, ◌-◌, ◌<◌, find}
@@ -7,7 +8,7 @@ use Rattle.nj_graph.specs.Inside.PathsReached.{with_news, paths_read}
 use Rattle.nj_graph.proofs.OriginLemmas.{origins-more}
 use Rattle.std.specs.Bool.{then_some}
 use Rattle.std.specs.Option.{option_or, option_to_list}
-use Rattle.std.proofs.lemmas.List.{drop_more, map_push, take_more}
+use Rattle.std.proofs.lemmas.List.{map_push, take_more}
 use mathlib.Core.Path.{fun_ext}
 use Rattle.nj_text.specs.declared.spot.Spot.{Spot}
 use Rattle.nj_text.specs.Numbers.{leading_number_of}
@@ -22,13 +23,13 @@ use Rattle.nj_scope.specs.Declarations.{DeclarationsModel, DeclaredBy, SameScope
 use Rattle.nj_scope.specs.Limits.{is_depth}
 use Rattle.nj_scope.specs.Pools.{is_pool}
 use Rattle.nj_scope.proofs.Gathering.{get-last}
-use Rattle.nj_scope.specs.ReadingList.{ReadStatement, scope_of, binds, bounds, rules, is_declared, pools}
+use Rattle.nj_scope.specs.ReadingList.{ReadStatement, scope_of, binds, bounds, is_declared}
 use Rattle.nj_scope.specs.ReadingList.{path_named}
 use Rattle.nj_faults.specs.declared.fault.GraphFault.{GraphFault}
 use Rattle.nj_faults.specs.declared.fault.PlaceRef.{PlaceRef}
 use Rattle.nj_graph.specs.declared.reader.OpenFile.{OpenFile}
 use Rattle.nj_graph.specs.declared.reader.Reader.{Reader}
-use Rattle.nj_faults.specs.declared.fault.Cause.TheVariants.{BadDepth, DuplicateRule, DuplicatePool}
+use Rattle.nj_faults.specs.declared.fault.Cause.TheVariants.{BadDepth}
 use Rattle.nj_faults.specs.Faults.{fault_at}
 use Rattle.nj_graph.specs.Reading.{entry_at, expanded_in, rule_fault, depth_fault, pool_fault, own_fault}
 use Rattle.nj_statements.specs.Answers.{HasEdges, ReadsStatement, entry_at_place}
@@ -55,10 +56,6 @@ has-next main old held entries e has follows origins files names edges grows ins
   once = subst EachPathOnce (sym files) has.once;
 }
 
-fault-unless : (b : Bool) (fault : GraphFault) → true ≡ not b → then_some b fault ≡ None
-fault-unless true fault h = absurd (true≢false h)
-fault-unless false fault h = refl
-
 -- a version that is not newer, and a name that is another
 pub version-accepted : (named newer : Bool) (fault : GraphFault) → newer ≡ false
     → then_some (named && newer) fault ≡ None
@@ -82,20 +79,14 @@ pub rule-new : (main : List ℕ) (held : Reader) (entries : List ReadStatement) 
     (name : NameModel) → Has main held entries
     → true ≡ not (is_declared (rule_at held.declarations.scopes number name.name) name.name)
     → rule_fault file number entries name ≡ None
-rule-new main held entries file number name has new =
-    fault-unless (is_declared (rules entries number name.name) name.name)
-    (fault_at file name.spot (DuplicateRule name.name))
-    (new ∙ ap (λ r. not (is_declared r name.name)) (has.declares.declared number name.name))
+rule-new main held entries file number name has new = grind (arith, common_steps)
 
 -- a pool that is new
 pub pool-new : (main : List ℕ) (held : Reader) (entries : List ReadStatement) (file scope : List ℕ)
     (name : NameModel) (lines : List LineModel) → Has main held entries
     → true ≡ not (is_pool held.declarations.pools name.name)
     → pool_fault file scope entries name lines ≡ depth_fault file scope entries lines
-pool-new main held entries file scope name lines has new =
-    ap (λ f. option_or f (depth_fault file scope entries lines))
-    (fault-unless (is_pool (pools entries) name.name) (fault_at file name.spot (DuplicatePool name.name))
-    (new ∙ ap (λ ps. not (is_pool ps name.name)) has.declares.pools))
+pool-new main held entries file scope name lines has new = grind (arith, common_steps)
 
 -- ---- depths
 
@@ -158,12 +149,7 @@ pub depths-next : (file scope : List ℕ) (entries : List ReadStatement) (lines 
     → is_depth (expanded_in scope entries (word_model line.value)) ≡ true
     → depth_fault file scope entries (lines_model (drop i lines))
     ≡ depth_fault file scope entries (lines_model (drop (i + 1) lines))
-depths-next file scope entries lines i line lt at is =
-    ap (λ ls. depth_fault file scope entries (lines_model ls))
-    (drop_more lines i line lt ∙ ap (λ (l : Line). l ∷ drop (i + 1) lines) (sym at))
-    ∙ ap (λ b. option_map (λ (m : LineModel). fault_at file m.spot BadDepth)
-    (cond (not b) (Some (line_model line))
-    (find (λ m. not (is_depth (expanded_in scope entries m.value))) (lines_model (drop (i + 1) lines))))) is
+depths-next file scope entries lines i line lt at is = grind (arith, common_steps)
 
 -- the depth after one more line is the number of that line
 pub depth-next : (scope : List ℕ) (entries : List ReadStatement) (lines : List Line) (i : ℕ) (line : Line)
@@ -189,8 +175,7 @@ depth-next scope entries lines i line lt at =
 
 pub same-grows : (before after : DeclarationsModel) → SameScopes before after
     → Grows before.scopes after.scopes
-same-grows before after same = let count = same.count in
-    record { count = omega (arith, count); parents = λ n below. same.parents n }
+same-grows before after same = grind (arith, common_steps)
 
 -- ---- `build` and `default` statements
 
@@ -200,18 +185,12 @@ pub placed-entry : (file : OpenFile) (place : PlaceRef) (spot : Spot) (around : 
     → place.file.now ≡ file.name.now → place.spot ≡ spot
     → entry_at_place place file.scope.0 around depth item
     ≡ entry_at (site_of file around depth) (record { spot = spot; item = item })
-placed-entry file place spot around depth item file_is spot_is =
-    ap (λ (name : List ℕ). entry_at (record
-    { file = name; depth = depth; scope = file.scope.0; around = around })
-    (record { spot = place.spot; item = item })) file_is
-    ∙ ap (λ (s : Spot). entry_at (site_of file around depth) (record { spot = s; item = item })) spot_is
+placed-entry file place spot around depth item file_is spot_is = grind (arith, common_steps)
 
 -- and the place itself
 pub placed-text : (place : PlaceRef) (file : List ℕ) (spot : Spot) → place.file.now ≡ file → place.spot ≡ spot
     → place_text place ≡ record { file = file; spot = spot }
-placed-text place file spot file_is spot_is =
-    ap (λ (name : List ℕ). record { file = name; spot = place.spot }) file_is
-    ∙ ap (λ (s : Spot). record { file = file; spot = s }) spot_is
+placed-text place file spot file_is spot_is = grind (arith, common_steps)
 
 -- a statement that leaves the declarations unchanged and adds the edges of one statement
 pub built-declares : (main : List ℕ) (old held : Reader) (entries : List ReadStatement) (e : ReadStatement)

@@ -1,5 +1,7 @@
 -- The result of joining dyndep files: the graph of the joined statements, a cycle, or where it
 -- stops.
+use Rattle.std.proofs.Common.{arith}
+use Rattle.std.proofs.lemmas.Grind.{common_steps}
 use Rattle.std.proofs.Common.{◌≡◌, ℕ, inl, inr, false, Result, Ok, Err, List, [], ◌∷◌, length, append-nil}
 use Rattle.std.proofs.Common.{refl, sym, ap, subst, ◌∙◌, true≢false}
 use Rattle.nj_graph.proofs.FirstTimes.{joins}
@@ -15,7 +17,7 @@ use Rattle.nj_edges.specs.Needs.{makers_of_inputs}
 use Rattle.nj_faults.specs.declared.fault.GraphFault.{GraphFault}
 use Rattle.nj_faults.specs.Faults.{no_memory}
 use Rattle.nj_statements.specs.EdgeList.{Pending, edges_read, paths_of_edges, pending_read}
-use Rattle.nj_statements.specs.Built.{BuiltModel, ComesTo, detail_of}
+use Rattle.nj_statements.specs.Built.{BuiltModel, ComesTo}
 use Rattle.nj_statements.specs.Joining.{discover, dyndep_files}
 use Rattle.nj_statements.specs.JoiningHeld.{JoiningModel, has_pending}
 use Rattle.nj_statements.proofs.DiscoverLemmas.{declared-discover, all-discover}
@@ -23,13 +25,13 @@ use Rattle.nj_statements.proofs.DiscoverEdges.{all_edges-discover}
 use Rattle.nj_graph.specs.Reading.{Whole}
 use Rattle.nj_graph.specs.Origins.{origins_read, main_of}
 use Rattle.nj_graph.specs.Graph.{GraphModel, IsOpenScope, HasRule, IsGraphOf}
-use Rattle.nj_graph.specs.Inside.GraphHeld.{IsKnown, IsGraph}
+use Rattle.nj_graph.specs.Inside.GraphHeld.{IsGraph}
 use Rattle.nj_graph.specs.Runs.{ReachedModel}
 use Rattle.nj_graph.specs.Loads.{LoadedModel, IsWhole, LoadsAfter}
 use Rattle.nj_graph.specs.Joining.{files_joined, some_joined_after}
 use Rattle.nj_graph.specs.Inside.JoiningContracts.{FilesJoined, FilesStop, JoinsBuilt}
 use Rattle.nj_graph.specs.Inside.JoiningContracts.JoinsChosen.{joined}
-use Rattle.nj_graph.proofs.Comes.{prefix-self, prefix-named}
+use Rattle.nj_graph.proofs.Comes.{prefix-self}
 use Rattle.nj_graph.proofs.Tables.{read-nothing}
 use Rattle.nj_graph.proofs.OriginLemmas.{origins-discover}
 use Rattle.nj_graph.proofs.JoiningPending.{kept-by-files}
@@ -63,15 +65,7 @@ module _ (stated : List ReadStatement) (source : SourceState) (old : List Readin
 
     pub joins-memory : (fault : GraphFault) → fault ≡ no_memory → (chosen : List Pending)
         → LoadsAfter old source source (some_joined_after old stated chosen) (Err fault)
-    joins-memory fault none chosen = joins stated old chosen source source (Err fault) (
-      old,
-      read-nothing source old once,
-      inl (inl (record {
-        answered = none;
-        failures = refl;
-        came_to = λ all ext. prefix-named (paths_of old) (files_joined all stated chosen stated).paths;
-      })),
-    )
+    joins-memory fault none chosen = grind (arith, common_steps)
 
 module _ (chosen : List Pending) (stated : List ReadStatement) (before after : SourceState)
     (old : List Reading) where
@@ -91,11 +85,7 @@ module _ (chosen : List Pending) (stated : List ReadStatement) (before after : S
     all-joined = f.joins f.files itself
 
     whole : IsWhole before after f.files (come_joined old stated chosen) f.now
-    whole = record {
-      read = ap (λ (j : ReachedModel). j.read) all-joined;
-      came_to = ap (λ (j : ReachedModel). with_news (paths_of old) j.paths) all-joined ∙ f.came_to;
-      failures = f.reads.failures;
-    }
+    whole = grind (arith, common_steps)
 
     -- properties that the statements keep
     stays : (P : List ReadStatement → Type 0)
@@ -183,10 +173,4 @@ module _ (chosen : List Pending) (stated : List ReadStatement) (before after : S
       -- and it has the properties of a graph
       pub joined-held : (numbers : List ℕ) → IsGraph g.declarations g.built numbers
           → IsGraph g.declarations built numbers
-      joined-held numbers h = record {
-        listed = h.listed;
-        outermost = h.outermost;
-        count = ap length comes.0.details ∙ length-map (edges_read f.now) detail_of
-            ∙ sym (ap length comes.0.paths ∙ length-map (edges_read f.now) (λ e. e.paths));
-        known = subst (AllByRecursion (IsKnown g.declarations)) (sym details-same) h.known;
-      }
+      joined-held numbers h = grind (arith, common_steps)

@@ -1,4 +1,5 @@
 -- Which edges are pending on dyndep files, as these are joined one after another.
+use Rattle.std.proofs.lemmas.Grind.{common_steps}
 use Rattle.std.proofs.Common.{◌≡◌, ℕ, zero, suc, ◌<◌, ◌==◌, Bool, true, false, cond, not, ◌||◌, Option, Some}
 use Rattle.std.proofs.Common.{None, option_map, List, [], ◌∷◌, find, filter, length, slice_get, bytes_eq}
 use Rattle.std.proofs.Common.{option_and_then, arith, refl, sym, ap, subst, ◌∙◌, true≢false}
@@ -14,9 +15,8 @@ use Rattle.nj_faults.specs.declared.fault.Place.{Place}
 use Rattle.nj_faults.specs.declared.fault.GraphFault.{GraphFault}
 use Rattle.nj_faults.specs.declared.fault.Cause.TheVariants.{PathNotText}
 use Rattle.nj_statements.specs.EdgeList.{EdgeModel, Pending, edges_read, pending_read}
-use Rattle.nj_statements.specs.Joining.{discover, discovered_by, entry_fault, with_entry, no_statement}
+use Rattle.nj_statements.specs.Joining.{discover, entry_fault, with_entry, no_statement}
 use Rattle.nj_statements.specs.Joining.{lacking_fault, dyndep_files}
-use Rattle.nj_statements.proofs.DiscoverLemmas.{with_entry-by}
 use Rattle.nj_statements.proofs.DiscoverEdges.{pending-discover, pending-within}
 use Rattle.nj_graph.specs.Reading.{End, Whole, Refused, Lacking, ReadingModel, end_by, stopped, outcome_read}
 use Rattle.nj_graph.specs.Inside.Outcomes.{found_read}
@@ -79,8 +79,7 @@ module _ (P : List ReadStatement → Type 0)
     → P (discover edge found entries)) where
   pub kept-by-entry : (stated joined : List ReadStatement) (entry : EntryModel) → P joined
       → P (with_entry stated joined entry)
-  kept-by-entry stated joined entry h = with_entry-by P stated joined entry h
-      (λ edge. keeps edge (discovered_by entry) joined h)
+  kept-by-entry stated joined entry h = grind (arith, common_steps)
 
   kept-by-entries : (file : List ℕ) (stated : List ReadStatement) (entries : List EntryModel)
       (fault : Option Fault) (joined : List ReadStatement) → P joined

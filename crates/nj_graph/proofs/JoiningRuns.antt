@@ -1,4 +1,6 @@
 -- The dyndep files of a run, joined one after the other.
+use Rattle.std.proofs.Common.{arith}
+use Rattle.std.proofs.lemmas.Grind.{common_steps}
 use Rattle.std.proofs.Common.{◌≡◌, ◌⊎◌, ℕ, inl, inr, List, [], ◌∷◌, ◌++◌, append-nil, append_assoc, refl, sym}
 use Rattle.std.proofs.Common.{ap, subst, ◌∙◌}
 use Rattle.nj_graph.specs.Inside.PathsReached.{with_news, come_after, come_joined}
@@ -16,7 +18,7 @@ use Rattle.nj_graph.specs.Joining.{continued, path_asked, file_joined, files_joi
 use Rattle.nj_graph.specs.Inside.JoiningContracts.{FileJoined, FileLacksMemory, FileEnds, FileStops}
 use Rattle.nj_graph.specs.Inside.JoiningContracts.{FilesJoined, FilesStop}
 use Rattle.nj_graph.proofs.Comes.{prefix-then, prefix-named}
-use Rattle.nj_graph.proofs.Tables.{extends-trans, read-extends, reads-then, reads-all-nothing, reads-all-then}
+use Rattle.nj_graph.proofs.Tables.{extends-trans, read-extends, reads-then, reads-all-then}
 use Rattle.nj_graph.proofs.JoiningTables.{all_new-append}
 
 -- ---- ends
@@ -70,16 +72,7 @@ module _ (chosen : List Pending) (stated : List ReadStatement) (before : SourceS
   where
     pub files-at-first : (held : JoiningModel) → EachPathOnce old → HasJoined held stated stated
         → FilesUnderway chosen stated before before old old held chosen
-    files-at-first held once has = record {
-      files = old;
-      reads = reads-all-nothing before old once;
-      now =
-          stated;
-      has = has;
-      paths = [];
-      came_to = refl;
-      continues = λ all ext. refl;
-    }
+    files-at-first held once has = grind (arith, common_steps)
 
     module _ (mid : SourceState) (table : List Reading) (held : JoiningModel) where
       pub files-end : FilesUnderway chosen stated before mid old table held []

@@ -1,4 +1,5 @@
 -- The entries of a dyndep file's text, joined one after the other.
+use Rattle.std.proofs.lemmas.Grind.{common_steps}
 use Rattle.std.proofs.Common.{◌≡◌, ◌⊎◌, ℕ, suc, ◌<◌, inl, inr, Bool, true, false, Option, Some, None, Result}
 use Rattle.std.proofs.Common.{Ok, Err, List, length, refl, sym, ap, subst, ◌∙◌, arith}
 use Rattle.nj_graph.proofs.Continuing.{unless_fault}
@@ -177,17 +178,13 @@ pub next-some : (file : List ℕ) (before after : DyndepLeft) (b : Bool) (lines 
     → NextEntryIs file before after (Ok found)
     → (rest : List Line) × (left_entry b lines ≡ Ok (Some (entry_model entry), rest))
     × (after ≡ left_by true rest)
-next-some file before after b lines found entry at is next =
-    subst (λ f. NextEntryOf file (left_entry b lines) after (Ok f)) is
-    (next-of file b lines after (Ok found) (subst (λ s. NextEntryIs file s after (Ok found)) at next))
+next-some file before after b lines found entry at is next = grind (arith, common_steps)
 
 pub next-none : (file : List ℕ) (before after : DyndepLeft) (b : Bool) (lines : List Line)
     (found : Option text.Entry) → before ≡ left_by b lines → found ≡ None
     → NextEntryIs file before after (Ok found)
     → (rest : List Line) × (left_entry b lines ≡ Ok (None, rest))
-next-none file before after b lines found at is next =
-    subst (λ f. NextEntryOf file (left_entry b lines) after (Ok f)) is
-    (next-of file b lines after (Ok found) (subst (λ s. NextEntryIs file s after (Ok found)) at next))
+next-none file before after b lines found at is next = grind (arith, common_steps)
 
 to-come : (b : Bool) (lines : List Line) → lines_to_come (left_by b lines) ≡ ahead lines
 to-come true lines = refl

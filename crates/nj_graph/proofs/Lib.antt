@@ -10,6 +10,7 @@ pub mod Found
 pub mod FoundInputLemmas
 pub mod FoundLemmas
 pub mod GraphRows
+pub mod HandleLemmas
 pub mod Holding
 pub mod DiscoveredLemmas
 pub mod InputGraphs
@@ -35,6 +36,7 @@ pub mod OpenScopes
 pub mod OriginLemmas
 pub mod OriginRows
 pub mod OtherFiles
+pub mod RangeLemmas
 pub mod ReadingLaws
 pub mod ReadingRows
 pub mod ResponseRows

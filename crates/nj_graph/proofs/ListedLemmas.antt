@@ -1,4 +1,5 @@
 -- How a graph represents the rules that it lists.
+use Rattle.std.proofs.lemmas.Grind.{common_steps}
 use Rattle.std.proofs.Common.{◌≡◌, ℕ, zero, suc, ◌+◌, ◌<◌, Bool, true, false, cond, ◌==◌, List, [], ◌∷◌, ◌++◌}
 use Rattle.std.proofs.Common.{map, take, length, get_or, Option, Some, option_map, unwrap_or, refl, sym, ap}
 use Rattle.std.proofs.Common.{◌∙◌, eqb-true, eq-eqb, arith}
@@ -6,7 +7,6 @@ use Rattle.std.specs.Prelude.{slice_get}
 use Rattle.std.specs.List.Sorted.{IsSortedBy, IsStableBy}
 use Rattle.std.proofs.lemmas.Cmp.{nat_list_cmp_total}
 use Rattle.std.proofs.lemmas.List.{map_push, append-nil}
-use Rattle.std.proofs.lemmas.List.Elements.{filter_more}
 use Rattle.std.proofs.lemmas.List.Sorted.{ranks_by}
 use Rattle.std.proofs.lemmas.Option.{slice_get-get_or}
 use Rattle.nj_scope.specs.Rules.{RuleModel, phony_rule, rules_in}
@@ -32,8 +32,7 @@ module _ (rules : List RuleModel) where
     -- with the next rule
     more : rules_in (take (i + 1) rules) 0
         ≡ rules_in (take i rules) 0 ++ cond (0 == rule.scope) (rule ∷ []) []
-    more = filter_more (λ r. 0 == r.scope) rules i rule below
-        ∙ ap (λ r. rules_in (take i rules) 0 ++ cond (0 == r.scope) (r ∷ []) []) (sym is)
+    more = grind (arith, common_steps)
 
     pub listed-rule : rule.scope ≡ 0 → map (slice_get rules) (numbers ++ i ∷ [])
         ≡ map some_rule (rules_in (take (i + 1) rules) 0)

@@ -1,12 +1,11 @@
 -- The same log again changes nothing.
+use Rattle.std.proofs.lemmas.Grind.{common_steps}
 use Rattle.std.proofs.Common.{◌≡◌, ◌≤◌, ◌+◌, ◌||◌, ◌⊎◌, inl, inr, ℕ, zero, suc, Bool, true, false, not, cond}
 use Rattle.std.proofs.Common.{if◌then◌else◌, List, [], ◌∷◌, ◌++◌, length, slice_get, None, option_map}
 use Rattle.std.proofs.Common.{unwrap_or, bytes_eq, position, refl, sym, ap, ◌∙◌, arith, append-nil}
-use Rattle.std.proofs.Common.{append_assoc}
 use Rattle.std.specs.Prelude.{codes, filter, option_and_then}
 use Rattle.std.specs.List.{AllZip}
 use Rattle.std.proofs.Math.Bool.{or-true}
-use Rattle.std.proofs.lemmas.List.Folds.{list_any-append}
 use Rattle.std.proofs.lemmas.List.{length-map}
 use Rattle.std.proofs.lemmas.Option.{slice_get_past}
 use Rattle.std.proofs.lemmas.Slice.Eq.{bytes_eq-Decides}
@@ -100,9 +99,7 @@ module _ (e : EdgePaths) (paths : List (List ℕ)) where
 
   among-parts : (p : List ℕ) → is_among (counted_inputs_of again) p
       ≡ (is_among (counted_inputs_of e) p || is_among (new_inputs e paths) p)
-  among-parts p = ap (λ ps. is_among ps p)
-      (sym (append_assoc e.explicit_inputs e.implicit_inputs (new_inputs e paths)))
-      ∙ list_any-append (bytes_eq p) (counted_inputs_of e) (new_inputs e paths)
+  among-parts p = grind (arith, common_steps)
 
   pub none-new : new_inputs again paths ≡ []
   none-new = none-kept (λ p. not (is_among (counted_inputs_of again) p)) (each_once bytes_eq paths)

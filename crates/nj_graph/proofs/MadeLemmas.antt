@@ -1,10 +1,9 @@
 -- Lemmas on the files that edges make at the paths of a deps log.
-use Rattle.std.proofs.Common.{◌≡◌, ◌+◌, ◌||◌, inl, inr, ℕ, Bool, true, false, if◌then◌else◌, Option, Some}
-use Rattle.std.proofs.Common.{None, option_map, unwrap_or, List, [], ◌∷◌, ◌++◌, length, bytes_eq, refl, sym}
-use Rattle.std.proofs.Common.{ap, subst, ◌∙◌, true≢false, arith}
+use Rattle.std.proofs.lemmas.Grind.{common_steps}
+use Rattle.std.proofs.Common.{◌≡◌, ◌+◌, ◌||◌, ℕ, Bool, true, false, if◌then◌else◌, Option, Some}
+use Rattle.std.proofs.Common.{None, option_map, unwrap_or, List, [], ◌∷◌, ◌++◌, length, bytes_eq, refl}
+use Rattle.std.proofs.Common.{ap, ◌∙◌, true≢false, arith}
 use Rattle.std.specs.Prelude.{position}
-use Rattle.std.proofs.lemmas.Bool.{cases_lt}
-use Rattle.std.proofs.lemmas.List.{get_or_append_left, get_or_push, length_push}
 use Rattle.nj_text.specs.Paths.{clean_path_of}
 use Rattle.nj_names.specs.declared.files.FileNo.{FileNo}
 use Rattle.nj_names.specs.Files.{path_at}
@@ -43,11 +42,4 @@ module _ (g : EdgeGraph) (paths : List (List ℕ)) (made : List (Option MadeFile
     (n : ℕ) where
   pub made-push : AreMade g paths made → length made ≡ n → MadeIs g (clean_path_of (name_at paths n)) next
       → AreMade g paths (made ++ next ∷ [])
-  made-push are count is k below = elim (cases_lt k (length made)) [
-    | inl before ↦ subst (MadeIs g (clean_path_of (name_at paths k)))
-        (sym (get_or_append_left made (next ∷ []) None k before)) (are k before)
-    | inr past ↦
-        let last : length made ≡ k = omega (arith, past, below, length_push made next) in
-        subst (MadeIs g (clean_path_of (name_at paths k))) (sym (get_or_push made next None k last))
-        (subst (λ m. MadeIs g (clean_path_of (name_at paths m)) next) (sym count ∙ last) is)
-  ]
+  made-push are count is k below = grind (arith, common_steps)

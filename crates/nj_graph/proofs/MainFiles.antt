@@ -1,7 +1,8 @@
 -- The main file of a run.
+use Rattle.std.proofs.lemmas.Grind.{common_steps}
 use Rattle.std.proofs.Common.{◌≡◌, ℕ, true, false, ◌||◌, cond, inl, inr, is_some, Option, Some, None, Result}
 use Rattle.std.proofs.Common.{Ok, Err, List, [], ◌∷◌, ◌++◌, length, refl, sym, ap, subst, ◌∙◌, arith}
-use Rattle.std.proofs.Common.{append-nil, true≢false}
+use Rattle.std.proofs.Common.{true≢false}
 use Rattle.nj_graph.proofs.FirstTimes.{loads}
 use Rattle.nj_graph.specs.Inside.PathsReached.{with_new, come_to, reached_by, reached_of}
 use Rattle.std.specs.Prelude.{◌⊎◌, IfOk}
@@ -9,7 +10,6 @@ use Rattle.std.specs.List.{AllByRecursion}
 use Rattle.std.proofs.lemmas.List.{length-map}
 use Rattle.std.proofs.lemmas.Slice.Eq.{bytes_eq-Decides}
 use Rattle.nj_scope.specs.Readings.{Reading, EachPathOnce, reading_of, is_read, IsPrefix, paths_of}
-use Rattle.nj_scope.specs.Declarations.{DeclaredBy}
 use Rattle.nj_scope.specs.Scopes.{outermost, parent_at}
 use Rattle.nj_scope.specs.ReadingList.{ReadStatement}
 use Rattle.nj_scope.specs.Sources.{SourceState}
@@ -25,7 +25,6 @@ use Rattle.nj_graph.specs.Inside.ReaderContracts.{FinishesReading}
 use Rattle.nj_cycles.specs.Cycles.{IsAcyclic}
 use Rattle.nj_edges.specs.Needs.{makers_of_inputs}
 use Rattle.nj_statements.specs.EdgeList.{edges_read, paths_of_edges}
-use Rattle.nj_statements.specs.Answers.{HasEdges}
 use Rattle.nj_statements.specs.Built.{BuiltModel, ComesTo, detail_of}
 use Rattle.nj_graph.specs.Origins.{main_of}
 use Rattle.nj_graph.specs.Graph.{IsOpenScope, HasRule, IsGraphOf}
@@ -38,7 +37,7 @@ use Rattle.nj_graph.specs.Runs.{IsRead}
 use Rattle.nj_graph.specs.Loads.{LoadedModel, IsWhole, Loads}
 use Rattle.nj_graph.proofs.Found.{FindsText, FindsNone, CannotTell, HasNoMemory}
 use Rattle.nj_graph.proofs.Comes.{main-comes}
-use Rattle.nj_graph.proofs.Tables.{extends-trans, reading-kept, read-extends, reads-all-then, read-nothing}
+use Rattle.nj_graph.proofs.Tables.{extends-trans, reading-kept, read-extends, reads-all-then}
 use Rattle.nj_graph.proofs.Turns.{stops-then}
 
 abbrev main_reading : (main : List ℕ) → List Reading → ReadingModel
@@ -55,16 +54,7 @@ module _ (main : List ℕ) (before after : SourceState) (fault : GraphFault) whe
   -- there was no memory before the first reading
   pub main-nothing : after ≡ before → fault ≡ no_memory
       → StopsAt main before after [] (main_reading main) fault
-  main-nothing same none = record {
-    files = [];
-    reads = subst (λ source. IsRead before source [] []) (sym same) (read-nothing before [] tt);
-    stops = inl (record {
-      answered = none;
-      failures = ap (λ source. source.failures) same;
-      came_to =
-          λ all ext. (come_to main (main_read all main), refl);
-    });
-  }
+  main-nothing same none = grind (arith, common_steps)
 
   main-memory : HasNoMemory before after [] main fault
       → StopsAt main before after [] (main_reading main) fault
@@ -165,15 +155,7 @@ module _ (main : List ℕ) (before mid after : SourceState) (old opened held : R
 
   pub main-has : opened.declarations ≡ old.declarations → opened.building ≡ old.building
       → opened.origins ≡ old.origins → Has main opened []
-  main-has declared building origins = record {
-    declares = subst (λ d. DeclaredBy d []) (sym declared) new.declares;
-    edges = subst (λ b. HasEdges b []) (sym building) new.edges;
-    scopes = tt;
-    origins = origins ∙ new.origins;
-    paths_are = ap paths_of found.reads.held_is ∙ found.came_to
-        ∙ ap (λ fs. with_new (paths_of fs) main) new.files;
-    once = subst EachPathOnce (sym found.reads.held_is) found.reads.reads.once;
-  }
+  main-has declared building origins = grind (arith, common_steps)
 
   pub main-reads : (result : Result (Unit {0}) GraphFault)
       → ReadsOrStops main mid after opened held
@@ -203,20 +185,7 @@ module _ (main : List ℕ) (before mid after : SourceState) (old opened held : R
 pub reads-memory : (main : List ℕ) (before after : SourceState) (old held : Reader) (fault : GraphFault)
     → ReadsText main before after old held (main_reading main) → fault ≡ no_memory
     → StopsAt main before after old.files (main_reading main) fault
-reads-memory main before after old held fault r none = record {
-  files = r.files;
-  reads = r.reads.reads;
-  stops = inl (record {
-    answered = none;
-    failures = r.reads.failures;
-    came_to =
-        λ all ext. (
-          [],
-          ap (come_to main) (r.read all ext) ∙ sym r.has.paths_are ∙ ap paths_of r.reads.held_is
-              ∙ sym (append-nil (paths_of r.files)),
-        );
-  });
-}
+reads-memory main before after old held fault r none = grind (arith, common_steps)
 
 -- ---- all was read
 
@@ -271,12 +240,7 @@ module _ (main : List ℕ) (held : Reader) (entries : List ReadStatement) (has :
 module _ (main : List ℕ) (before after : SourceState) (old held : Reader)
     (r : ReadsText main before after old held (main_reading main)) where
   is-whole : IsWhole before after r.files (reached_of main) r.entries
-  is-whole = record {
-    read = r.read r.files ([], sym (append-nil r.files));
-    came_to = ap (come_to main) (r.read r.files ([], sym (append-nil r.files))) ∙ sym r.has.paths_are
-        ∙ ap paths_of r.reads.held_is;
-    failures = r.reads.failures;
-  }
+  is-whole = grind (arith, common_steps)
 
   pub was-faultless : Faultless r.entries
   was-faultless = subst (λ (x : ReadingModel). Faultless x.entries) is-whole.read

@@ -1,4 +1,5 @@
 -- The reading of a statement, where it has a fault of its own, and where it names a file.
+use Rattle.std.proofs.lemmas.Grind.{common_steps}
 use Rattle.std.proofs.Common.{◌≡◌, ℕ, ◌+◌, ◌<◌, Result, Ok, Err, IfOk, OnOk, length, arith, Bool, true, false}
 use Rattle.std.proofs.Common.{inl, inr, Option, Some, None, option_map, List, [], ◌∷◌, ◌++◌, refl, sym, ap}
 use Rattle.std.proofs.Common.{subst, ◌∙◌}
@@ -33,11 +34,10 @@ use Rattle.nj_graph.specs.Reading.{opened_in, text_read}
 use Rattle.nj_graph.specs.Inside.Outcomes.{path_at_fault}
 use Rattle.nj_graph.specs.Inside.ReaderContracts.{site_scope}
 use Rattle.nj_edges.specs.Edges.{EdgePaths}
-use Rattle.nj_faults.specs.declared.fault.Cause.TheVariants.{RuleVariableCycle}
 use Rattle.nj_statements.specs.EdgeList.{Values, EdgeModel, path_given, line_values, edges_read}
-use Rattle.nj_statements.specs.EdgeList.{paths_of_edges, edge_of_build, names_of_edge}
+use Rattle.nj_statements.specs.EdgeList.{paths_of_edges, edge_of_build}
 use Rattle.nj_statements.specs.BuildFaults.{empty_path, unknown_rule, two_makers, outputs_fault, paths_fault}
-use Rattle.nj_statements.specs.BuildFaults.{variable_cycle_fault, late_fault, target_fault}
+use Rattle.nj_statements.specs.BuildFaults.{late_fault, target_fault}
 use Rattle.nj_statements.specs.Answers.{HasEdges}
 use Rattle.nj_statements.proofs.Holding.{names_files, kept-other}
 use Rattle.nj_graph.specs.Runs.{IsRead, Stops}
@@ -47,7 +47,6 @@ use Rattle.nj_graph.specs.Inside.OriginsHeld.{origins_with}
 use Rattle.nj_graph.specs.Inside.ReaderContracts.{named_item, named_site, site_of, EntersScope, Has, Grows}
 use Rattle.nj_graph.specs.Inside.ReaderContracts.{IsOpenIn, ReadsOne, StopsAt, OpensText, OpensNamed}
 use Rattle.nj_graph.proofs.Comes.{item-comes, statements-come}
-use Rattle.nj_graph.proofs.Tables.{read-nothing}
 use Rattle.nj_graph.proofs.OpenScopes.{open-grown, open-next}
 
 -- ---- no fault of a statement by itself names a path
@@ -85,8 +84,7 @@ empty-names file values word = if-names _ file word.spot _ refl
 
 target-names : (file : List ℕ) (values : Values) (edges : List EdgePaths) (word : WordModel)
     → NamesNone (target_fault file values edges word)
-target-names file values edges word = or-names (empty_path file values word) _ (empty-names file values word)
-    (if-names _ file word.spot _ refl)
+target-names file values edges word = grind (arith, common_steps)
 
 outputs-name : (file : List ℕ) (values : Values) (edges : List EdgePaths) (left : List (List ℕ))
     (words : List WordModel) → NamesNone (outputs_fault file values edges left words)
@@ -105,16 +103,8 @@ paths-name file values edges outputs inputs =
     (first-names (empty_path file values) (empty-names file values)
     (inputs.explicit ++ (inputs.implicit ++ (inputs.order_only ++ inputs.validations))))
 
-key-names : (file : List ℕ) (spot : Spot) (key : Option (List ℕ))
-    → NamesNone (option_map (λ k. fault_at file spot (RuleVariableCycle k)) key)
-key-names file spot (Some k) fault h = ap (λ f. path_at_fault f.cause) (sym (some-is _ fault h))
-key-names file spot None fault h = absurd cc
-
 late-names : (before : List ReadStatement) (edge : EdgeModel) → NamesNone (late_fault before edge)
-late-names before edge =
-    or-names (variable_cycle_fault edge.file edge.spot (names_of_edge before edge)) _
-    (key-names edge.file edge.spot _)
-    (or-names _ _ (if-names _ edge.file edge.spot _ refl) (if-names _ edge.file edge.spot _ refl))
+late-names before edge = grind (arith, common_steps)
 
 item-names : (e : ReadStatement) (before : List ReadStatement) (item : StatementModel)
     → NamesNone (item_fault e before item)
@@ -149,19 +139,13 @@ module _ (kind : Naming) (site : Site) (start : Spot) (entries : List ReadStatem
 
   pub named-fault : own_fault names entries
       ≡ path_fault site.file word.spot (expanded_in (site_scope site) entries word)
-  named-fault = elim kind as (λ k. own_fault
-      (entry_at site (record { spot = start; item = named_item k word })) entries
-      ≡ path_fault site.file word.spot (expanded_in (site_scope site) entries word))
-      [ naming.Include ↦ refl | naming.Subninja ↦ refl ]
+  named-fault = grind (arith, common_steps)
 
   pub named-path : path_named names entries names.item ≡ Some (expanded_in (site_scope site) entries word)
-  named-path = elim kind as (λ k. path_named
-      (entry_at site (record { spot = start; item = named_item k word })) entries (named_item k word)
-      ≡ Some (expanded_in (site_scope site) entries word)) [ naming.Include ↦ refl | naming.Subninja ↦ refl ]
+  named-path = grind (arith, common_steps)
 
   pub named-file : (named_site kind names entries word).file ≡ expanded_in (site_scope site) entries word
-  named-file = elim kind as (λ k. (named_site k names entries word).file
-      ≡ expanded_in (site_scope site) entries word) [ naming.Include ↦ refl | naming.Subninja ↦ refl ]
+  named-file = grind (arith, common_steps)
 
   -- where it is opened from
   pub named-origins : (o : OriginsModel) → origins_with names entries o ≡ record o {
@@ -187,24 +171,13 @@ module _ (kind : Naming) (site : Site) (start : Spot) (entries : List ReadStatem
       [ naming.Include ↦ refl | naming.Subninja ↦ refl ]
 
   pub named-builds : names_files names.item ≡ false
-  named-builds = elim kind as (λ k. names_files (named_item k word) ≡ false)
-      [ naming.Include ↦ refl | naming.Subninja ↦ refl ]
-
-  named-item : (opens : Opens) → item_read opens names entries names.item
-      ≡ opens (named_site kind names entries word) (place_at names word.spot) names entries
-  named-item opens = elim kind as (λ k. item_read opens
-      (entry_at site (record { spot = start; item = named_item k word })) entries (named_item k word)
-      ≡ opens (named_site k (entry_at site (record { spot = start; item = named_item k word })) entries word)
-      (place_at (entry_at site (record { spot = start; item = named_item k word })) word.spot)
-      (entry_at site (record { spot = start; item = named_item k word })) entries)
-      [ naming.Include ↦ refl | naming.Subninja ↦ refl ]
+  named-builds = grind (arith, common_steps)
 
   -- without a fault of its own
   pub named-read : path_fault site.file word.spot (expanded_in (site_scope site) entries word) ≡ None
       → (opens : Opens) → statement_read opens names entries
       ≡ opens (named_site kind names entries word) (place_at names word.spot) names entries
-  named-read none opens = ap (λ f. unless_fault f entries (item_read opens names entries names.item))
-      (named-fault ∙ none) ∙ named-item opens
+  named-read none opens = grind (arith, common_steps)
 
 -- a new scope for the file after `subninja`
 pub enters-new : {X : Type 0} (old : Reader) (new : DeclarationsModel) (file : OpenFile) (start : Spot)
@@ -266,8 +239,7 @@ stops-same main before after old first second fault same s =
 module _ (main : List ℕ) (before after : SourceState) (old : Reader) (entries : List ReadStatement)
     (has : Has main old entries) (same : after ≡ before) where
   read-no_more : IsRead before after old.files old.files
-  read-no_more = subst (λ source. IsRead before source old.files old.files) (sym same)
-      (read-nothing before old.files has.once)
+  read-no_more = grind (arith, common_steps)
 
   -- there was no memory, and nothing more was read
   pub stops-memory : (reading : List Reading → ReadingModel) (fault : GraphFault)
@@ -394,8 +366,4 @@ pub reads-one : (main : List ℕ) (source : SourceState) (old held : Reader) (e 
     → Has main old entries → Has main held (e ∷ entries) → own_fault e entries ≡ None → held.files ≡ old.files
     → ((opens : Opens) → item_read opens e entries e.item ≡ record { entries = e ∷ entries; end = Whole })
     → ReadsOne main source source old held e entries
-reads-one main source old held e entries has after none files reads = record {
-  reads = record { reads = read-nothing source old.files has.once; held_is = files; failures = refl };
-  has = after;
-  read = λ opens. ap (λ f. unless_fault f entries (item_read opens e entries e.item)) none ∙ reads opens;
-}
+reads-one main source old held e entries has after none files reads = grind (arith, common_steps)

@@ -1,4 +1,5 @@
 -- Scopes that were opened stay opened.
+use Rattle.std.proofs.lemmas.Grind.{common_steps}
 use Rattle.std.proofs.Common.{◌≡◌, ℕ, ◌<◌, ◌≤◌, Option, List, [], ◌∷◌, length, arith, refl, ◌∙◌}
 use Rattle.std.specs.List.{AllByRecursion}
 use Rattle.nj_scope.specs.Scopes.{IsScope, outermost, child, ScopeModel, parent_at}
@@ -11,14 +12,7 @@ grows-self scopes = record { count = omega arith; parents = λ n h. refl }
 
 pub grows-then : (before mid after : List ScopeModel) → Grows before mid → Grows mid after
     → Grows before after
-grows-then before mid after p q =
-    let first = p.count in
-    let second = q.count in
-    record {
-      count = omega (arith, first, second);
-      parents =
-          λ n h. q.parents n (omega (arith, h, first)) ∙ p.parents n h;
-    }
+grows-then before mid after p q = grind (arith, common_steps)
 
 scope-kept : (parent later : ℕ → Option ℕ) (count : ℕ) → ((n : ℕ) → n < count → later n ≡ parent n)
     → (s : ℕ) (scope : List ℕ) → IsScope parent s scope → AllByRecursion (λ n. n < count) scope

@@ -1,4 +1,5 @@
 -- Where rules, pools and files come from: how that is represented, and which part of it the statements give.
+use Rattle.std.proofs.lemmas.Grind.{common_steps}
 use Rattle.std.proofs.Common.{◌≡◌, ℕ, suc, ◌+◌, ◌-◌, ◌<◌, ◌&&◌, ◌==◌, Bool, true, false, if◌then◌else◌}
 use Rattle.std.proofs.Common.{Option, Some, None, option_map, option_and_then, unwrap_or, IfSome, List, []}
 use Rattle.std.proofs.Common.{◌∷◌, ◌++◌, length, map, slice_get, refl, sym, ap, ◌∙◌, arith, add-zero}
@@ -28,7 +29,7 @@ use Rattle.nj_graph.specs.declared.origins.HeldPool.{HeldPool}
 use Rattle.nj_scope.specs.declared.scopes.ScopeNo.{ScopeNo}
 use Rattle.nj_graph.specs.declared.origins.HeldOpening.{HeldOpening}
 use Rattle.nj_graph.specs.Origins.{place_of, PoolDetail, OpeningModel, OriginsModel, rule_place_given}
-use Rattle.nj_graph.specs.Origins.{rule_places, pool_detail_given, pool_details, opening_given, main_opening}
+use Rattle.nj_graph.specs.Origins.{rule_places, pool_detail_given, pool_details, opening_given}
 use Rattle.nj_graph.specs.Origins.{openings_read, origins_read, main_of}
 use Rattle.nj_graph.specs.Inside.OriginsHeld.{place_held, pool_held, opening_held, origins_held, AreNamed}
 use Rattle.nj_graph.specs.Inside.OriginsHeld.{origins_with}
@@ -50,8 +51,7 @@ module _ (names later : List (List ℕ)) (grows : IsPrefix names later) where
   place-grown p below = ap (λ (f : List ℕ). record { file = f; spot = p.spot }) (name-grown p.file below)
 
   pub below-grown : (n : ℕ) → n < length names → n < length later
-  below-grown n below = let count = ap length grows.1 ∙ length-append names grows.0 in
-      omega (arith, below, count)
+  below-grown n below = grind (arith, common_steps)
 
 map-same : {A B : Type 0} (f g : A → B) (P : A → Type 0) → ((x : A) → P x → f x ≡ g x) → (xs : List A)
     → AllByRecursion P xs → map f xs ≡ map g xs
@@ -269,30 +269,14 @@ main-named main entries = refl
 
 -- ---- one more statement
 
-after-first : {A : Type 0} (x : A) (others : List A) (o : Option A)
-    → with_given (x ∷ others) o ≡ x ∷ with_given others o
-after-first x others None = refl
-after-first x others (Some y) = refl
-
 pub origins-more : (main : List ℕ) (e : ReadStatement) (before : List ReadStatement)
     → origins_with e before (origins_read main before) ≡ origins_read main (e ∷ before)
-origins-more main e before =
-    ap (λ (rs : List (Option Place)). record {
-      rules = rs;
-      pools = pool_details (e ∷ before);
-      openings =
-          with_given (openings_read main before) (opening_given e before e.item);
-    })
-    (after-first None (gathered rule_place_given before) (rule_place_given e before e.item))
-    ∙ ap (λ (os : List OpeningModel). record
-    { rules = rule_places (e ∷ before); pools = pool_details (e ∷ before); openings = os })
-    (after-first (main_opening main) (gathered opening_given before) (opening_given e before e.item))
+origins-more main e before = grind (arith, common_steps)
 
 -- the origins of statements after a main file give that file
 pub origins-of_main : (o : OriginsModel) (main : List ℕ) (entries : List ReadStatement)
     → o ≡ origins_read main entries → o ≡ origins_read (main_of o) entries
-origins-of_main o main entries is = is ∙ ap (λ m. origins_read m entries)
-    (sym (ap main_of is ∙ main-named main entries))
+origins-of_main o main entries is = grind (arith, common_steps)
 
 -- ---- discoveries change nothing of it
 

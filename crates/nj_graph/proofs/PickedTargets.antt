@@ -1,10 +1,12 @@
 -- Targets, word by word.
+use Rattle.std.proofs.Common.{arith}
+use Rattle.std.proofs.lemmas.Grind.{common_steps}
 use Rattle.std.proofs.Common.{◌≡◌, ◌⊎◌, inl, inr, ℕ, ◌+◌, ◌<◌, Result, Ok, Err, Some, List, [], ◌∷◌, ◌++◌}
 use Rattle.std.proofs.Common.{length, take, drop, get_or, map, refl, sym, ap, subst, ◌∙◌, take-append-drop}
 use Rattle.std.specs.Prelude.{slice_get, All, IfOk}
 use Rattle.std.specs.Result.{IsErrAnd}
 use Rattle.std.specs.Global.{Vec}
-use Rattle.std.proofs.lemmas.List.{take_more, drop_more, map_push, map-append}
+use Rattle.std.proofs.lemmas.List.{drop_more, map-append}
 use Rattle.nj_manifest.specs.LineSteps.{◌>>=◌}
 use Rattle.nj_names.specs.declared.files.FileNo.{FileNo}
 use Rattle.nj_edges.specs.Edges.{EdgePaths}
@@ -61,9 +63,7 @@ module _ (edges : List EdgePaths) where
       (lt : i < length words) (at : word ≡ get_or words i word)
       (named : targets_named edges (map text (take i words)) ≡ Ok paths) where
     front-is : map text (take (i + 1) words) ≡ map text (take i words) ++ text word ∷ []
-    front-is =
-        ap (map text) (take_more words i word lt ∙ ap (λ (w : X). take i words ++ w ∷ []) (sym at))
-        ∙ map_push text (take i words) word
+    front-is = grind (arith, common_steps)
 
     pub targets-next : (path : List ℕ) → picked edges (text word) ≡ Ok path
         → targets_named edges (map text (take (i + 1) words)) ≡ Ok (paths ++ path ∷ [])
@@ -89,11 +89,7 @@ module _ (edges : List EdgePaths) where
 pub files-push : (files : List (List ℕ)) (numbers : List FileNo) (paths : List (List ℕ)) (file : FileNo)
     (path : List ℕ) → AreFiles files numbers paths
     → slice_get files file.0 ≡ Some path → AreFiles files (numbers ++ file ∷ []) (paths ++ path ∷ [])
-files-push files numbers paths file path are is =
-    map_push (λ f. slice_get files f.0) numbers file
-    ∙ ap (λ os. os ++ slice_get files file.0 ∷ []) are
-    ∙ ap (λ o. map Some paths ++ o ∷ []) is
-    ∙ sym (map_push Some paths path)
+files-push files numbers paths file path are is = grind (arith, common_steps)
 
 -- the outcome is a fault
 pub PicksTargets-err : (files : List (List ℕ)) (expected : Result (List (List ℕ)) GraphFault)

@@ -1,4 +1,5 @@
 -- The first position of a part in a text: the result of a search for it.
+use Rattle.std.proofs.lemmas.Grind.{common_steps}
 use Rattle.std.proofs.Common.{if◌then◌else◌, ◌≡◌, ℕ, zero, suc, ◌+◌, true, false, List, [], ◌∷◌, Option, Some}
 use Rattle.std.proofs.Common.{None, option_map, take, length, nat_eq, refl, sym, ap, ◌∙◌, arith, ⊎_elim}
 use Rattle.std.specs.List.{starts_with}
@@ -22,12 +23,10 @@ module _ (part : List ℕ) where
 
   -- a byte more before the text
   later : (byte : ℕ) (text : List ℕ) (k : ℕ) → OccursAt text part k → OccursAt (byte ∷ text) part (suc k)
-  later byte text k occurs = OccursAt-from_part (byte ∷ text) part (suc k) (omega (arith, occurs.fits))
-      (OccursAt-part text part k occurs)
+  later byte text k occurs = grind (arith, common_steps)
 
   earlier : (byte : ℕ) (text : List ℕ) (k : ℕ) → OccursAt (byte ∷ text) part (suc k) → OccursAt text part k
-  earlier byte text k occurs = OccursAt-from_part text part k (omega (arith, occurs.fits))
-      (OccursAt-part (byte ∷ text) part (suc k) occurs)
+  earlier byte text k occurs = grind (arith, common_steps)
 
   -- found at the start
   at-start : (text : List ℕ) (r : Option ℕ) → FindsNeedle text part 0 r → OccursAt text part 0 → r ≡ Some 0

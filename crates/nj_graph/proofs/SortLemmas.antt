@@ -1,4 +1,5 @@
 -- Sorted lists: the result of a stable sort, and the elements of a list that is sorted by name.
+use Rattle.std.proofs.lemmas.Grind.{common_steps}
 use Rattle.std.proofs.Common.{◌≡◌, suc, ◌+◌, Bool, true, false, cond, ◌&&◌, not, if◌then◌else◌, List, [], ◌∷◌}
 use Rattle.std.proofs.Common.{map, get_or, refl, sym, ap, ◌∙◌, true≢false, arith}
 use Rattle.std.specs.List.{AllByRecursion, filter}
@@ -142,8 +143,7 @@ module _ {X : Type 0} (lt : X → X → Bool) (order : IsStrictWeakOrder lt) whe
   tails false y ys zs h = h
 
   none_is : (z : X) (zs : List X) → [] ≡ filter (ties lt z) (z ∷ zs) → ⊥
-  none_is z zs h = let e : [] ≡ z ∷ filter (ties lt z) zs =
-      h ∙ ap (λ b. cond b (z ∷ filter (ties lt z) zs) (filter (ties lt z) zs)) (tie-itself z) in cc
+  none_is z zs h = grind (arith, common_steps)
 
   heads : (y z : X) (ys zs : List X) → Rises (y ∷ ys) → Rises (z ∷ zs)
       → ((a : X) → filter (ties lt a) (y ∷ ys) ≡ filter (ties lt a) (z ∷ zs)) → y ≡ z

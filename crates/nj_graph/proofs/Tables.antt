@@ -1,6 +1,8 @@
 -- Lists of readings: first ones, and more after them.
+use Rattle.std.proofs.Common.{arith}
+use Rattle.std.proofs.lemmas.Grind.{common_steps}
 use Rattle.std.proofs.Common.{◌≡◌, ℕ, Bool, true, false, cond, ◌||◌, Option, Some, is_some, option_and_then}
-use Rattle.std.proofs.Common.{List, [], ◌∷◌, ◌++◌, bytes_eq, refl, sym, ap, ◌∙◌, append-nil, append_assoc}
+use Rattle.std.proofs.Common.{List, [], ◌∷◌, ◌++◌, bytes_eq, refl, sym, ap, ◌∙◌, append_assoc}
 use Rattle.std.proofs.Common.{true≢false}
 use Rattle.nj_graph.specs.Inside.PathsReached.{with_new}
 use Rattle.std.specs.List.{list_any}
@@ -8,7 +10,7 @@ use Rattle.std.proofs.lemmas.List.{map-append}
 use Rattle.std.proofs.lemmas.Slice.Eq.{bytes_eq-Decides}
 use Rattle.nj_scope.specs.Readings.{Reading, EachPathOnce, reading_of, is_read, bytes_in, paths_of, IsPrefix}
 use Rattle.nj_scope.proofs.ReadingLemmas.{is_read-push}
-use Rattle.nj_scope.proofs.SourceLemmas.{HasRead-nothing, HasRead-then}
+use Rattle.nj_scope.proofs.SourceLemmas.{HasRead-then}
 use Rattle.nj_scope.specs.Sources.{SourceState, HasRead}
 use Rattle.nj_graph.specs.Runs.{IsRead}
 use Rattle.nj_graph.specs.Inside.ReaderContracts.{ReadsAll}
@@ -115,8 +117,7 @@ each_path_once-push (f ∷ files) r once h =
 -- nothing
 pub read-nothing : (source : SourceState) (files : List Reading) → EachPathOnce files
     → IsRead source source files files
-read-nothing source files once = record
-    { readings = []; added = sym (append-nil files); read = HasRead-nothing source; once = once }
+read-nothing source files once = grind (arith, common_steps)
 
 -- one more path
 pub read-one : (before after : SourceState) (files : List Reading) (path : List ℕ) (bytes : Option (List ℕ))
@@ -150,8 +151,7 @@ read-extends before after old files r = (r.readings, r.added)
 
 pub reads-all-nothing : (source : SourceState) (files : List Reading) → EachPathOnce files
     → ReadsAll source source files files files
-reads-all-nothing source files once = record
-    { reads = read-nothing source files once; held_is = refl; failures = refl }
+reads-all-nothing source files once = grind (arith, common_steps)
 
 pub reads-all-then : (before mid after : SourceState) (old files more held held2 : List Reading)
     → ReadsAll before mid old files held → ReadsAll mid after files more held2

@@ -1,11 +1,12 @@
 -- The meaning of targets' arguments.
+use Rattle.std.proofs.lemmas.Grind.{common_steps}
 use Rattle.std.proofs.Common.{if◌then◌else◌, ◌≡◌, ◌⊎◌, inl, inr, ℕ, zero, suc, ◌+◌, ◌-◌, ◌≤◌, Bool, true}
 use Rattle.std.proofs.Common.{false, ◌||◌, List, [], ◌∷◌, ◌++◌, Option, Some, None, Ok, Err, take, drop}
 use Rattle.std.proofs.Common.{length, slice_get, bytes_eq, refl, sym, ap, ◌∙◌, arith, true≢false}
 use Rattle.std.specs.Prelude.{codes, option_and_then, ok_or}
 use Rattle.std.specs.List.{Contains, list_any}
 use Rattle.std.proofs.lemmas.Cmp.{nat_list_eq_equiv}
-use Rattle.std.proofs.lemmas.List.{drop_at, length-append, take-append-drop}
+use Rattle.std.proofs.lemmas.List.{take-append-drop}
 use Rattle.std.proofs.lemmas.Map.Views.{Contains-from_any, list_any-from_Contains}
 use Rattle.std.proofs.lemmas.Option.{get_or_from_slice_get, none-some, same_Some}
 use Rattle.std.proofs.lemmas.Slice.Eq.{bytes_eq-Decides}
@@ -247,12 +248,7 @@ module _ (edges : List EdgePaths) (path : List ℕ) where
       by false h = no_file plain (not-named edges path h)
 
   without-caret : bytes_eq (drop (length path - 1) path) (codes "^") ≡ false → HasNoCaret path
-  without-caret h file is =
-      let long : length path ≡ length file + 1 = ap length is ∙ length-append file (codes "^") in
-      let at : length file ≡ length path - 1 = omega (arith, long) in
-      let last : drop (length path - 1) path ≡ codes "^" =
-      ap (drop (length path - 1)) is ∙ drop_at file (codes "^") (length path - 1) at in
-      true≢false (sym ((bytes_eq-Decides (drop (length path - 1) path) (codes "^")).1 last) ∙ h)
+  without-caret h file is = grind (arith, common_steps)
 
   clean-means : Means edges path (clean_target edges path)
   clean-means = by (bytes_eq (drop (length path - 1) path) (codes "^")) refl

@@ -1,4 +1,5 @@
 -- The turns of reading a text: the next statement, the file that it names, and the rest after it.
+use Rattle.std.proofs.lemmas.Grind.{common_steps}
 use Rattle.std.proofs.Common.{◌≡◌, ℕ, ◌-◌, ◌<◌, inl, inr, Option, Some, None, Result, Ok, Err, List, ◌∷◌}
 use Rattle.std.proofs.Common.{refl, sym, ap, subst, ◌∙◌, arith}
 use Rattle.nj_graph.specs.Inside.PathsReached.{with_news, paths_read, come_to, reached_by}
@@ -309,14 +310,12 @@ module _ (main : List ℕ) (before after : SourceState) (old held : Reader) (lef
 pub next-some : (file : List ℕ) (before after : Left) (lines : List Line) (found : Option (Placed Statement))
     (s : Placed Statement) → before ≡ Lines lines → found ≡ Some s → NextIs file before after (Ok found)
     → (rest : List Line) × (next_statement lines ≡ Ok (Some (placed_model s), rest)) × (after ≡ Lines rest)
-next-some file before after lines found s at is next =
-    subst (λ f. NextOf file lines after (Ok f)) is (subst (λ b. NextIs file b after (Ok found)) at next)
+next-some file before after lines found s at is next = grind (arith, common_steps)
 
 pub next-none : (file : List ℕ) (before after : Left) (lines : List Line) (found : Option (Placed Statement))
     → before ≡ Lines lines → found ≡ None → NextIs file before after (Ok found)
     → (rest : List Line) × (next_statement lines ≡ Ok (None, rest))
-next-none file before after lines found at is next =
-    subst (λ f. NextOf file lines after (Ok f)) is (subst (λ b. NextIs file b after (Ok found)) at next)
+next-none file before after lines found at is next = grind (arith, common_steps)
 
 pub fewer-left : (before after : Left) (lines rest : List Line) (s : PlacedModel) → before ≡ Lines lines
     → after ≡ Lines rest → next_statement lines ≡ Ok (Some s, rest) → lines_left after < lines_left before
@@ -341,6 +340,4 @@ next-stops main reported after old held left site text entries lines before late
 
 pub site-same : (inner : Site) (file : List ℕ) (number : ℕ) → inner.file ≡ file → inner.scope ≡ number
     → inner ≡ record { file = file; depth = inner.depth; scope = number; around = inner.around }
-site-same inner file number is at =
-    ap (λ f. record { file = f; depth = inner.depth; scope = inner.scope; around = inner.around }) is
-    ∙ ap (λ n. record { file = file; depth = inner.depth; scope = n; around = inner.around }) at
+site-same inner file number is at = grind (arith, common_steps)

@@ -1,17 +1,18 @@
 -- Lemmas on the files that a deps log names for edges.
+use Rattle.std.proofs.lemmas.Grind.{common_steps}
 use Rattle.std.proofs.Common.{◌≡◌, ◌≢◌, ◌<◌, ◌≤◌, ◌+◌, ◌||◌, ◌⊎◌, inl, inr, ℕ, zero, suc, Bool, true, false}
 use Rattle.std.proofs.Common.{Option, Some, None, List, [], ◌∷◌, ◌++◌, map, length, take, get_or, bytes_eq}
 use Rattle.std.proofs.Common.{nat_eq, refl, sym, ap, subst, ◌∙◌, arith}
 use Rattle.std.specs.Prelude.{position, slice_index_or}
 use Rattle.std.specs.List.{AllByRecursion, IsDistinct, flat_map, range_with_len}
 use Rattle.std.proofs.lemmas.Bool.Decides.{eqb_tells}
-use Rattle.std.proofs.lemmas.List.{flat_map_more, length-map, take_all, take_more}
+use Rattle.std.proofs.lemmas.List.{flat_map_more, length-map, take_all}
 use Rattle.std.proofs.lemmas.Option.{get_or_from_slice_get, same_Some, slice_get-get_or, unwrap_or-slice_get}
 use Rattle.std.proofs.lemmas.Slice.Eq.{bytes_eq-Decides}
 use Rattle.nj_names.specs.NameTables.{is_among, name_at}
 use Rattle.nj_names.specs.NumberSets.{has}
 use Rattle.nj_names.proofs.NameLemmas.{found-at, found-index}
-use Rattle.nj_names.proofs.NumberLemmas.{contains-has, has-push}
+use Rattle.nj_names.proofs.NumberLemmas.{contains-has}
 use Rattle.nj_cycles.proofs.Places.{contains_at}
 use Rattle.nj_scope.specs.ReadingList.{ReadStatement}
 use Rattle.nj_edges.specs.Edges.{EdgePaths}
@@ -76,12 +77,7 @@ module _ (paths : List (List ℕ)) (distinct : IsDistinct bytes_eq paths) (path 
 
 pub has-more : (numbers : List ℕ) (i wanted : ℕ) → i < length numbers → has (take i numbers) wanted ≡ false
     → get_or numbers i 0 ≢ wanted → has (take (i + 1) numbers) wanted ≡ false
-has-more numbers i wanted below before apart =
-    ap (λ ns. has ns wanted) (take_more numbers i 0 below)
-    ∙ has-push (take i numbers) (get_or numbers i 0) wanted
-    ∙ ap (λ b. b || nat_eq wanted (get_or numbers i 0)) before
-    ∙ elim (eqb_tells wanted (get_or numbers i 0))
-    [ inl same ↦ absurd (apart (sym same.1)) | inr other ↦ other.0 ]
+has-more numbers i wanted below before apart = grind (arith, common_steps)
 
 pub has-at : (numbers : List ℕ) (i wanted : ℕ) → i < length numbers → get_or numbers i 0 ≡ wanted
     → true ≡ has numbers wanted

@@ -1,7 +1,11 @@
 -- What the contracts of this crate cite: each name comes from the module in its line.
-pub use Rattle.nj_graph.specs.Graph.{OfStatements, edges_of, files_of, IsGraphOf, is_dyndep_restat, late_text_of, main_rules, main_rule_at}
-pub use Rattle.nj_graph.specs.Graph.{rule_name, description, has_description, description_text, NamesRise, ListsMainRules, rule_name_at}
-pub use Rattle.nj_graph.specs.Graph.{rule_number_at, scope_number_at}
+pub use Rattle.std.specs.Iterator.{YieldsFirstBy, item_count}
+pub use Rattle.std.specs.List.{IsDistinct, range_with_len, AllByRecursion, Contains}
+pub use Rattle.nj_graph.specs.Graph.{edges_of, files_of, OfStatements, IsGraphOf, rule_name_at, is_dyndep_restat, late_text_of, main_rules}
+pub use Rattle.nj_graph.specs.Graph.{main_rule_at, rule_name, description, has_description, description_text, NamesRise, ListsMainRules}
+pub use Rattle.nj_graph.specs.Graph.{GraphModel, rule_number_at, scope_number_at}
+pub use Rattle.nj_graph.specs.Handles.{edge_of, edges_in, file_of, files_in, OfEdge, paths_of, detail_of_edge, edge_in, number_of, file_in}
+pub use Rattle.nj_graph.specs.Handles.{commands_needed, ListsAffected, ListsNeeded}
 pub use Rattle.nj_statements.specs.EdgeList.{block_at, block_names_at, edges_read, assigned_at, assigned_read}
 pub use Rattle.nj_manifest.specs.Contents.{words_model, build_model, rule_model, pool_model, lines_model, placed_model}
 pub use Rattle.nj_manifest.specs.Statements.{DefaultModel, BindingModel}
@@ -12,13 +16,13 @@ pub use Rattle.nj_graph.specs.Inside.ReaderContracts.{OpensPath, FinishesReading
 pub use Rattle.nj_text.specs.Words.{word_model, WordModel}
 pub use Rattle.nj_graph.specs.Origins.{depth_of, rule_place_given, pool_detail_given, opening_given, main_of, opening_model, openings_read}
 pub use Rattle.nj_graph.specs.Origins.{place_text, rule_place_at, origins_read, pool_details, rule_places}
-pub use Rattle.std.specs.List.{AllByRecursion, IsDistinct, Contains}
 pub use Rattle.nj_text.specs.Paths.{clean_path_of}
 pub use Rattle.nj_names.specs.NameTables.{name_at, is_among}
 pub use Rattle.nj_scope.specs.ReadingList.{ReadStatement, gathered, files_opened, pools, rules_read, scope_of, scopes_opened}
 pub use Rattle.nj_scope.specs.ReadingList.{value_if_bound}
 pub use Rattle.nj_scope.specs.Readings.{IsPrefix}
-pub use Rattle.nj_edges.specs.Edges.{edge_at, first_output}
+pub use Rattle.nj_edges.specs.Edges.{edge_at, first_output, inputs_of, outputs_of, maker_of, users_of, validation_users_of, is_named}
+pub use Rattle.nj_edges.specs.Edges.{roots_of}
 pub use Rattle.nj_edges.specs.MoreInputs.{with_new_input}
 pub use Rattle.nj_graph.specs.DepsLogs.{JoinsLog, inputs_logged, number_logged, JoinsNamed, SameLogChangesNothing}
 pub use Rattle.nj_graph.specs.Inside.InputSteps.{joined_edges, AreFilesOf, inputs_found}
@@ -26,10 +30,10 @@ pub use Rattle.nj_graph.specs.Inside.LogSteps.{AreNumbersLogged, inputs_by_numbe
 pub use Rattle.nj_discovered.specs.Discoveries.{discovery_at}
 pub use Rattle.nj_discovered.specs.Discovered.{IsLater}
 pub use Rattle.nj_graph.specs.Discovering.{AreDiscovered}
-pub use Rattle.nj_statements.specs.Built.{detail_at, defaults_in_force}
 pub use Rattle.nj_graph.specs.ResponseFiles.{command_with_rsp_of, first_position, sign_position, on_one_line, with_content}
 pub use Rattle.nj_graph.specs.Errors.{TakesFault, error_of_text, error_text}
 pub use Rattle.nj_graph.specs.declared.error.Error.TheVariants.{OutOfMemory}
+pub use Rattle.nj_names.specs.Files.{path_at, AreFiles}
 pub use Rattle.nj_text.specs.declared.spot.Spot.{Spot}
 pub use Rattle.nj_scope.specs.Declarations.{DeclaredBy}
 pub use Rattle.nj_edges.specs.EdgeGraphs.{EdgeGraph}
@@ -38,7 +42,8 @@ pub use Rattle.nj_graph.specs.Undeclared.{AreThose, InputOfEdge, IsUndeclared, i
 pub use Rattle.nj_graph.specs.Undeclared.{paths_of_output}
 pub use Rattle.nj_graph.specs.Inside.UndeclaredFound.{AddsFile, AreMade, FindsAt, IsFound, IsKnownIfAny, MadeIs, inputs_by_number}
 pub use Rattle.nj_graph.specs.Inside.GraphHeld.{HasMainRules}
-pub use Rattle.nj_names.specs.Files.{AreFiles, path_at}
+pub use Rattle.nj_statements.specs.Built.{defaults_in_force, detail_at}
+pub use Rattle.nj_text.specs.Calls.{is_empty}
 pub use Rattle.nj_scope.specs.Laws.{IsInReadingOrder}
 pub use Rattle.nj_graph.specs.Joining.{JoinedStaysJoined}
 pub use Rattle.nj_graph.specs.Laws.{ReadIsFaultless, OpenFilesAreBounded, OpeningsAreBounded, OthersAreNotRead, MainRulesRise}
@@ -49,5 +54,5 @@ pub use Rattle.nj_graph.specs.Loads.{Loads}
 pub use Rattle.nj_graph.specs.Inside.OriginsHeld.{place_held}
 pub use Rattle.nj_faults.specs.Faults.{IsFault, fault_at}
 pub use Rattle.nj_graph.specs.Targets.{target, first_made_of, made_target, clean_target, picked, targets_named, targets_or, Picks}
-pub use Rattle.nj_graph.specs.Targets.{PicksTargets}
+pub use Rattle.nj_graph.specs.Targets.{PicksFile, PicksFiles, PicksTargets}
 pub use Rattle.nj_names.specs.NumberSets.{has}

@@ -3,6 +3,7 @@ pub mod DepsLogs
 pub mod Discovering
 pub mod Errors
 pub mod Graph
+pub mod Handles
 pub mod Joining
 pub mod Laws
 pub mod Loads

@@ -10,6 +10,9 @@ use Rattle.nj_names.specs.Files.{AreFiles}
 use Rattle.nj_faults.specs.declared.fault.GraphFault.{GraphFault}
 use Rattle.nj_faults.specs.declared.fault.Cause.TheVariants.{EmptyPath, UnknownTarget, NoOutEdge}
 use Rattle.nj_faults.specs.Faults.{no_memory, unplaced}
+use Rattle.nj_graph.specs.Graph.{GraphModel}
+use Rattle.nj_graph.specs.Handles.{GraphFiles, file_of}
+use Rattle.nj_graph.specs.declared.handles.File.{File}
 
 -- a file that an edge names
 abbrev pub target : List EdgePaths → (path : List ℕ) → Result (List ℕ) GraphFault
@@ -39,6 +42,11 @@ abbrev pub Picks : (files : List (List ℕ)) → (expected : Result (List ℕ) G
 Picks files expected (Ok file) = (path : List ℕ) × (expected ≡ Ok path) × (slice_get files file.0 ≡ Some path)
 Picks files expected (Err fault) = (fault ≡ no_memory) ⊎ (expected ≡ Err fault)
 
+-- The file at this path is answered, or the fault; or out of memory.
+abbrev pub PicksFile : GraphModel → (expected : Result (List ℕ) GraphFault) → Result File GraphFault → Type 0
+PicksFile graph expected (Ok file) = (expected ≡ Ok (file_of file).path) × ((file_of file).graph ≡ graph)
+PicksFile graph expected (Err fault) = (fault ≡ no_memory) ⊎ (expected ≡ Err fault)
+
 -- the paths of the targets that words name, or the fault of the first word that names none
 abbrev pub targets_named : List EdgePaths → (words : List (List ℕ)) → Result (List (List ℕ)) GraphFault
 targets_named edges [] = Ok []
@@ -53,3 +61,8 @@ targets_or defaults edges (word ∷ words) = targets_named edges (word ∷ words
 abbrev pub PicksTargets : (files : List (List ℕ)) → (expected : Result (List (List ℕ)) GraphFault) → Result (Vec FileNo) GraphFault → Type 0
 PicksTargets files expected (Ok numbers) = (paths : List (List ℕ)) × (expected ≡ Ok paths) × AreFiles files numbers.items paths
 PicksTargets files expected (Err fault) = (fault ≡ no_memory) ⊎ (expected ≡ Err fault)
+
+-- The files at these paths are answered, or the fault; or out of memory.
+abbrev pub PicksFiles : GraphModel → (expected : Result (List (List ℕ)) GraphFault) → Result GraphFiles GraphFault → Type 0
+PicksFiles graph expected (Ok files) = (expected ≡ Ok files.paths) × (files.graph ≡ graph)
+PicksFiles graph expected (Err fault) = (fault ≡ no_memory) ⊎ (expected ≡ Err fault)

@@ -1,36 +1,38 @@
 //! The bindings of edges' blocks.
 
 ghost use Rattle.std.specs.Prelude.{◌≡◌, length, slice_get, option_copied};
-ghost use Rattle.nj_graph.specs.Cited.{OfStatements, block_at, block_names_at, edges_read};
+ghost use Rattle.nj_graph.specs.Cited.{OfEdge, block_at, block_names_at, edge_of, edges_read};
 
-use crate::graph::Graph;
-use nj_edges::EdgeNo;
+use crate::handles::Edge;
 
-impl Graph {
-    /// How many names the block of an edge binds ("Build statements" in the Ninja manual): a name
+impl<'g> Edge<'g> {
+    /// How many names its block binds ("Build statements" in the Ninja manual): a name
     /// that several lines of the block bind counts once.
-    pub fn block_name_count(&self, edge: EdgeNo) -> usize
-        ensures { OfStatements self.now (λ entries.
-            result ≡ length (block_names_at (edges_read entries) edge.0)) }
+    pub fn block_name_count(self) -> usize
+        ensures { OfEdge (edge_of self.entry) (λ entries number.
+            result ≡ length (block_names_at (edges_read entries) number)) }
     {
-        self.built.blocks().name_count(edge.0)
+        let graph = self.graph;
+        graph.built.blocks().name_count(self.number.0)
     }
 
-    /// The name at this index among those that the block of an edge binds, without duplicates, in
-    /// the order of their first lines; `None` past the last one.
-    pub fn block_name(&self, edge: EdgeNo, index: usize) -> Option<&[u8]>
-        ensures { OfStatements self.now (λ entries.
-            option_copied result ≡ slice_get (block_names_at (edges_read entries) edge.0) index) }
+    /// The name at this index among those that its block binds, without duplicates, in the order of
+    /// their first lines; `None` past the last one.
+    pub fn block_name(self, index: usize) -> Option<&'g [u8]>
+        ensures { OfEdge (edge_of self.entry) (λ entries number.
+            option_copied result ≡ slice_get (block_names_at (edges_read entries) number) index) }
     {
-        self.built.blocks().name(edge.0, index)
+        let graph = self.graph;
+        graph.built.blocks().name(self.number.0, index)
     }
 
-    /// The value that the block of an edge binds to a name: the value of the last line of this
+    /// The value that its block binds to a name: the value of the last line of this
     /// name, expanded at the statement. `None` if no line of the block has the name.
-    pub fn block_value(&self, edge: EdgeNo, name: &[u8]) -> Option<&[u8]>
-        ensures { OfStatements self.now (λ entries.
-            option_copied result ≡ block_at (edges_read entries) edge.0 name.now) }
+    pub fn block_value(self, name: &[u8]) -> Option<&'g [u8]>
+        ensures { OfEdge (edge_of self.entry) (λ entries number.
+            option_copied result ≡ block_at (edges_read entries) number name.now) }
     {
-        self.built.blocks().value(edge.0, name)
+        let graph = self.graph;
+        graph.built.blocks().value(self.number.0, name)
     }
 }

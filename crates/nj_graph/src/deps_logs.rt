@@ -55,7 +55,7 @@ impl Graph {
         ensures numbers { OfStatements self.now (λ entries.
             IfOk result (λ numbers. AreNumbersLogged log.now entries numbers.items)) }
     {
-        let edge_count = self.edge_graph().edge_count();
+        let edge_count = self.edge_count();
         let mut numbers = Vec::with_capacity(alloc, edge_count)?;
         let mut deps = Vec::new(alloc);
         'edges: for edge in 0..edge_count {
@@ -78,11 +78,11 @@ impl Graph {
             IfOk result (λ number. number ≡ number_logged log.now entries edge.0)) }
     {
         deps.clear();
-        self.append_variable(deps, edge, b"deps")?;
+        self.edge_at(edge).append_variable(deps, b"deps")?;
         if deps.as_slice().is_empty() {
             return Ok(None);
         }
-        Ok(first_output_number(self.edge_graph(), log, edge))
+        Ok(first_output_number(self, log, edge))
     }
 }
 

@@ -4,9 +4,10 @@ ghost use Rattle.std.specs.Prelude.{◌≡◌, IfOk, length};
 ghost use Rattle.nj_graph.specs.Cited.{OfStatements, IsLater, edges_of, AreDiscovered};
 
 use crate::graph::Graph;
+use crate::handles::Edge;
 use nj_deps::DepsLog;
 use nj_discovered::{Discoveries, FileTimes, Finder};
-use nj_edges::EdgeNo;
+use nj_edges::{EdgeGraph, EdgeNo};
 use nj_scope::FileSource;
 use std::alloc::{AllocError, Global};
 
@@ -36,15 +37,19 @@ impl Graph {
             IfOk result (AreDiscovered (S.state files.old) (S.state files.new)
             (T.times times.now) log.now entries)) }
     {
-        let graph = self.edge_graph();
+        let graph: &EdgeGraph = self;
         let mut finder = Finder::new(alloc, files.hash_keys(), graph, log)?;
         let mut deps = Vec::new(alloc);
         let mut depfile = Vec::new(alloc);
-        'edges: for edge in 0..graph.edge_count() {
+        'edges: for number in 0..graph.edge_count() {
+            let edge = Edge {
+                graph: self,
+                number: EdgeNo(number),
+            };
             deps.clear();
-            self.append_variable(&mut deps, EdgeNo(edge), b"deps")?;
+            edge.append_variable(&mut deps, b"deps")?;
             depfile.clear();
-            self.append_variable(&mut depfile, EdgeNo(edge), b"depfile")?;
+            edge.append_variable(&mut depfile, b"depfile")?;
             finder = finder.with_edge(alloc, files, times, &deps, &depfile)?;
         }
         Ok(finder.finish())

@@ -1,34 +1,37 @@
 //! The assignments of edges: pools and dyndep files.
 
 ghost use Rattle.std.specs.Prelude.{◌≡◌, Some, ◌<◌, length, option_copied, option_map, slice_get};
-ghost use Rattle.nj_graph.specs.Cited.{OfStatements, assigned_at, assigned_read, edges_of};
+ghost use Rattle.nj_graph.specs.Cited.{OfEdge, assigned_at, assigned_read, edge_of, edges_of};
 
 use crate::graph::Graph;
+use crate::handles::Edge;
 use nj_edges::EdgeNo;
 
-impl Graph {
-    /// The pool of an edge, by its name: the value of `pool` at its build statement ("Pools" in the
+impl<'g> Edge<'g> {
+    /// Its pool, by name: the value of `pool` at its build statement ("Pools" in the
     /// Ninja manual). That is the value of its block, else of its rule, else the one that the
     /// name had in its file by then. `None` if it is empty.
-    pub fn pool(&self, edge: EdgeNo) -> Option<&[u8]>
-        requires { edge.0 < length (edges_of self.now) }
-        ensures { OfStatements self.now (λ entries.
-            option_copied result ≡ (assigned_at (assigned_read entries) edge.0).pool) }
+    pub fn pool(self) -> Option<&'g [u8]>
+        ensures { OfEdge (edge_of self.entry) (λ entries number.
+            option_copied result ≡ (assigned_at (assigned_read entries) number).pool) }
     {
-        self.built.pool(edge)
+        let graph = self.graph;
+        graph.built.pool(self.number)
     }
 
-    /// The dyndep file of an edge, by its clean path: the value of `dyndep` at its build statement
+    /// Its dyndep file, by its clean path: the value of `dyndep` at its build statement
     /// ("Dynamic Dependencies" in the Ninja manual), as for `pool`. It is an input of the edge, and
     /// stays the same after it was joined. `None` if the value is empty.
-    pub fn dyndep(&self, edge: EdgeNo) -> Option<&[u8]>
-        requires { edge.0 < length (edges_of self.now) }
-        ensures { OfStatements self.now (λ entries.
-            option_copied result ≡ (assigned_at (assigned_read entries) edge.0).dyndep) }
+    pub fn dyndep(self) -> Option<&'g [u8]>
+        ensures { OfEdge (edge_of self.entry) (λ entries number.
+            option_copied result ≡ (assigned_at (assigned_read entries) number).dyndep) }
     {
-        self.built.dyndep(edge)
+        let graph = self.graph;
+        graph.built.dyndep(self.number)
     }
+}
 
+impl Graph {
     /// How many edges are pending on dyndep files: those to which these were not joined.
     pub fn pending_count(&self) -> usize
         ensures { result ≡ length self.now.built.pending }

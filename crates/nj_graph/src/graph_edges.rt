@@ -22,13 +22,6 @@ impl Deref for Graph {
 }
 
 impl Graph {
-    /// The edges and their files alone, without the bindings of statements: a walk goes over these.
-    pub fn edge_graph(&self) -> &EdgeGraph
-        ensures { result.now ≡ self.now.built.graph }
-    {
-        self.built.graph()
-    }
-
     /// The name of the rule of an edge: of the rule that was in force before its statement.
     pub fn rule_name(&self, edge: EdgeNo) -> &[u8]
         requires { edge.0 < length (edges_of self.now) }

@@ -1,10 +1,10 @@
 //! The rules of all scopes with their places, and the rules of edges.
 
-ghost use Rattle.std.specs.Prelude.{◌≡◌, ◌<◌, length, option_map};
-ghost use Rattle.nj_graph.specs.Cited.{OfStatements, rules_read, detail_at, place_text, rule_place_at, rule_places, edges_of, rule_number_at};
+ghost use Rattle.std.specs.Prelude.{◌≡◌, ◌<◌, Some, length, option_map, slice_get};
+ghost use Rattle.nj_graph.specs.Cited.{OfEdge, OfStatements, rules_read, detail_of_edge, edge_of, place_text, rule_place_at, rule_places, rule_number_at};
 
 use crate::graph::Graph;
-use nj_edges::EdgeNo;
+use crate::handles::Edge;
 use nj_faults::PlaceRef;
 use nj_scope::{Rule, RuleNo};
 
@@ -30,16 +30,27 @@ impl Graph {
     {
         self.declared.origins.rule_place(rule)
     }
+}
 
-    /// The number of the rule of an edge, by which it is found in `rules`: of the rule that was in
-    /// force before its statement.
-    pub fn edge_rule(&self, edge: EdgeNo) -> RuleNo
-        requires { edge.0 < length (edges_of self.now) }
-        ensures there { result.0 < length self.now.declarations.rules }
-        ensures held { result.0 ≡ (detail_at self.now.built.details edge.0).rule }
-        ensures stated { OfStatements self.now (λ entries.
-            result.0 ≡ rule_number_at entries edge.0) }
+impl<'g> Edge<'g> {
+    /// Its rule: the one that was in force before its statement.
+    pub fn rule(self) -> &'g Rule
+        ensures held { slice_get (edge_of self.entry).graph.declarations.rules
+            (detail_of_edge (edge_of self.entry)).rule ≡ Some result.now }
+        ensures stated { OfEdge (edge_of self.entry) (λ entries number.
+            slice_get (rules_read entries) (rule_number_at entries number) ≡ Some result.now) }
     {
-        self.built.rule(edge)
+        &self.graph.rules()[self.rule_number().0]
+    }
+
+    /// The number of its rule, by which that is found in [`Graph::rules`].
+    pub fn rule_number(self) -> RuleNo
+        ensures there { result.0 < length (edge_of self.entry).graph.declarations.rules }
+        ensures held { result.0 ≡ (detail_of_edge (edge_of self.entry)).rule }
+        ensures stated { OfEdge (edge_of self.entry) (λ entries number.
+            result.0 ≡ rule_number_at entries number) }
+    {
+        let graph = self.graph;
+        graph.built.rule(self.number)
     }
 }

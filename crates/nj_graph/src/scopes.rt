@@ -1,10 +1,10 @@
 //! The scopes of a graph, and their bindings after all statements.
 
 ghost use Rattle.std.specs.Prelude.{◌≡◌, ◌<◌, ℕ, List, [], ◌∷◌, length, option_copied};
-ghost use Rattle.nj_graph.specs.Cited.{OfStatements, Contains, ReadStatement, scope_of, scopes_opened, value_if_bound, IsScope, parent_at, detail_at, edges_of, IsGraphOf, scope_number_at};
+ghost use Rattle.nj_graph.specs.Cited.{OfStatements, Contains, ReadStatement, scope_of, scopes_opened, value_if_bound, IsScope, parent_at, OfEdge, detail_of_edge, edge_of, IsGraphOf, scope_number_at};
 
 use crate::graph::Graph;
-use nj_edges::EdgeNo;
+use crate::handles::Edge;
 use nj_scope::ScopeNo;
 
 impl Graph {
@@ -16,17 +16,6 @@ impl Graph {
         ensures stated { OfStatements self.now (λ entries. result ≡ scopes_opened entries) }
     {
         self.declared.declarations.scope_count()
-    }
-
-    /// The number of the scope of an edge's build statement.
-    pub fn edge_scope(&self, edge: EdgeNo) -> ScopeNo
-        requires { edge.0 < length (edges_of self.now) }
-        ensures there { result.0 < length self.now.declarations.scopes }
-        ensures held { result.0 ≡ (detail_at self.now.built.details edge.0).scope }
-        ensures stated { OfStatements self.now (λ entries.
-            result.0 ≡ scope_number_at entries edge.0) }
-    {
-        self.built.scope(edge)
     }
 
     /// The value of a name, as `builddir`, in the scope of this number after all statements: the
@@ -45,5 +34,18 @@ impl Graph {
             → option_copied result ≡ value_if_bound entries (scope.0 ∷ around) name.now }
     {
         self.declared.declarations.value_if_bound(scope, name)
+    }
+}
+
+impl<'g> Edge<'g> {
+    /// The number of the scope of its statement ("Evaluation and scoping" in the Ninja manual).
+    pub fn scope(self) -> ScopeNo
+        ensures there { result.0 < length (edge_of self.entry).graph.declarations.scopes }
+        ensures held { result.0 ≡ (detail_of_edge (edge_of self.entry)).scope }
+        ensures stated { OfEdge (edge_of self.entry) (λ entries number.
+            result.0 ≡ scope_number_at entries number) }
+    {
+        let graph = self.graph;
+        graph.built.scope(self.number)
     }
 }

@@ -1,40 +1,112 @@
 //! Targets, as words of a command line name them.
 
-ghost use Rattle.std.specs.Prelude.{◌≡◌, ◌<◌, Some, All, IfOk, length, map, option_map, slice_get};
-ghost use Rattle.nj_graph.specs.Cited.{path_at, edges_of, files_of, target, first_made_of, made_target, clean_target, picked, targets_named, targets_or, Picks, PicksTargets, defaults_in_force};
+ghost use Rattle.std.specs.Prelude.{◌≡◌, ◌<◌, Some, All, IfOk, length, map, option_map};
+ghost use Rattle.nj_graph.specs.Cited.{edges_of, files_of, target, first_made_of, made_target, clean_target, picked, targets_named, targets_or, Picks, PicksFile, PicksFiles, PicksTargets, defaults_in_force, file_in, file_of};
 
+use crate::file_lists::FileList;
 use crate::graph::Graph;
+use crate::handles::File;
 use nj_edges::FileNo;
 use nj_faults::{Cause, GraphFault, Name};
 use nj_text::{TextFault, clean_path};
 use std::alloc::Global;
 use std::convert::AsSlice;
 
-/// The file that a word of a command line means: the one at its path, which is cleaned first; for
-/// `FILE^` the first output of an edge that has FILE as an input, the edge of the smallest number
-/// ("Running Ninja" in the Ninja manual).
+/// The file that a word of a command line means, by its number ([`Graph::target`]).
 ///
 /// # Errors
 ///
-/// An empty word, a file that no edge names, and for `FILE^` one that no edge has as an input; or
-/// an allocation failed. The fault has no place.
+/// Those of [`Graph::target`].
 pub fn pick_target(alloc: Global, graph: &Graph, word: &[u8]) -> Result<FileNo, GraphFault>
     ensures { Picks (files_of graph.now) (picked (edges_of graph.now) word.now) result }
 {
-    match clean_path(alloc, word) {
-        Ok(path) => clean_target(alloc, graph, &path),
-        Err(TextFault::EmptyPath) => Err(GraphFault::unplaced(Cause::EmptyPath)),
-        Err(TextFault::OutOfMemory) => Err(GraphFault::out_of_memory()),
-    }
+    let file = graph.target(alloc, word)?;
+    Ok(file.number())
 }
 
 impl Graph {
-    /// The files that words of a command line mean, in their order, each as `pick_target` has it;
-    /// the defaults in force if there are no words.
+    /// The file that a word of a command line means: the one at its path, which is cleaned first;
+    /// for `FILE^` the first output of an edge that has FILE as an input, the edge of the smallest
+    /// number ("Running Ninja" in the Ninja manual).
+    ///
+    /// # Errors
+    ///
+    /// An empty word, a file that no edge names, and for `FILE^` one that no edge has as an input;
+    /// or an allocation failed. The fault has no place.
+    pub fn target(&self, alloc: Global, word: &[u8]) -> Result<File<'_>, GraphFault>
+        ensures { PicksFile self.now (picked (edges_of self.now) word.now) result }
+    {
+        match clean_path(alloc, word) {
+            Ok(path) => self.clean_target(alloc, &path),
+            Err(TextFault::EmptyPath) => Err(GraphFault::unplaced(Cause::EmptyPath)),
+            Err(TextFault::OutOfMemory) => Err(GraphFault::out_of_memory()),
+        }
+    }
+
+    // The file that a clean path means.
+    fn clean_target(&self, alloc: Global, path: &[u8]) -> Result<File<'_>, GraphFault>
+        ensures { PicksFile self.now (clean_target (edges_of self.now) path.now) result }
+    {
+        match path.strip_suffix(b"^".as_slice()) {
+            Some(file) => self.made_target(alloc, file),
+            None => self.named_target(alloc, path),
+        }
+    }
+
+    // The file at a path.
+    fn named_target(&self, alloc: Global, path: &[u8]) -> Result<File<'_>, GraphFault>
+        ensures { PicksFile self.now (target (edges_of self.now) path.now) result }
+    {
+        match self.file(path) {
+            Some(file) => Ok(file),
+            None => {
+                let cause = Cause::UnknownTarget(Name::new(alloc, path)?);
+                Err(GraphFault::unplaced(cause))
+            }
+        }
+    }
+
+    // The first output of the first edge that has the file at a path as an input.
+    fn made_target(&self, alloc: Global, path: &[u8]) -> Result<File<'_>, GraphFault>
+        ensures { PicksFile self.now (made_target (edges_of self.now) path.now) result }
+    {
+        let file = self.named_target(alloc, path)?;
+        match first_made_of(file) {
+            Some(made) => Ok(made),
+            None => {
+                let cause = Cause::NoOutEdge(Name::new(alloc, path)?);
+                Err(GraphFault::unplaced(cause))
+            }
+        }
+    }
+
+    /// The files that words of a command line mean, in their order, each as [`Graph::target`] has
+    /// it; the defaults in force if there are no words.
     ///
     /// # Errors
     ///
     /// The fault of the first word that means no file; or an allocation failed.
+    pub fn targets<W: AsSlice<u8>>(
+        &self,
+        alloc: Global,
+        words: &[W],
+    ) -> Result<FileList<'_>, GraphFault>
+        ensures { PicksFiles self.now
+            (targets_or (defaults_in_force self.now.built.defaults (edges_of self.now))
+            (edges_of self.now) (map W.items words.now)) result }
+    {
+        let numbers = self.pick_targets(alloc, words)?;
+        Ok(FileList {
+            graph: self,
+            numbers,
+        })
+    }
+
+    /// The files that words of a command line mean, in their order, by their numbers ([`Graph::targets`]).
+    ///
+    /// # Errors
+    ///
+    /// Those of [`Graph::targets`].
     pub fn pick_targets<W: AsSlice<u8>>(
         &self,
         alloc: Global,
@@ -75,49 +147,11 @@ impl Graph {
     }
 }
 
-// The file that a clean path means.
-fn clean_target(alloc: Global, graph: &Graph, path: &[u8]) -> Result<FileNo, GraphFault>
-    ensures { Picks (files_of graph.now) (clean_target (edges_of graph.now) path.now) result }
-{
-    match path.strip_suffix(b"^".as_slice()) {
-        Some(file) => made_target(alloc, graph, file),
-        None => named_target(alloc, graph, path),
-    }
-}
-
-// The file at a path.
-fn named_target(alloc: Global, graph: &Graph, path: &[u8]) -> Result<FileNo, GraphFault>
-    ensures { Picks (files_of graph.now) (target (edges_of graph.now) path.now) result }
-{
-    match graph.file_named(path) {
-        Some(file) => Ok(file),
-        None => {
-            let cause = Cause::UnknownTarget(Name::new(alloc, path)?);
-            Err(GraphFault::unplaced(cause))
-        }
-    }
-}
-
-// The first output of the first edge that has the file at a path as an input.
-fn made_target(alloc: Global, graph: &Graph, path: &[u8]) -> Result<FileNo, GraphFault>
-    ensures { Picks (files_of graph.now) (made_target (edges_of graph.now) path.now) result }
-{
-    let file = named_target(alloc, graph, path)?;
-    match first_made_of(graph, file) {
-        Some(made) => Ok(made),
-        None => {
-            let cause = Cause::NoOutEdge(Name::new(alloc, path)?);
-            Err(GraphFault::unplaced(cause))
-        }
-    }
-}
-
 // The first output of the first edge that has a file as an input.
-fn first_made_of(graph: &Graph, file: FileNo) -> Option<FileNo>
-    requires { file.0 < length (files_of graph.now) }
-    ensures { option_map (λ made. slice_get (files_of graph.now) made.0) result
-        ≡ option_map Some (first_made_of (edges_of graph.now) (path_at (files_of graph.now) file)) }
+fn first_made_of(file: File<'_>) -> Option<File<'_>>
+    ensures { option_map file_of result ≡ option_map (file_in (file_of file.entry).graph)
+        (first_made_of (edges_of (file_of file.entry).graph) (file_of file.entry).path) }
 {
-    let edge = graph.users(file).first()?;
-    graph.outputs(*edge).first().copied()
+    let edge = file.users().first()?;
+    edge.outputs().first()
 }

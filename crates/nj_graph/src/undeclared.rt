@@ -40,7 +40,7 @@ pub fn undeclared_inputs(
         All (λ input. input.file.0 < length (files_of graph.now)) inputs.items) }
 {
     let numbers = graph.logged_numbers(alloc, log)?;
-    let graph = graph.edge_graph();
+    let graph: &EdgeGraph = graph;
     let made = made_files(alloc, graph, log)?;
     let mut found = FoundInputs::none_in(alloc, graph)?;
     add_edges(&mut found, graph, log, &numbers, &made)?;

@@ -10,11 +10,11 @@ returns-clause-undeclared c = λ entries is.
     let log = c.args.log.now in
     let numbers = c.in_ok-numbers.numbers.items in
     let inputs = c.add_edges.new.found.inputs.items in
-    let graph = c.edge_graph-graph.result.now in
+    let graph = c.deref-graph.result.now in
     let by_numbers = subst (λ (ns : List (Option ℕ)). AreThose (IsUndeclared graph.edges)
     (inputs_by_number log ns) (map (input_of_edge graph.files) inputs)) c.deref.ensures.value
     c.in_ok-add_edges.ensures.undeclared in
     are-undeclared log c.args.graph.now entries is numbers c.in_ok-numbers.ensures.count
     (c.in_ok-numbers.ensures.numbers entries is) _
     (subst (λ (g : EdgeGraph). AreThose (IsUndeclared g.edges) (inputs_by_number log numbers)
-    (map (input_of_edge g.files) inputs)) c.edge_graph-graph.ensures by_numbers)
+    (map (input_of_edge g.files) inputs)) c.deref-graph.ensures by_numbers)

@@ -17,7 +17,7 @@ edges-preserved g c =
     let after = g.S.FileSource.state c.with_edge.new.files in
     let times = g.T.FileTimes.times c.args.times.now in
     let log = c.args.log.now in
-    let edge = c.edges.edge in
+    let edge = c.edges.number in
     let deps = c.deref.result.now in
     let depfile = c.deref-in-edges.result.now in
     let old = c.edges.finder.found in
@@ -44,9 +44,9 @@ edges-preserved g c =
 
 pub returns-clause-count : goal.returns-clause-count
 returns-clause-count g c =
-    let ends : c.edges.edge ≡ length c.args.self.now.built.graph.edges =
-    let graph = ap (λ (v : EdgeGraph). length v.edges) c.edge_graph-graph.ensures in
-    omega (arith, graph, c.edge_count-edge-end.ensures.count) in
+    let ends : c.edges.number ≡ length c.args.self.now.built.graph.edges =
+    let graph = ap (λ (v : EdgeGraph). length v.edges) c.deref-graph.ensures in
+    omega (arith, graph, c.edge_count-number-end.ensures.count) in
     ap (λ (d : DiscoveriesModel). length d.edges) c.finish.ensures ∙ c.edges.invariant.count ∙ ends
 
 pub returns-clause-discovered : goal.returns-clause-discovered
@@ -55,13 +55,13 @@ returns-clause-discovered g c = λ entries is.
     let after = g.S.FileSource.state c.edges.files in
     let times = g.T.FileTimes.times c.args.times.now in
     let log = c.args.log.now in
-    let ends : c.edges.edge ≡ length c.args.self.now.built.graph.edges =
-    let graph = ap (λ (v : EdgeGraph). length v.edges) c.edge_graph-graph.ensures in
-    omega (arith, graph, c.edge_count-edge-end.ensures.count) in
-    let all : c.edges.edge ≡ length (edges_read entries) =
+    let ends : c.edges.number ≡ length c.args.self.now.built.graph.edges =
+    let graph = ap (λ (v : EdgeGraph). length v.edges) c.deref-graph.ensures in
+    omega (arith, graph, c.edge_count-number-end.ensures.count) in
+    let all : c.edges.number ≡ length (edges_read entries) =
     ends ∙ ap length is.built.paths ∙ length-map (edges_read entries) (λ e. e.paths) in
     let found = subst (λ n. AreFirstDiscovered start after times log entries n c.finish.result) all
-    (subst (AreFirstDiscovered start after times log entries c.edges.edge) (sym c.finish.ensures)
+    (subst (AreFirstDiscovered start after times log entries c.edges.number) (sym c.finish.ensures)
     (c.edges.invariant.found entries is)) in
     record {
       count = ap (λ (d : DiscoveriesModel). length d.edges) c.finish.ensures ∙ c.edges.invariant.count

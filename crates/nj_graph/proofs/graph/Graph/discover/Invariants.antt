@@ -10,8 +10,8 @@ invariant-edges g l = record {
   later : IsLater (g.S.FileSource.state l.fn.files) (g.S.FileSource.state l.files);
   edges : l.finder.edges ≡ l.self.built.graph.edges;
   log : l.finder.log ≡ l.log;
-  count : length l.finder.found.edges ≡ l.edge;
+  count : length l.finder.found.edges ≡ l.number;
   found : (entries : List ReadStatement) → IsGraphOf l.self entries
       → AreFirstDiscovered (g.S.FileSource.state l.fn.files) (g.S.FileSource.state l.files)
-      (g.T.FileTimes.times l.times) l.log entries l.edge l.finder.found;
+      (g.T.FileTimes.times l.times) l.log entries l.number l.finder.found;
 }

@@ -1,0 +1,11 @@
+use Rattle.std.proofs.Common.{◌<◌, All, length, subst}
+use Rattle.std.proofs.lemmas.List.Elements.{All-tail}
+use Rattle.nj_edges.specs.declared.edges.EdgeNo.{EdgeNo}
+use Rattle.nj_graph.specs.Graph.{edges_of}
+use Rattle.nj_graph.proofs.handle_lists.EdgesIterator.next.Goals as goal
+
+pub invariant_of-self : goal.invariant_of-self
+invariant_of-self c =
+    let Known : EdgeNo → Type 0 = λ edge. edge.0 < length (edges_of c.self.inside.graph.now) in
+    All-tail Known c.in_ok-number.number.now c.in_ok-number.left.now
+    (subst (All Known) c.in_ok-number.ensures.cases.0 c.self.invariant)

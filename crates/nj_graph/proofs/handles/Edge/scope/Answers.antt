@@ -1,0 +1,23 @@
+use Rattle.std.proofs.Common.{◌<◌, length, ap, sym, subst, ◌∙◌}
+use Rattle.nj_statements.specs.Built.{detail_at}
+use Rattle.nj_graph.specs.Graph.{GraphModel, edges_of}
+use Rattle.nj_graph.specs.Inside.GraphHeld.{IsKnown}
+use Rattle.nj_graph.proofs.EdgeStrings.{known-at}
+use Rattle.nj_graph.proofs.handles.Edge.scope.Goals as goal
+
+pub returns-clause-there : goal.returns-clause-there
+returns-clause-there c =
+    let g = c.graph.inside in
+    let below : c.args.self.number.0 < length g.built.details =
+    subst (λ n. c.args.self.number.0 < n) (sym c.graph.invariant.count)
+    (subst (λ x. c.args.self.number.0 < length (edges_of x)) (sym c.graph.view_is) c.args.self.known) in
+    let known = known-at (IsKnown g.declared.declarations) g.built.details c.args.self.number.0 _ below
+    c.graph.invariant.known in
+    subst (λ (x : GraphModel). c.scope.result.0 < length x.declarations.scopes) c.graph.view_is
+    (subst (λ n. n < length g.declared.declarations.scopes) (sym c.scope.ensures) known.0)
+
+pub returns-clause-stated : goal.returns-clause-stated
+returns-clause-stated c = λ entries is.
+    c.scope.ensures ∙ ap (λ (x : GraphModel). (detail_at x.built.details c.args.self.number.0).scope)
+    c.graph.view_is
+    ∙ ap (λ ds. (detail_at ds c.args.self.number.0).scope) is.built.details
