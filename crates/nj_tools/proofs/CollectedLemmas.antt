@@ -1,19 +1,24 @@
 -- Files that are collected, without duplicates, by their paths.
-use Rattle.std.proofs.Common.{◌≡◌, ℕ, ◌<◌, Bool, true, false, not, ◌||◌, cond, if◌then◌else◌, List, []}
-use Rattle.std.proofs.Common.{◌∷◌, ◌++◌, map, length, All, bytes_eq, refl, sym, ap, subst, ◌∙◌, append_assoc}
-use Rattle.std.proofs.Common.{append-nil, true≢false}
+use Rattle.std.proofs.Common.{◌≡◌, ℕ, ◌<◌, ◌==◌, Bool, true, false, not, ◌||◌, cond, if◌then◌else◌, Some}
+use Rattle.std.proofs.Common.{List, []}
+use Rattle.std.proofs.Common.{◌∷◌, ◌++◌, length, bytes_eq, refl, sym, ap, subst, ◌∙◌, append_assoc}
+use Rattle.std.proofs.Common.{append-nil, true≢false, slice_get, slice_set, slice_index_or, unwrap_or, ◌≢◌}
+use Rattle.std.proofs.Common.{◌⊎◌, inl}
+use Rattle.std.proofs.Common.{inr, arith, length-set}
+use Rattle.std.proofs.lemmas.Bool.Decides.{eqb_tells}
+use Rattle.std.proofs.lemmas.Grind.{get_or-set_at}
+use Rattle.std.proofs.lemmas.Option.{slice_get_within}
+use Rattle.std.proofs.lemmas.List.{get_or-set_other}
+use Rattle.std.proofs.lemmas.List.Folds.{list_any-append}
 use Rattle.std.specs.Prelude.{filter}
 use Rattle.std.specs.List.{IsDistinct}
-use Rattle.std.proofs.lemmas.List.{map_push}
-use Rattle.std.proofs.lemmas.List.Elements.{All-nil, All-head, All-tail, All-push, recursion_from_All}
 use Rattle.std.proofs.lemmas.Slice.Eq.{bytes_eq-Decides}
-use Rattle.nj_names.specs.declared.files.FileNo.{FileNo}
-use Rattle.nj_edges.specs.Edges.{is_among}
-use Rattle.nj_names.specs.Files.{path_at}
-use Rattle.nj_edges.proofs.EdgeLemmas.{get-path, has-among}
-use Rattle.nj_tools.specs.Inside.Collections.{is_collected, with_file, with_files, AreOf}
+use Rattle.nj_names.specs.NameTables.{is_among, name_at, with_name}
+use Rattle.nj_edges.proofs.EdgeLemmas.{same-number, get-path}
+use Rattle.nj_graph.specs.Graph.{GraphModel, files_of}
 use Rattle.nj_statements.proofs.OnceLemmas.{once-known, once-new}
 use Rattle.nj_edges.specs.Repeats.{each_once}
+use Rattle.nj_tools.specs.Inside.Collections.{HasExactly, new_paths, with_paths}
 
 -- ---- lists without their repeats
 
@@ -46,66 +51,114 @@ among-once (x ∷ xs) y = by (bytes_eq y x) refl (among-once xs y)
     by true k rest = refl
     by false k rest = among-others y x (each_once bytes_eq xs) k ∙ rest
 
--- ---- files and their paths
+-- ---- paths one after another
 
-pub with_files-push : (more files : List FileNo) (file : FileNo)
-    → with_files files (more ++ file ∷ []) ≡ with_file (with_files files more) file
-with_files-push [] files file = refl
-with_files-push (f ∷ more) files file = with_files-push more (with_file files f) file
-
--- a property of all of them
-pub All-with_files : (P : FileNo → Type 0) (more files : List FileNo) → All P more → All P files
-    → All P (with_files files more)
-All-with_files P [] files new all = all
-All-with_files P (file ∷ more) files new all =
-    All-with_files P more (with_file files file) (All-tail P file more new) (by (is_collected files file))
+once-more : (xs : List (List ℕ)) (x : List ℕ)
+    → each_once bytes_eq (xs ++ x ∷ []) ≡ with_name (each_once bytes_eq xs) x
+once-more xs x = by (is_among xs x) refl
   where
-    by : (b : Bool) → All P (if b then files else files ++ file ∷ [])
-    by true = all
-    by false = All-push P files file all (All-head P file more new)
+    by : (b : Bool) → is_among xs x ≡ b
+        → each_once bytes_eq (xs ++ x ∷ []) ≡ with_name (each_once bytes_eq xs) x
+    by true h = once-known xs x h
+        ∙ ap (λ c. if c then each_once bytes_eq xs else each_once bytes_eq xs ++ x ∷ [])
+        (sym (among-once xs x ∙ h))
+    by false h = once-new xs x h
+        ∙ ap (λ c. if c then each_once bytes_eq xs else each_once bytes_eq xs ++ x ∷ [])
+        (sym (among-once xs x ∙ h))
 
-module _ (paths : List (List ℕ)) where
-  -- no file yet
-  pub AreOf-none : AreOf paths [] []
-  AreOf-none = record { paths_are = refl; known = All-nil (λ (f : FileNo). f.0 < length paths) }
+with-once : (more xs : List (List ℕ))
+    → with_paths (each_once bytes_eq xs) more ≡ each_once bytes_eq (xs ++ more)
+with-once [] xs = ap (each_once bytes_eq) (sym (append-nil xs))
+with-once (x ∷ more) xs =
+    ap (λ ps. with_paths ps more) (sym (once-more xs x)) ∙ with-once more (xs ++ x ∷ [])
+    ∙ ap (each_once bytes_eq) (append_assoc xs (x ∷ []) more)
 
-  module _ (distinct : IsDistinct bytes_eq paths) where
-    -- one more file
-    pub AreOf-file : (files : List FileNo) (listed : List (List ℕ)) (file : FileNo) → file.0 < length paths
-        → AreOf paths files listed → AreOf paths (with_file files file) (listed ++ path_at paths file ∷ [])
-    AreOf-file files listed file below are = by (is_collected files file) refl
+-- paths that are added to none
+pub with-none : (more : List (List ℕ)) → with_paths [] more ≡ each_once bytes_eq more
+with-none more = with-once more []
+
+pub with-append : (paths xs ys : List (List ℕ))
+    → with_paths paths (xs ++ ys) ≡ with_paths (with_paths paths xs) ys
+with-append paths [] ys = refl
+with-append paths (x ∷ xs) ys = with-append (with_name paths x) xs ys
+
+-- the new ones of two lists, one after the other
+pub new-append : (paths xs ys : List (List ℕ))
+    → new_paths paths (xs ++ ys) ≡ new_paths paths xs ++ new_paths (with_paths paths xs) ys
+new-append paths [] ys = refl
+new-append paths (x ∷ xs) ys =
+    let first : List (List ℕ) = if is_among paths x then [] else x ∷ [] in
+    ap (λ ps. first ++ ps) (new-append (with_name paths x) xs ys)
+    ∙ sym (append_assoc first (new_paths (with_name paths x) xs)
+    (new_paths (with_paths (with_name paths x) xs) ys))
+
+with-new : (paths more : List (List ℕ)) → with_paths paths more ≡ paths ++ new_paths paths more
+with-new paths [] = sym (append-nil paths)
+with-new paths (x ∷ more) =
+    let first : List (List ℕ) = if is_among paths x then [] else x ∷ [] in
+    with-new (with_name paths x) more
+    ∙ ap (λ ps. ps ++ new_paths (with_name paths x) more) (by (is_among paths x))
+    ∙ append_assoc paths first (new_paths (with_name paths x) more)
+  where
+    by : (b : Bool) → (if b then paths else paths ++ x ∷ []) ≡ paths ++ (if b then [] else x ∷ [])
+    by true = sym (append-nil paths)
+    by false = refl
+
+-- all are new after none
+pub new-none : (more : List (List ℕ)) → new_paths [] more ≡ each_once bytes_eq more
+new-none more = sym (with-new [] more) ∙ with-none more
+
+-- ---- sets of files
+
+or_more : (b : Bool) → (b || (true || false)) ≡ true
+or_more true = refl
+or_more false = refl
+
+or_none : (b : Bool) → (b || (false || false)) ≡ b
+or_none true = refl
+or_none false = refl
+
+-- the set with the file of a number
+pub more_flagged : (g h : GraphModel) (flags : List Bool) (paths : List (List ℕ)) (n : ℕ) (path : List ℕ)
+    → IsDistinct bytes_eq (files_of g) → length flags ≡ length (files_of g) → h ≡ g
+    → slice_get (files_of h) n ≡ Some path → HasExactly (record { graph = g; flags = flags }) paths
+    → HasExactly (record { graph = g; flags = slice_set flags n true }) (paths ++ path ∷ [])
+more_flagged g h flags paths n path distinct count is at_h so_far = record { flagged = flagged }
+  where
+    files : List (List ℕ)
+    files = files_of g
+
+    at : slice_get files n ≡ Some path
+    at = subst (λ x. slice_get (files_of x) n ≡ Some path) is at_h
+
+    below : n < length files
+    below = slice_get_within files n path at
+
+    flagged : (m : ℕ) → m < length (slice_set flags n true)
+        → slice_index_or (slice_set flags n true) m false ≡ is_among (paths ++ path ∷ []) (name_at files m)
+    flagged m within = by (eqb_tells m n) ∙ sym (list_any-append (bytes_eq name) paths (path ∷ []))
       where
-        path : List ℕ
-        path = path_at paths file
+        inside : m < length flags
+        inside = omega (arith, within, length-set flags n true)
 
-        tells : is_collected files file ≡ is_among listed path
-        tells =
-            has-among paths distinct file.0 path (get-path paths file below) files
-            (recursion_from_All (λ (f : FileNo). f.0 < length paths) files are.known)
-            ∙ ap (λ ps. is_among ps path) are.paths_are ∙ among-once listed path
+        name : List ℕ
+        name = name_at files m
 
-        by : (b : Bool) → is_collected files file ≡ b
-            → AreOf paths (if b then files else files ++ file ∷ []) (listed ++ path ∷ [])
-        by true h = record {
-          paths_are = are.paths_are ∙ sym (once-known listed path (sym tells ∙ h));
-          known =
-              are.known;
-        }
-        by false h = record {
-          paths_are = map_push (path_at paths) files file ∙ ap (λ ps. ps ++ path ∷ []) are.paths_are
-              ∙ sym (once-new listed path (sym tells ∙ h));
-          known = All-push (λ (f : FileNo). f.0 < length paths) files file are.known below;
-        }
+        same : (m == n) ≡ bytes_eq name path
+        same =
+            same-number files distinct m name (get-path files (record { 0 = m })
+            (omega (arith, inside, count)))
+            (record { 0 = n }) below
+            ∙ ap (bytes_eq name) (ap (λ o. unwrap_or o []) at)
 
-    -- more files
-    pub AreOf-files : (more files : List FileNo) (listed : List (List ℕ)) → All (λ f. f.0 < length paths) more
-        → AreOf paths files listed
-        → AreOf paths (with_files files more) (listed ++ map (path_at paths) more)
-    AreOf-files [] files listed known are = subst (AreOf paths files) (sym (append-nil listed)) are
-    AreOf-files (file ∷ more) files listed known are =
-        let below : file.0 < length paths = All-head (λ (f : FileNo). f.0 < length paths) file more known in
-        subst (AreOf paths (with_files (with_file files file) more))
-        (append_assoc listed (path_at paths file ∷ []) (map (path_at paths) more))
-        (AreOf-files more (with_file files file) (listed ++ path_at paths file ∷ [])
-        (All-tail (λ (f : FileNo). f.0 < length paths) file more known)
-        (AreOf-file files listed file below are))
+        by : ((m == n) ≡ true × (m ≡ n)) ⊎ ((m == n) ≡ false × (m ≢ n))
+            → slice_index_or (slice_set flags n true) m false
+            ≡ (is_among paths name || (bytes_eq name path || false))
+        by (inl is) =
+            get_or-set_at flags n m true false is.1 (omega (arith, inside, is.1))
+            ∙ sym (or_more (is_among paths name))
+            ∙ ap (λ b. is_among paths name || (b || false)) (sym is.0 ∙ same)
+        by (inr apart) =
+            get_or-set_other flags n m true false apart.1 ∙ so_far.flagged m inside
+            ∙ sym (or_none (is_among paths name))
+            ∙ ap (λ b. is_among paths name || (b || false)) (sym apart.0 ∙ same)

@@ -1,26 +1,24 @@
 -- How the objects of a compilation database are written one after another.
-use Rattle.std.proofs.Common.{◌≡◌, ℕ, zero, suc, ◌+◌, ◌<◌, Bool, true, false, not, ◌&&◌, cond, Option, Some}
-use Rattle.std.proofs.Common.{None, option_map, unwrap_or, List, [], ◌∷◌, ◌++◌, map, length, take, drop, refl}
+use Rattle.std.proofs.Common.{◌≡◌, ℕ, ◌+◌, Bool, true, false, not, ◌&&◌, cond, Option, Some}
+use Rattle.std.proofs.Common.{None, option_map, unwrap_or, List, [], ◌∷◌, ◌++◌, map, length, subst, refl}
 use Rattle.std.proofs.Common.{sym, ap, ◌∙◌, append_assoc, append-nil, codes, slice_get}
-use Rattle.std.proofs.Common.{take-append-drop, take_all, flat_map, Result, Ok, Err, is_ok, OnOk}
+use Rattle.std.proofs.Common.{flat_map, Result, Ok, Err, is_ok, OnOk}
 use Rattle.std.proofs.Common.{arith}
-use Rattle.std.specs.Prelude.{find, take_while}
+use Rattle.std.specs.Prelude.{IfSome, filter, find, if◌then◌else◌, take_while}
+use Rattle.std.specs.List.{range_with_len}
 use Rattle.std.specs.declared.alloc.AllocError.{AllocError}
-use Rattle.std.proofs.lemmas.List.{map-append, length-map}
-use Rattle.std.proofs.lemmas.List.Concat.{flat_map-append}
 use Rattle.std.proofs.lemmas.List.Sums.{take_while-cons}
 use Rattle.std.proofs.lemmas.Result.{err_from_is_err_and}
 use Rattle.std.specs.Result.{IsErrAnd}
 use Rattle.nj_text.specs.Calls.{is_empty}
-use Rattle.nj_scope.specs.Readings.{IsPrefix}
 use Rattle.nj_scope.specs.ReadingList.{ReadStatement}
-use Rattle.nj_names.specs.declared.files.FileNo.{FileNo}
 use Rattle.nj_edges.specs.Edges.{inputs_of, edges_from}
 use Rattle.nj_faults.specs.declared.fault.GraphFault.{GraphFault}
-use Rattle.nj_names.specs.Files.{AreFiles}
 use Rattle.nj_statements.specs.EdgeList.{edges_read}
 use Rattle.nj_graph.specs.Graph.{GraphModel, edges_of, IsGraphOf, rule_name_of}
-use Rattle.nj_graph.proofs.Stated.{graph-edges}
+use Rattle.nj_graph.specs.Handles.{GraphEdge, GraphFile, edge_in, edge_of, edges_in, file_in, files_in}
+use Rattle.nj_graph.specs.declared.handles.Edge.{Edge}
+use Rattle.nj_tools.proofs.EdgeLists.{edge-count, edges-pass}
 use Rattle.nj_tools.specs.declared.tool_fault.ToolFault.{ToolFault}
 use Rattle.nj_tools.specs.declared.tool_fault.ToolFault.TheVariants.{TextNotUtf8, Write, OutOfMemory}
 use Rattle.nj_tools.specs.Sinks.{SinkState, Takes}
@@ -35,18 +33,22 @@ use Rattle.nj_tools.proofs.SinkLemmas.{Takes-nil}
 
 -- ---- a path
 
--- the first of these files has the first of these paths
-pub first-is : (files : List (List ℕ)) (numbers : List FileNo) (paths : List (List ℕ)) (file : FileNo)
-    (path : List ℕ)
-    → slice_get numbers 0 ≡ Some file → slice_get files file.0 ≡ Some path → AreFiles files numbers paths
-    → path ≡ first_path paths
-first-is files [] paths file path first at are = absurd cc
-first-is files (n ∷ numbers) [] file path first at are = absurd cc
-first-is files (n ∷ numbers) (p ∷ paths) file path first at are =
-    let same : n ≡ file = cc in
-    let there_is : slice_get files n.0 ≡ Some p = cc in
-    let both : Some path ≡ Some p = sym at ∙ ap (λ (x : FileNo). slice_get files x.0) (sym same) ∙ there_is in
-    ap (λ o. unwrap_or o path) both
+-- the first of the files of paths
+pub first_is : (files : List GraphFile) (file : GraphFile) (g : GraphModel) (paths : List (List ℕ))
+    → Some file ≡ slice_get files 0 → files ≡ files_in g paths → file.path ≡ first_path paths
+first_is files file g [] first are =
+    let none : slice_get files 0 ≡ None = ap (λ (fs : List GraphFile). slice_get fs 0) are in absurd cc
+first_is files file g (path ∷ paths) first are =
+    let here : slice_get files 0 ≡ Some (file_in g path) = ap (λ (fs : List GraphFile). slice_get fs 0) are in
+    let same : file ≡ file_in g path = cc in
+    ap (λ (f : GraphFile). f.path) same
+
+pub first_none : (files : List GraphFile) (g : GraphModel) (paths : List (List ℕ))
+    → None ≡ slice_get files 0 → files ≡ files_in g paths → [] ≡ first_path paths
+first_none files g [] first are = refl
+first_none files g (path ∷ paths) first are =
+    let here : slice_get files 0 ≡ Some (file_in g path) = ap (λ (fs : List GraphFile). slice_get fs 0) are in
+    absurd cc
 
 -- ---- an object
 
@@ -95,75 +97,8 @@ object-is directory c = refl
 
 -- ---- objects
 
--- the text before an object after these
-abbrev pub separator_after : {X : Type 0} → List X → List ℕ
-separator_after [] = 10 ∷ []
-separator_after (x ∷ xs) = 44 ∷ 10 ∷ []
-
 abbrev following : (directory : List ℕ) → Compilation → List ℕ
 following directory c = 44 ∷ 10 ∷ object_text directory c
-
--- an object more
-objects-more : (directory : List ℕ) (cs : List Compilation) (c : Compilation)
-    → objects_text directory (cs ++ c ∷ [])
-    ≡ objects_text directory cs ++ (separator_after cs ++ object_text directory c)
-unfolding objects_text
-objects-more directory [] c = ap (λ t. 10 ∷ t) (append-nil (object_text directory c))
-objects-more directory (x ∷ xs) c =
-    let front = object_text directory x in
-    ap (λ t. 10 ∷ (front ++ t)) (flat_map-append (following directory) xs (c ∷ [])
-    ∙ ap (λ t. flat_map (following directory) xs ++ t) (append-nil (following directory c)))
-    ∙ ap (λ t. 10 ∷ t) (sym (append_assoc front (flat_map (following directory) xs) (following directory c)))
-
--- objects begin with the objects of a front
-objects-front : (directory : List ℕ) (cs ds : List Compilation)
-    → IsPrefix (objects_text directory cs) (objects_text directory (cs ++ ds))
-unfolding objects_text
-objects-front directory [] ds = (objects_text directory ds, refl)
-objects-front directory (x ∷ xs) ds = (
-  flat_map (following directory) ds,
-  ap (λ t. 10 ∷ (object_text directory x ++ t)) (flat_map-append (following directory) xs ds)
-      ∙ ap (λ t. 10 ∷ t) (sym (append_assoc (object_text directory x) (flat_map (following directory) xs)
-      (flat_map (following directory) ds))),
-)
-
--- ---- edges by a test
-
-from-append : {E : Type 0} (n : ℕ) (test : E → Bool) (xs ys : List E)
-    → (more : List ℕ) × (edges_from n test (xs ++ ys) ≡ edges_from n test xs ++ more)
-from-append n test [] ys = (edges_from n test ys, refl)
-from-append n test (x ∷ xs) ys = by (test x) (from-append (n + 1) test xs ys)
-  where
-    by : (b : Bool) → (more : List ℕ) × (edges_from (n + 1) test (xs ++ ys)
-        ≡ edges_from (n + 1) test xs ++ more)
-        → (more : List ℕ) × (cond b (n ∷ edges_from (n + 1) test (xs ++ ys))
-        (edges_from (n + 1) test (xs ++ ys))
-        ≡ cond b (n ∷ edges_from (n + 1) test xs) (edges_from (n + 1) test xs) ++ more)
-    by true (more, is) = (more, ap (λ ns. n ∷ ns) is)
-    by false (more, is) = (more, is)
-
-from-more : {E : Type 0} (n : ℕ) (test : E → Bool) (xs : List E) (i : ℕ) (b : Bool) → i < length xs
-    → Some b ≡ option_map test (slice_get xs i)
-    → edges_from n test (take (i + 1) xs) ≡ edges_from n test (take i xs) ++ cond b ((n + i) ∷ []) []
-from-more n test [] i b below is = absurd (omega (arith, below))
-from-more n test (x ∷ xs) zero b below is =
-    let same : test x ≡ b = ap (λ o. unwrap_or o b) (sym is) in
-    let here : n ≡ n + 0 = omega arith in
-    ap (λ c. cond c (n ∷ []) []) same ∙ ap (λ m. cond b (m ∷ []) []) here
-from-more n test (x ∷ xs) (suc i) b below is =
-    let on : suc i + 1 ≡ suc (i + 1) = omega arith in
-    let there_is : n + 1 + i ≡ n + suc i = omega arith in
-    ap (λ k. edges_from n test (take k (x ∷ xs))) on
-    ∙ by (test x) (from-more (n + 1) test xs i b (omega (arith, below)) is
-    ∙ ap (λ m. edges_from (n + 1) test (take i xs) ++ cond b (m ∷ []) []) there_is)
-  where
-    by : (c : Bool) → edges_from (n + 1) test (take (i + 1) xs)
-        ≡ edges_from (n + 1) test (take i xs) ++ cond b ((n + suc i) ∷ []) []
-        → cond c (n ∷ edges_from (n + 1) test (take (i + 1) xs)) (edges_from (n + 1) test (take (i + 1) xs))
-        ≡ cond c (n ∷ edges_from (n + 1) test (take i xs)) (edges_from (n + 1) test (take i xs))
-        ++ cond b ((n + suc i) ∷ []) []
-    by true rest = ap (λ ns. n ∷ ns) rest
-    by false rest = rest
 
 -- ---- the strings of an edge
 
@@ -182,197 +117,285 @@ module _ (c : Compilation) where
       by true h = absurd cc
       by false h = refl
 
--- there are edges as there are statements of them
-pub count-is : (g : GraphModel) (entries : List ReadStatement) → IsGraphOf g entries
-    → length (edges_of g) ≡ length (edges_read entries)
-count-is g entries is = ap length (graph-edges is) ∙ length-map (edges_read entries) (λ e. e.paths)
-
--- ---- edge by edge
-
+-- texts before the first one that JSON cannot contain
 module _ (entries : List ReadStatement) (rules : List (List ℕ)) (expand : Bool) where
   abbrev reported : ℕ → Compilation
   reported edge = compilation_of entries expand edge
 
-  abbrev unheld : ℕ → Bool
-  unheld edge = not (is_text (reported edge))
+  abbrev unheld_number : ℕ → Bool
+  unheld_number edge = not (is_text (reported edge))
 
-  -- the listed ones of the first edges
-  abbrev pub first_listed : ℕ → List ℕ
-  first_listed i = edges_from 0 (has_object entries rules) (take i (edges_read entries))
-
-  listed-front : (i : ℕ) → (more : List ℕ) × (listed_edges entries rules ≡ first_listed i ++ more)
-  unfolding listed_edges
-  listed-front i =
-      let parts = from-append 0 (has_object entries rules) (take i (edges_read entries))
-      (drop i (edges_read entries)) in (
-        parts.0,
-        ap (edges_from 0 (has_object entries rules)) (sym (take-append-drop i (edges_read entries)))
-            ∙ parts.1,
-      )
-
-  listed-all : (i : ℕ) → i ≡ length (edges_read entries) → listed_edges entries rules ≡ first_listed i
-  unfolding listed_edges
-  listed-all i all = ap (edges_from 0 (has_object entries rules))
-      (sym (take_all i (edges_read entries) (omega (arith, all))))
-
-  pub held-front : (ns ms : List ℕ) → find unheld ns ≡ None
+  pub held-front : (ns ms : List ℕ) → find unheld_number ns ≡ None
       → take_while is_text (map reported (ns ++ ms)) ≡ map reported ns ++ take_while is_text (map reported ms)
   held-front [] ms none = refl
   held-front (n ∷ ns) ms none = take_while-cons is_text (reported n) (map reported (ns ++ ms))
       ∙ by (is_text (reported n)) (held-front ns ms) none
     where
-      by : (b : Bool) → (find unheld ns ≡ None
+      by : (b : Bool) → (find unheld_number ns ≡ None
           → take_while is_text (map reported (ns ++ ms))
           ≡ map reported ns ++ take_while is_text (map reported ms))
-          → cond (not b) (Some n) (find unheld ns) ≡ None
+          → cond (not b) (Some n) (find unheld_number ns) ≡ None
           → cond b (reported n ∷ take_while is_text (map reported (ns ++ ms))) []
           ≡ reported n ∷ (map reported ns ++ take_while is_text (map reported ms))
       by true rest h = ap (λ cs. reported n ∷ cs) (rest h)
       by false rest h = absurd cc
 
-  find-front : (ns ms : List ℕ) → find unheld ns ≡ None → find unheld (ns ++ ms) ≡ find unheld ms
-  find-front [] ms none = refl
-  find-front (n ∷ ns) ms none = by (unheld n) (find-front ns ms) none
-    where
-      by : (b : Bool) → (find unheld ns ≡ None → find unheld (ns ++ ms) ≡ find unheld ms)
-          → cond b (Some n) (find unheld ns) ≡ None
-          → cond b (Some n) (find unheld (ns ++ ms)) ≡ find unheld ms
-      by true rest h = absurd cc
-      by false rest h = rest h
+-- ---- edge by edge
 
-  -- the objects of the first edges
-  abbrev pub so_far : (directory : List ℕ) → (i : ℕ) → List ℕ
-  so_far directory i = objects_text directory (map reported (first_listed i))
+-- the text before the next object
+abbrev pub separator_of : (first : Bool) → List ℕ
+separator_of first = if first then 10 ∷ [] else 44 ∷ 10 ∷ []
 
-  -- JSON can contain the first edges, and the separator is that of the next object
-  pub record HasWritten (separator : List ℕ) (i : ℕ) : Type 0 where
-    pub held : find unheld (first_listed i) ≡ None
-    pub separator_is : separator ≡ separator_after (first_listed i)
+module _ (entries : List ReadStatement) (rules : List (List ℕ)) (expand : Bool) (directory : List ℕ) where
+  -- an edge has an object
+  abbrev pub lists : GraphEdge → Bool
+  lists edge = unwrap_or (option_map (has_object entries rules) (slice_get (edges_read entries) edge.number))
+      false
 
-  pub written-nothing : (directory : List ℕ) → so_far directory 0 ≡ []
-  unfolding objects_text
-  written-nothing directory = refl
+  -- the text that is left of the list, which ends before the first edge that JSON cannot contain
+  unfoldable pub list_left : (first : Bool) → List GraphEdge → List ℕ
+  list_left first [] = codes "\n]\n"
+  list_left first (edge ∷ edges) =
+      if lists edge then
+      (if is_text (compilation_of entries expand edge.number)
+      then (separator_of first ++ object_text directory (compilation_of entries expand edge.number))
+      ++ list_left false edges
+      else [])
+      else list_left first edges
 
-  module _ (directory separator : List ℕ) (i : ℕ) (has : HasWritten separator i) where
-    -- the objects of the first edges begin those of all
-    pub so_far-front : IsPrefix (so_far directory i)
-        (objects_text directory (held_before entries rules expand))
-    so_far-front =
-        let parts = listed-front i in
-        let held =
-        ap (λ ns. take_while is_text (map reported ns)) parts.1
-        ∙ held-front (first_listed i) parts.0 has.held in
-        let objects =
-        objects-front directory (map reported (first_listed i))
-        (take_while is_text (map reported parts.0)) in
-        (objects.0, ap (objects_text directory) held ∙ objects.1)
+  -- the first of these edges that JSON cannot contain
+  unfoldable pub unheld_left : List GraphEdge → Option GraphEdge
+  unheld_left [] = None
+  unheld_left (edge ∷ edges) =
+      if lists edge then
+      (if is_text (compilation_of entries expand edge.number) then unheld_left edges else Some edge)
+      else unheld_left edges
 
-    -- all edges were looked at
-    module _ (all : i ≡ length (edges_read entries)) where
-      pub none-unheld : None ≡ unheld_edge entries rules expand
-      none-unheld = sym (ap (find unheld) (listed-all i all) ∙ has.held)
+  pub left-none : (first : Bool) (edges : List GraphEdge) → edges ≡ [] → list_left first edges ≡ codes "\n]\n"
+  unfolding list_left
+  left-none first edges none = ap (list_left first) none
 
-      pub all-written : so_far directory i ≡ objects_text directory (held_before entries rules expand)
-      all-written =
-          ap (objects_text directory)
-          (sym (ap (λ ns. take_while is_text (map reported ns))
-          (listed-all i all ∙ sym (append-nil (first_listed i))) ∙ held-front (first_listed i) [] has.held
-          ∙ append-nil (map reported (first_listed i))))
+  pub unheld-none : (edges : List GraphEdge) → edges ≡ [] → unheld_left edges ≡ None
+  unfolding unheld_left
+  unheld-none edges none = ap unheld_left none
 
-    -- the next edge
+  module _ (first : Bool) (before : List GraphEdge) (edge : GraphEdge) (edges : List GraphEdge)
+      (is : before ≡ edge ∷ edges) where
+    -- the next edge has no object
+    module _ (other : lists edge ≡ false) where
+      pub left-skips : list_left first before ≡ list_left first edges
+      unfolding list_left
+      left-skips = ap (list_left first) is ∙ ap (λ (b : Bool). if b then
+          (if is_text (compilation_of entries expand edge.number)
+          then (separator_of first ++ object_text directory (compilation_of entries expand edge.number))
+          ++ list_left false edges
+          else [])
+          else list_left first edges) other
 
-    module _ (below : i < length (edges_read entries)) where
-      abbrev test : Option Bool
-      test = option_map (has_object entries rules) (slice_get (edges_read entries) i)
+      pub unheld-skips : unheld_left before ≡ unheld_left edges
+      unfolding unheld_left
+      unheld-skips = ap unheld_left is ∙ ap (λ (b : Bool). if b then
+          (if is_text (compilation_of entries expand edge.number) then unheld_left edges else Some edge)
+          else unheld_left edges) other
 
-      pub skipped : Some false ≡ test → first_listed (i + 1) ≡ first_listed i
-      skipped other = from-more 0 (has_object entries rules) (edges_read entries) i false below other
-          ∙ append-nil (first_listed i)
+    module _ (listed : lists edge ≡ true) where
+      listed-left : list_left first before ≡ (if is_text (compilation_of entries expand edge.number)
+          then (separator_of first ++ object_text directory (compilation_of entries expand edge.number))
+          ++ list_left false edges
+          else [])
+      unfolding list_left
+      listed-left = ap (list_left first) is ∙ ap (λ (b : Bool). if b then
+          (if is_text (compilation_of entries expand edge.number)
+          then (separator_of first ++ object_text directory (compilation_of entries expand edge.number))
+          ++ list_left false edges
+          else [])
+          else list_left first edges) listed
 
-      pub passed-edge : Some false ≡ test → HasWritten separator (i + 1)
-      passed-edge other = record {
-        held = ap (find unheld) (skipped other) ∙ has.held;
-        separator_is = has.separator_is ∙ ap separator_after (sym (skipped other));
-      }
+      listed-unheld : unheld_left before
+          ≡ (if is_text (compilation_of entries expand edge.number) then unheld_left edges else Some edge)
+      unfolding unheld_left
+      listed-unheld = ap unheld_left is ∙ ap (λ (b : Bool). if b then
+          (if is_text (compilation_of entries expand edge.number) then unheld_left edges else Some edge)
+          else unheld_left edges) listed
 
-      module _ (passes : Some true ≡ test) where
-        listed : first_listed (i + 1) ≡ first_listed i ++ i ∷ []
-        listed =
-            let here : 0 + i ≡ i = omega arith in
-            from-more 0 (has_object entries rules) (edges_read entries) i true below passes
-            ∙ ap (λ n. first_listed i ++ n ∷ []) here
+      -- JSON cannot contain it
+      module _ (none : None ≡ held_compilation (compilation_of entries expand edge.number)) where
+        pub left-ends : list_left first before ≡ []
+        left-ends = listed-left ∙ ap (λ (b : Bool). if b
+            then (separator_of first ++ object_text directory (compilation_of entries expand edge.number))
+            ++ list_left false edges
+            else []) (held-none (compilation_of entries expand edge.number) none)
 
-        -- it is the first that JSON cannot contain
+        pub unheld-here : unheld_left before ≡ Some edge
+        unheld-here = listed-unheld ∙ ap (λ (b : Bool). if b then unheld_left edges else Some edge)
+            (held-none (compilation_of entries expand edge.number) none)
 
-        module _ (none : None ≡ held_compilation (reported i)) where
-          not_text : is_text (reported i) ≡ false
-          not_text = held-none (reported i) none
+      -- it has an object
+      module _ (json : Compilation) (some : Some json
+          ≡ held_compilation (compilation_of entries expand edge.number)) where
+        held : (is_text (compilation_of entries expand edge.number) ≡ true)
+            × (json ≡ in_json (compilation_of entries expand edge.number))
+        held = held-some (compilation_of entries expand edge.number) json some
 
-          rest : (more : List ℕ) × (listed_edges entries rules ≡ first_listed i ++ (i ∷ more))
-          rest = let parts = listed-front (i + 1) in (
-            parts.0,
-            parts.1 ∙ ap (λ ns. ns ++ parts.0) listed
-                ∙ append_assoc (first_listed i) (i ∷ []) parts.0,
-          )
+        pub left-next : (separator : List ℕ) → separator ≡ separator_of first
+            → list_left first before
+            ≡ (separator ++ object_of_strings directory json) ++ list_left false edges
+        left-next separator separator_is =
+            listed-left ∙ ap (λ (b : Bool). if b
+            then (separator_of first ++ object_text directory (compilation_of entries expand edge.number))
+            ++ list_left false edges
+            else []) held.0
+            ∙ (λ i. (sym separator_is i ++ (object-is directory (compilation_of entries expand edge.number)
+            ∙ ap (object_of_strings directory) (sym held.1)) i) ++ list_left false edges)
 
-          pub is-unheld : Some i ≡ unheld_edge entries rules expand
-          is-unheld =
-              sym (ap (find unheld) rest.1 ∙ find-front (first_listed i) (i ∷ rest.0) has.held
-              ∙ ap (λ b. cond (not b) (Some i) (find unheld rest.0)) not_text)
+        pub unheld-next : unheld_left before ≡ unheld_left edges
+        unheld-next = listed-unheld ∙ ap (λ (b : Bool). if b then unheld_left edges else Some edge) held.0
 
-          pub before-unheld : so_far directory i ≡ objects_text directory (held_before entries rules expand)
-          before-unheld =
-              ap (objects_text directory)
-              (sym (ap (λ ns. take_while is_text (map reported ns)) rest.1 ∙ held-front (first_listed i)
-              (i ∷ rest.0) has.held
-              ∙ ap (λ cs. map reported (first_listed i) ++ cs)
-              (take_while-cons is_text (reported i) (map reported rest.0)
-              ∙ ap (λ b. cond b (reported i ∷ take_while is_text (map reported rest.0)) []) not_text)
-              ∙ append-nil (map reported (first_listed i))))
+  -- ---- all edges
 
-        -- it has an object
+  module _ (g : GraphModel) where
+    abbrev passes : ℕ → Bool
+    passes number = lists (edge_in g number)
 
-        module _ (json : Compilation) (some : Some json ≡ held_compilation (reported i)) where
-          still-held : find unheld (first_listed (i + 1)) ≡ None
-          still-held =
-              ap (find unheld) listed ∙ find-front (first_listed i) (i ∷ []) has.held
-              ∙ ap (λ b. cond (not b) (Some i) None) (held-some (reported i) json some).0
+    abbrev unheld : ℕ → Bool
+    unheld number = not (is_text (compilation_of entries expand number))
 
-          separator-same : (ns : List ℕ) → separator_after ns ≡ separator_after (map reported ns)
-          separator-same [] = refl
-          separator-same (n ∷ ns) = refl
+    abbrev comp : ℕ → Compilation
+    comp number = compilation_of entries expand number
 
-          pub object-next : so_far directory i ++ (separator ++ object_of_strings directory json)
-              ≡ so_far directory (i + 1)
-          object-next = sym (
-              ap (λ ns. objects_text directory (map reported ns)) listed
-              ∙ ap (objects_text directory) (map-append reported (first_listed i) (i ∷ []))
-              ∙ objects-more directory (map reported (first_listed i)) (reported i)
-              ∙ ap (λ t. so_far directory i ++ (t ++ object_text directory (reported i)))
-              (sym (has.separator_is ∙ separator-same (first_listed i)))
-              ∙ ap (λ t. so_far directory i ++ (separator ++ t))
-              (object-is directory (reported i) ∙ ap (object_of_strings directory)
-              (sym (held-some (reported i) json some).1))
-              )
+    abbrev end_of : List ℕ → List ℕ
+    end_of numbers = end_text (find unheld numbers)
 
-          separator-next : (ns : List ℕ) → 44 ∷ 10 ∷ [] ≡ separator_after (ns ++ i ∷ [])
-          separator-next [] = refl
-          separator-next (n ∷ ns) = refl
+    -- after the first object
+    more-left : (numbers : List ℕ)
+        → list_left false (edges_in g numbers)
+        ≡ flat_map (following directory) (take_while is_text (map comp (filter passes numbers)))
+        ++ end_of (filter passes numbers)
+    unfolding list_left
+    more-left [] = refl
+    more-left (n ∷ numbers) = by (passes n) (more-left numbers)
+      where
+        rest : List ℕ
+        rest = filter passes numbers
 
-          pub object-written : (next : List ℕ) → next ≡ 44 ∷ 10 ∷ [] → HasWritten next (i + 1)
-          object-written next is =
-              record {
-                held = still-held;
-                separator_is = is ∙ separator-next (first_listed i)
-                    ∙ ap separator_after (sym listed);
-              }
+        by : (b : Bool) → list_left false (edges_in g numbers)
+            ≡ flat_map (following directory) (take_while is_text (map comp rest)) ++ end_of rest
+            → (if b then
+            (if is_text (comp n) then ((44 ∷ 10 ∷ []) ++ object_text directory (comp n))
+            ++ list_left false (edges_in g numbers)
+            else [])
+            else list_left false (edges_in g numbers))
+            ≡ flat_map (following directory) (take_while is_text (map comp (cond b (n ∷ rest) rest)))
+            ++ end_of (cond b (n ∷ rest) rest)
+        by false is = is
+        by true is = here (is_text (comp n))
+            ∙ ap (λ cs. flat_map (following directory) cs ++ end_of (n ∷ rest))
+            (sym (take_while-cons is_text (comp n) (map comp rest)))
+          where
+            here : (h : Bool) → (if h
+                then ((44 ∷ 10 ∷ []) ++ object_text directory (comp n))
+                ++ list_left false (edges_in g numbers)
+                else [])
+                ≡ flat_map (following directory) (cond h (comp n ∷ take_while is_text (map comp rest)) [])
+                ++ end_text (cond (not h) (Some n) (find unheld rest))
+            here true = ap (λ t. ((44 ∷ 10 ∷ []) ++ object_text directory (comp n)) ++ t) is
+                ∙ sym (append_assoc ((44 ∷ 10 ∷ []) ++ object_text directory (comp n))
+                (flat_map (following directory) (take_while is_text (map comp rest))) (end_of rest))
+            here false = refl
 
-  pub object-front : (directory separator next : List ℕ) (i : ℕ) → HasWritten next (i + 1) → (part : List ℕ)
-      → so_far directory i ++ part ≡ so_far directory (i + 1)
-      → IsPrefix (so_far directory i ++ part) (objects_text directory (held_before entries rules expand))
-  object-front directory separator next i has part is =
-      let (more, begins) = so_far-front directory next (i + 1) has in
-      (more, begins ∙ ap (λ t. t ++ more) (sym is))
+    all-left : (numbers : List ℕ)
+        → list_left true (edges_in g numbers)
+        ≡ objects_text directory (take_while is_text (map comp (filter passes numbers)))
+        ++ end_of (filter passes numbers)
+    unfolding list_left objects_text
+    all-left [] = refl
+    all-left (n ∷ numbers) = by (passes n) (all-left numbers)
+      where
+        rest : List ℕ
+        rest = filter passes numbers
+
+        by : (b : Bool) → list_left true (edges_in g numbers)
+            ≡ objects_text directory (take_while is_text (map comp rest)) ++ end_of rest
+            → (if b then
+            (if is_text (comp n) then ((10 ∷ []) ++ object_text directory (comp n))
+            ++ list_left false (edges_in g numbers)
+            else [])
+            else list_left true (edges_in g numbers))
+            ≡ objects_text directory (take_while is_text (map comp (cond b (n ∷ rest) rest)))
+            ++ end_of (cond b (n ∷ rest) rest)
+        by false is = is
+        by true is = here (is_text (comp n))
+            ∙ ap (λ cs. objects_text directory cs ++ end_of (n ∷ rest))
+            (sym (take_while-cons is_text (comp n) (map comp rest)))
+          where
+            here : (h : Bool) → (if h
+                then ((10 ∷ []) ++ object_text directory (comp n)) ++ list_left false (edges_in g numbers)
+                else [])
+                ≡ objects_text directory (cond h (comp n ∷ take_while is_text (map comp rest)) [])
+                ++ end_text (cond (not h) (Some n) (find unheld rest))
+            here true = ap (λ t. ((10 ∷ []) ++ object_text directory (comp n)) ++ t) (more-left numbers)
+                ∙ sym (append_assoc ((10 ∷ []) ++ object_text directory (comp n))
+                (flat_map (following directory) (take_while is_text (map comp rest))) (end_of rest))
+            here false = refl
+
+    unheld-all : (numbers : List ℕ)
+        → unheld_left (edges_in g numbers) ≡ option_map (edge_in g) (find unheld (filter passes numbers))
+    unfolding unheld_left
+    unheld-all [] = refl
+    unheld-all (n ∷ numbers) = by (passes n) (unheld-all numbers)
+      where
+        by : (b : Bool) → unheld_left (edges_in g numbers)
+            ≡ option_map (edge_in g) (find unheld (filter passes numbers))
+            → (if b then (if is_text (comp n) then unheld_left (edges_in g numbers) else Some (edge_in g n))
+            else unheld_left (edges_in g numbers))
+            ≡ option_map (edge_in g) (find unheld
+            (cond b (n ∷ filter passes numbers) (filter passes numbers)))
+        by false is = is
+        by true is = here (is_text (comp n))
+          where
+            here : (h : Bool) → (if h then unheld_left (edges_in g numbers) else Some (edge_in g n))
+                ≡ option_map (edge_in g) (cond (not h) (Some n) (find unheld (filter passes numbers)))
+            here true = is
+            here false = refl
+
+    module _ (is : IsGraphOf g entries) where
+      abbrev pub all_edges : List GraphEdge
+      all_edges = edges_in g (range_with_len 0 (length (edges_of g)))
+
+      listed-are : listed_edges entries rules ≡ filter passes (range_with_len 0 (length (edges_of g)))
+      unfolding listed_edges
+      listed-are =
+          edges-pass (has_object entries rules) passes 0 (edges_read entries) (λ i e at.
+          let on : 0 + i ≡ i = omega arith in
+          ap passes on ∙ ap (λ o. unwrap_or (option_map (has_object entries rules) o) false) at)
+          ∙ ap (λ n. filter passes (range_with_len 0 n)) (sym (edge-count g entries is))
+
+      pub list-all : codes "[" ++ list_left true all_edges ≡ list_text entries directory rules expand
+      list-all =
+          ap (λ t. codes "[" ++ t) (all-left (range_with_len 0 (length (edges_of g)))
+          ∙ ap (λ ns. objects_text directory (take_while is_text (map comp ns)) ++ end_of ns)
+          (sym listed-are))
+          ∙ sym (append_assoc (codes "[") (objects_text directory (held_before entries rules expand))
+          (end_text (unheld_edge entries rules expand)))
+
+      pub unheld-is : unheld_left all_edges ≡ option_map (edge_in g) (unheld_edge entries rules expand)
+      unheld-is = unheld-all (range_with_len 0 (length (edges_of g)))
+          ∙ ap (λ ns. option_map (edge_in g) (find unheld ns)) (sym listed-are)
+
+-- ---- an edge that is refused
+
+pub refused-is : (entries : List ReadStatement) (g : GraphModel) (edge : Option Edge) (number : Option ℕ)
+    → option_map edge_of edge ≡ option_map (edge_in g) number → IsGraphOf g entries
+    → IfSome edge (λ e. IsGraphOf (edge_of e).graph entries)
+    × (option_map (λ e. text_fault entries (edge_of e).number) edge ≡ option_map (text_fault entries) number)
+refused-is entries g None None is graph = (tt, refl)
+refused-is entries g None (Some n) is graph = absurd cc
+refused-is entries g (Some e) None is graph = absurd cc
+refused-is entries g (Some e) (Some n) is graph =
+    let same : edge_of e ≡ edge_in g n = cc in (
+      subst (λ (x : GraphEdge). IsGraphOf x.graph entries) (sym same) graph,
+      ap (λ (x : GraphEdge). Some (text_fault entries x.number)) same,
+    )
 
 -- ---- the whole list
 
@@ -406,9 +429,9 @@ list-ends old new text refused (Err Write) took is = absurd is
 list-ends old new text refused (Err OutOfMemory) took is = (text, ([], sym (append-nil text)), took)
 
 -- there was no memory for the place of the edge
-pub refuses-none : (refused : Option GraphFault) (result : Result Unit ToolFault)
+pub refuses_none : (refused : Option GraphFault) (result : Result Unit ToolFault)
     → IsErrAnd result (λ e. e ≡ OutOfMemory) → Refuses refused result
-refuses-none refused result err = let (e, is, same) = err_from_is_err_and result err in rw (is, same) tt
+refuses_none refused result err = let (e, is, same) = err_from_is_err_and result err in rw (is, same) tt
 
 module _ (entries : List ReadStatement) (directory : List ℕ) (chosen rules : List (List ℕ)) (expand : Bool)
     (same : (rule : List ℕ) → is_chosen chosen rule ≡ is_chosen rules rule) where

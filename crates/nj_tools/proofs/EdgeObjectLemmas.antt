@@ -1,12 +1,10 @@
 -- How the objects of edges are written one after another.
-use Rattle.std.proofs.Common.{◌≡◌, ℕ, ◌+◌, ◌<◌, ◌≤◌, Bool, true, false, not, cond, Option, Some, None}
-use Rattle.std.proofs.Common.{option_map, unwrap_or, List, [], ◌∷◌, ◌++◌, length, take, get_or, refl, sym, ap}
-use Rattle.std.proofs.Common.{◌∙◌, append-nil, flat_map, codes, arith}
-use Rattle.std.specs.Prelude.{find}
+use Rattle.std.proofs.Common.{◌≡◌, ℕ, Bool, true, false, not, cond, Option, Some, None}
+use Rattle.std.proofs.Common.{option_map, unwrap_or, List, [], ◌∷◌, ◌++◌, refl, sym, ap}
+use Rattle.std.proofs.Common.{◌∙◌, append-nil, flat_map, codes}
+use Rattle.std.specs.Prelude.{find, take_while}
+use Rattle.std.proofs.lemmas.List.Folds.{flat_map-map}
 use Rattle.std.specs.List.{fold}
-use Rattle.std.proofs.lemmas.List.{take_more}
-use Rattle.std.proofs.lemmas.List.Concat.{flat_map-append}
-use Rattle.std.proofs.lemmas.List.FromFn.{get_or-range_with_len, length-range_with_len}
 use Rattle.std.proofs.lemmas.List.Sums.{fold-append}
 use Rattle.std.specs.Fmt.{decimal}
 use Rattle.json.specs.Json.{Json, array, boolean, number, string}
@@ -14,19 +12,18 @@ use Rattle.json.specs.Print.{print}
 use Rattle.json.specs.Token as token
 use Rattle.json.specs.Token.{Token}
 use Rattle.json.specs.Tree.{json_tokens}
-use Rattle.nj_scope.specs.Readings.{IsPrefix}
 use Rattle.nj_scope.specs.ReadingList.{ReadStatement}
 use Rattle.nj_text.specs.declared.spot.Spot.{Spot}
 use Rattle.nj_edges.specs.Edges.{EdgePaths, edge_at}
 use Rattle.nj_statements.specs.EdgeList.{edges_read, paths_of_edges}
-use Rattle.nj_graph.specs.Graph.{detail_stated, rule_name_at}
-use Rattle.nj_tools.specs.EdgeObjects.{edge_lines, edge_numbers, edge_object, file_members, head_members}
-use Rattle.nj_tools.specs.EdgeObjects.{place_object, unwritable_edge, value_member, value_members}
+use Rattle.nj_graph.specs.Graph.{GraphModel, detail_stated, rule_name_at}
+use Rattle.nj_graph.specs.Handles.{GraphEdge, edge_in, edges_in}
+use Rattle.nj_tools.specs.EdgeObjects.{edge_object, file_members, head_members}
+use Rattle.nj_tools.specs.EdgeObjects.{place_object, value_member, value_members}
 use Rattle.nj_tools.specs.JsonObjects.{json_line, strings, strings_are_utf8}
 use Rattle.nj_tools.specs.Lines.{line}
 use Rattle.nj_tools.specs.Inside.ObjectTexts.{and_member, and_token, held_text, no_members_yet}
-use Rattle.nj_tools.proofs.HeldLemmas.{find-none, find-there, next-passes, while-all, while-begins}
-use Rattle.nj_tools.proofs.HeldLemmas.{while-ends}
+use Rattle.nj_tools.proofs.HeldLemmas.{find-fails, find-passes, while-fails, while-map, while-passes}
 use Rattle.nj_tools.proofs.ObjectLemmas.{object-is}
 
 -- ---- the members of an object
@@ -145,89 +142,50 @@ no-text j is = by (strings_are_utf8 j) is
 -- ---- the lines
 
 module _ (entries : List ReadStatement) where
-  abbrev numbers : List ℕ
-  numbers = edge_numbers entries
+  -- JSON can contain an edge
+  abbrev pub writable : GraphEdge → Bool
+  writable edge = strings_are_utf8 (edge_object entries edge.number)
 
-  abbrev writable : ℕ → Bool
-  writable edge = strings_are_utf8 (edge_object entries edge)
+  -- the lines that are left of these edges
+  unfoldable pub lines_left : List GraphEdge → List ℕ
+  lines_left edges = flat_map (λ edge. json_line (edge_object entries edge.number))
+      (take_while writable edges)
 
-  abbrev line_of : ℕ → List ℕ
-  line_of edge = json_line (edge_object entries edge)
+  pub lines-all : (g : GraphModel) (numbers : List ℕ)
+      → lines_left (edges_in g numbers)
+      ≡ flat_map (λ edge. json_line (edge_object entries edge))
+      (take_while (λ edge. strings_are_utf8 (edge_object entries edge)) numbers)
+  unfolding lines_left
+  lines-all g numbers =
+      let f = λ (edge : GraphEdge). json_line (edge_object entries edge.number) in
+      ap (flat_map f) (while-map writable (edge_in g) numbers)
+      ∙ flat_map-map f (edge_in g) (take_while (λ n. strings_are_utf8 (edge_object entries n)) numbers)
 
-  count-numbers : length (edge_numbers entries) ≡ length (edges_read entries)
-  count-numbers = length-range_with_len 0 (length (edges_read entries))
+  pub lines-none : lines_left [] ≡ []
+  unfolding lines_left
+  lines-none = refl
 
-  -- the lines of the first edges
-  abbrev pub lines_of : ℕ → List ℕ
-  lines_of i = flat_map line_of (take i (edge_numbers entries))
+  module _ (edge : GraphEdge) (edges : List GraphEdge) where
+    -- JSON cannot contain the next one
+    module _ (none : None ≡ option_map print (held_text (edge_object entries edge.number))) where
+      pub lines-end : lines_left (edge ∷ edges) ≡ []
+      unfolding lines_left
+      lines-end = ap (flat_map (λ (e : GraphEdge). json_line (edge_object entries e.number)))
+          (while-fails writable edge edges (no-text (edge_object entries edge.number) none))
 
-  -- JSON can contain the first edges
-  abbrev pub AreWritable : ℕ → Type 0
-  AreWritable i =
-      find (λ edge. not (strings_are_utf8 (edge_object entries edge))) (take i (edge_numbers entries)) ≡ None
+      pub is-unwritable : find (λ e. not (writable e)) (edge ∷ edges) ≡ Some edge
+      is-unwritable = find-fails writable edge edges (no-text (edge_object entries edge.number) none)
 
-  -- their lines begin those of all
-  pub lines-front : (i : ℕ) → AreWritable i → IsPrefix (lines_of i) (edge_lines entries)
-  lines-front i passed =
-      let parts = while-begins writable numbers i passed in (
-        flat_map line_of parts.0,
-        ap (flat_map line_of) parts.1 ∙ flat_map-append line_of
-            (take i numbers) parts.0,
-      )
+    -- it has a line
+    module _ (text : List ℕ) (some : Some text
+        ≡ option_map print (held_text (edge_object entries edge.number))) where
+      pub lines-next : lines_left (edge ∷ edges) ≡ line (text ++ []) ++ lines_left edges
+      unfolding lines_left
+      lines-next =
+          ap (flat_map (λ (e : GraphEdge). json_line (edge_object entries e.number)))
+          (while-passes writable edge edges (text-is (edge_object entries edge.number) text some).0)
+          ∙ ap (λ t. line t ++ lines_left edges)
+          (sym (append-nil text ∙ (text-is (edge_object entries edge.number) text some).1))
 
-  module _ (i : ℕ) (passed : AreWritable i) where
-    -- all edges were looked at
-    module _ (all : i ≡ length (edges_read entries)) where
-      past : length (edge_numbers entries) ≤ i
-      past = omega (arith, all, count-numbers)
-
-      pub lines-all : lines_of i ≡ edge_lines entries
-      lines-all = ap (flat_map line_of) (sym (while-all writable numbers i passed past))
-
-      pub none-unwritable : None ≡ unwritable_edge entries
-      none-unwritable = sym (find-none writable numbers i passed past)
-
-    -- the next edge
-    module _ (below : i < length (edges_read entries)) where
-      within : i < length (edge_numbers entries)
-      within = omega (arith, below, count-numbers)
-
-      here : get_or (edge_numbers entries) i 0 ≡ i
-      here = let zero_first : 0 + i ≡ i = omega arith in
-          get_or-range_with_len 0 (length (edges_read entries)) i 0 below ∙ zero_first
-
-      -- it is the first that JSON cannot contain
-      module _ (none : None ≡ option_map print (held_text (edge_object entries i))) where
-        fails : strings_are_utf8 (edge_object entries (get_or (edge_numbers entries) i 0)) ≡ false
-        fails = ap (λ edge. strings_are_utf8 (edge_object entries edge)) here
-            ∙ no-text (edge_object entries i) none
-
-        pub lines-before : lines_of i ≡ edge_lines entries
-        lines-before = ap (flat_map line_of) (sym (while-ends writable numbers i passed 0 within fails))
-
-        pub is-unwritable : Some i ≡ unwritable_edge entries
-        is-unwritable = sym (find-there writable numbers i passed 0 within fails ∙ ap Some here)
-
-      -- it has a line
-      module _ (text : List ℕ) (some : Some text ≡ option_map print (held_text (edge_object entries i))) where
-        passes : strings_are_utf8 (edge_object entries (get_or (edge_numbers entries) i 0)) ≡ true
-        passes = ap (λ edge. strings_are_utf8 (edge_object entries edge)) here
-            ∙ (text-is (edge_object entries i) text some).0
-
-        pub passed-next : AreWritable (i + 1)
-        passed-next = next-passes writable numbers i passed 0 within passes
-
-        pub lines-next : lines_of i ++ line (text ++ []) ≡ lines_of (i + 1)
-        lines-next = sym (
-            ap (flat_map line_of) (take_more numbers i 0 within)
-            ∙ flat_map-append line_of (take i numbers) (get_or numbers i 0 ∷ [])
-            ∙ ap (λ t. lines_of i ++ t)
-            (append-nil (line_of (get_or numbers i 0)) ∙ ap line_of here ∙ ap line
-            (sym (append-nil text ∙ (text-is (edge_object entries i) text some).1)))
-            )
-
-        -- with its line they begin those of all
-        pub line-front : IsPrefix (lines_of i ++ line (text ++ [])) (edge_lines entries)
-        line-front =
-            let (more, is) = lines-front (i + 1) passed-next in
-            (more, is ∙ ap (λ t. t ++ more) (sym lines-next))
+      pub passes-next : find (λ e. not (writable e)) (edge ∷ edges) ≡ find (λ e. not (writable e)) edges
+      passes-next = find-passes writable edge edges (text-is (edge_object entries edge.number) text some).0

@@ -1,7 +1,7 @@
 pub mod OutputLemmas
 pub mod CollectedLemmas
+pub mod EdgeLists
 pub mod CommandLemmas
-pub mod InputLemmas
 pub mod InputRows
 pub mod JsonLemmas
 pub mod LawLemmas
@@ -18,6 +18,7 @@ pub mod QueryRows
 pub mod QuoteLemmas
 pub mod SinkLemmas
 pub mod SortedLemmas
+pub mod TextLemmas
 pub mod TreeLaws
 pub mod TreeLemmas
 pub mod TreeRows

@@ -1,19 +1,16 @@
 -- How texts are added to an output one after another.
-use Rattle.std.proofs.Common.{◌≡◌, ℕ, ◌+◌, ◌<◌, ◌≤◌, List, [], ◌∷◌, ◌++◌, length, get_or, take, drop, Result}
-use Rattle.std.proofs.Common.{Ok, Err}
-use Rattle.std.proofs.Common.{refl, sym, ap, subst, ◌∙◌, append_assoc, append-nil, take-append-drop}
-use Rattle.std.specs.List.{flat_map}
+use Rattle.std.proofs.Common.{◌≡◌, ℕ, List, [], ◌∷◌, ◌++◌, Bor, Result, map, flat_map}
+use Rattle.std.proofs.Common.{Ok, Err, refl, sym, ap, subst, ◌∙◌, append_assoc, append-nil}
+use Rattle.std.specs.List.{AllByRecursion}
 use Rattle.std.specs.Result.{IsErrAnd}
 use Rattle.std.proofs.lemmas.Result.{err_from_is_err_and}
-use Rattle.std.proofs.lemmas.List.{take_more, take_all}
-use Rattle.std.proofs.lemmas.List.Concat.{flat_map-append}
 use Rattle.nj_scope.specs.Readings.{IsPrefix}
 use Rattle.nj_tools.specs.Sinks.{SinkState, Takes}
 use Rattle.nj_tools.specs.declared.output.Output.{Output}
 use Rattle.nj_tools.specs.declared.tool_fault.ToolFault.{ToolFault}
 use Rattle.nj_tools.specs.declared.tool_fault.ToolFault.TheVariants.{TextNotUtf8, Write, OutOfMemory}
 use Rattle.nj_tools.specs.Inside.Blocks.{IsUnderway}
-use Rattle.nj_tools.specs.Inside.Outputs.{IsSame, Adds, Stops, PutsText}
+use Rattle.nj_tools.specs.Inside.Outputs.{IsSame, Adds, Stops, PutsText, Leaves, LeavesEach}
 use Rattle.nj_tools.specs.Texts.{StopsWithin, WritesText}
 use Rattle.nj_tools.proofs.SinkLemmas.{Takes-nil, Takes-trans, FailsAfter-trans}
 
@@ -26,19 +23,6 @@ front-is text is = ([], sym is ∙ sym (append-nil text))
 -- the first of two texts that begin another
 pub front-of : (text more : List ℕ) {whole : List ℕ} → IsPrefix (text ++ more) whole → IsPrefix text whole
 front-of text more (rest, is) = (more ++ rest, is ∙ append_assoc text more rest)
-
--- the same after a text that comes first
-pub next-after : (first so_far part : List ℕ) {next : List ℕ} → so_far ++ part ≡ next
-    → (first ++ so_far) ++ part ≡ first ++ next
-next-after first so_far part is = append_assoc first so_far part ∙ ap (λ t. first ++ t) is
-
-pub front-after : (first so_far part : List ℕ) {whole : List ℕ} → IsPrefix (so_far ++ part) whole
-    → IsPrefix ((first ++ so_far) ++ part) (first ++ whole)
-front-after first so_far part (more, is) = (
-  more,
-  ap (λ t. first ++ t) is ∙ sym (append_assoc first (so_far ++ part) more)
-      ∙ ap (λ t. t ++ more) (sym (append_assoc first so_far part)),
-)
 
 -- ---- a text on its way, by the states of a sink
 
@@ -89,10 +73,6 @@ stops-front old new text whole fault (more, is) stops =
     subst (λ t. StopsWithin old new t fault) (sym is) (stops-sooner old new text more fault stops)
 
 -- ---- a text after another
-
-pub same-then : {S : Type 0} {old between new : Output S} → IsSame old between → IsSame between new
-    → IsSame old new
-same-then first second = record { sink = second.sink ∙ first.sink; pending = second.pending ∙ first.pending }
 
 -- nothing was pending at first, and this is how the sink was left
 abbrev pub Begins : {S : Type 0} → (sink last new : S) → (old : Output S) → Type 0
@@ -225,28 +205,117 @@ module _ {S : Type 0} {state : S → SinkState} where
     text-written sink last new (Err fault) begins first stops =
         sink-fails sink last new fault begins first stops
 
--- ---- a text for each item
+-- texts, each with the byte that ends it
+abbrev pub ended : ℕ → List (Bor (List ℕ)) → List ℕ
+ended end texts = flat_map (λ text. text ++ end ∷ []) (map (λ text. text.now) texts)
 
-module _ {X : Type 0} (f : X → List ℕ) (items : List X) where
-  module _ (i : ℕ) (d : X) (below : i < length items) (part : List ℕ) (is : part ≡ f (get_or items i d)) where
-    -- the text of one more item
-    pub items-next : flat_map f (take i items) ++ part ≡ flat_map f (take (i + 1) items)
-    items-next =
-        ap (λ t. flat_map f (take i items) ++ t) (is ∙ sym (append-nil (f (get_or items i d))))
-        ∙ sym (flat_map-append f (take i items) (get_or items i d ∷ []))
-        ∙ ap (flat_map f) (sym (take_more items i d below))
+-- ---- what is left of a text
 
-    -- it begins the text of all
-    pub items-front : (whole : List ℕ) → flat_map f items ≡ whole
-        → IsPrefix (flat_map f (take i items) ++ part) whole
-    items-front whole all =
-        let rest = drop (i + 1) items in (
-          flat_map f rest,
-          sym all ∙ ap (flat_map f) (sym (take-append-drop (i + 1) items))
-              ∙ flat_map-append f (take (i + 1) items) rest ∙ ap (λ t. t ++ flat_map f rest) (sym items-next),
-        )
+module _ {S : Type 0} {state : S → SinkState} where
+  -- all of it, at first
+  pub leaves_all : (out : Output S) (whole left : List ℕ) → left ≡ whole → Leaves state out out whole left
+  leaves_all out whole left is = record { text = []; added = adds-nothing out; parts = is }
 
-  -- the texts of all items
-  pub items-are : (i : ℕ) → length items ≤ i → (whole : List ℕ) → flat_map f items ≡ whole
-      → flat_map f (take i items) ≡ whole
-  items-are i over whole all = ap (flat_map f) (take_all i items over) ∙ all
+  pub leaves_same : {old now : Output S} {whole before : List ℕ} (left : List ℕ)
+      → Leaves state old now whole before → before ≡ left → Leaves state old now whole left
+  leaves_same {old} {now} {whole} left so_far is = subst (Leaves state old now whole) is so_far
+
+  -- nothing more
+  pub leaves_none : {old now : Output S} {whole left : List ℕ} → Leaves state old now whole left → left ≡ []
+      → Adds state old now whole
+  leaves_none so_far none =
+      adds-is _ (sym (append-nil so_far.text) ∙ ap (λ t. so_far.text ++ t) (sym none) ∙ so_far.parts)
+      so_far.added
+
+  -- the first part of it was added
+  pub leaves_next : {old now new : Output S} {whole before : List ℕ} (part left : List ℕ)
+      → Leaves state old now whole before → before ≡ part ++ left → Adds state now new part
+      → Leaves state old new whole left
+  leaves_next part left so_far is next = record {
+    text = so_far.text ++ part;
+    added = adds-next _ refl so_far.added next;
+    parts = append_assoc so_far.text part left ∙ ap (λ t. so_far.text ++ t) (sym is) ∙ so_far.parts;
+  }
+
+  -- a fault stopped it within that part
+  pub stops_next : {old now new : Output S} {whole before : List ℕ} {fault : ToolFault} (part left : List ℕ)
+      → Leaves state old now whole before → before ≡ part ++ left → Stops state now new part fault
+      → Stops state old new whole fault
+  stops_next part left so_far is stops =
+      stops-next _ (
+        left,
+        sym (append_assoc so_far.text part left ∙ ap (λ t. so_far.text ++ t) (sym is)
+            ∙ so_far.parts),
+      ) so_far.added stops
+
+  -- a part became pending, and then a block was written if it was full
+  module _ {now between new : Output S} (part : List ℕ) (same : between.sink.now ≡ now.sink.now)
+      (more : between.pending.now.items ≡ now.pending.now.items ++ part) where
+    pub adds_block : Adds state between new [] → Adds state now new part
+    adds_block block = adds-next _ (append-nil part) (adds-pending part same more) block
+
+    pub stops_block : {fault : ToolFault} → Stops state between new [] fault → Stops state now new part fault
+    stops_block stops = stops-next part (front-is _ (append-nil part)) (adds-pending part same more) stops
+
+  -- there was no memory for a part
+  pub stops_memory : {old now : Output S} {whole left : List ℕ} → Leaves state old now whole left
+      → (new : Output S) → new.sink.now ≡ now.sink.now → Stops state old new whole OutOfMemory
+  stops_memory {old} {now} {whole} {left} so_far new same =
+      let (front, parts, taken) = so_far.added.underway in
+      let before = old.pending.now.items in
+      let joined =
+      ap (λ t. before ++ t) (sym so_far.parts) ∙ sym (append_assoc before so_far.text left)
+      ∙ ap (λ t. t ++ left) parts ∙ append_assoc front now.pending.now.items left in
+      record { within = (front, (now.pending.now.items ++ left, joined), rw same taken) }
+
+-- ---- items one after another
+
+module _ {S X : Type 0} {state : S → SinkState} {text_of : X → List ℕ} {P : X → Type 0} where
+  -- all of them, at first
+  pub each_first : (out : Output S) (whole : List ℕ) (items : List X) → AllByRecursion P items
+      → flat_map text_of items ≡ whole → LeavesEach state text_of P out out whole items
+  each_first out whole items all is =
+      record { all = all; left = leaves_all out whole (flat_map text_of items) is }
+
+  module _ {old now : Output S} {whole : List ℕ} {before : List X}
+      (so_far : LeavesEach state text_of P old now whole before) where
+    -- there was no memory for one
+    pub each_memory : (new : Output S) → new.sink.now ≡ now.sink.now → Stops state old new whole OutOfMemory
+    each_memory new same = stops_memory so_far.left new same
+
+    -- there are no more
+    pub each_done : before ≡ [] → Adds state old now whole
+    each_done none = leaves_none so_far.left (ap (flat_map text_of) none)
+
+    -- the text of the next one became pending, and then a block was written if it was full
+    module _ {item : X} {after : List X} (is : before ≡ item ∷ after) where
+      all_of : P item × AllByRecursion P after
+      all_of = rw is at so_far.all
+
+      module _ {between new : Output S} (same : between.sink.now ≡ now.sink.now)
+          (more : P item → between.pending.now.items ≡ now.pending.now.items ++ text_of item) where
+        pub each_next : Adds state between new [] → LeavesEach state text_of P old new whole after
+        each_next block = record {
+          all = all_of.1;
+          left = leaves_next _ _ so_far.left (ap (flat_map text_of) is)
+              (adds_block (text_of item) same (more all_of.0) block);
+        }
+
+        pub each_stops : {fault : ToolFault} → Stops state between new [] fault
+            → Stops state old new whole fault
+        each_stops stops = stops_next _ _ so_far.left (ap (flat_map text_of) is)
+            (stops_block (text_of item) same (more all_of.0) stops)
+
+      -- the text of the next one was added
+      pub each_put : {new : Output S} → (P item → Adds state now new (text_of item))
+          → LeavesEach state text_of P old new whole after
+      each_put added = record {
+        all = all_of.1;
+        left = leaves_next _ _ so_far.left (ap (flat_map text_of) is) (added all_of.0);
+      }
+
+      -- a fault stopped it within that text
+      pub each_put_stops : {new : Output S} {fault : ToolFault}
+          → (P item → Stops state now new (text_of item) fault)
+          → Stops state old new whole fault
+      each_put_stops stops = stops_next _ _ so_far.left (ap (flat_map text_of) is) (stops all_of.0)

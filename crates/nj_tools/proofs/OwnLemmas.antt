@@ -1,117 +1,99 @@
--- How the writing of the targets' own commands continues with one target.
-use Rattle.std.proofs.Common.{◌≡◌, ℕ, ◌+◌, ◌<◌, Bool, true, false, not, ◌&&◌, ◌||◌, Option, Some, None, List}
-use Rattle.std.proofs.Common.{[], ◌∷◌, ◌++◌, length, get_or, take, drop, refl, sym, ap, subst, ◌∙◌}
-use Rattle.std.proofs.Common.{take-append-drop}
-use Rattle.std.specs.Prelude.{nat_eq, filter, map}
+-- The commands of targets' own makers, one target after another.
+use Rattle.std.proofs.Common.{◌≡◌, ℕ, Bool, true, false, not, ◌&&◌, ◌||◌, cond, if◌then◌else◌, Option, Some}
+use Rattle.std.proofs.Common.{None}
+use Rattle.std.proofs.Common.{List, [], ◌∷◌, ◌++◌, refl, sym, ap, ◌∙◌}
+use Rattle.std.proofs.Common.{append-nil}
+use Rattle.std.specs.Prelude.{nat_eq, filter}
 use Rattle.std.specs.List.{list_any, flat_map}
-use Rattle.std.proofs.lemmas.List.{map-append, take_more}
-use Rattle.std.proofs.lemmas.List.Concat.{flat_map-append}
-use Rattle.std.proofs.lemmas.List.Elements.{filter-append, filter_agree}
-use Rattle.nj_scope.specs.Readings.{IsPrefix}
-use Rattle.nj_scope.specs.ReadingList.{ReadStatement}
-use Rattle.nj_names.specs.declared.files.FileNo.{FileNo}
-use Rattle.nj_edges.specs.EdgeGraphs.{EdgeGraph}
+use Rattle.std.proofs.lemmas.List.Elements.{filter_agree}
+use Rattle.std.proofs.lemmas.List.Folds.{list_any-append}
 use Rattle.nj_edges.specs.Edges.{maker_of}
-use Rattle.nj_names.specs.Files.{path_at}
-use Rattle.nj_needs.specs.Graphs.{row_of, row_of_paths, is_phony}
+use Rattle.nj_edges.specs.Repeats.{each_once}
+use Rattle.nj_needs.specs.Graphs.{row_of_paths, is_phony_in}
 use Rattle.nj_needs.specs.Marks.{without}
 use Rattle.nj_needs.specs.Order.{made_by}
-use Rattle.nj_edges.specs.Repeats.{each_once}
 use Rattle.nj_needs.proofs.Striking.{filter-filter, without-none}
-use Rattle.nj_tools.specs.CommandStrings.{command_lines, own_commands}
-use Rattle.nj_tools.specs.Inside.Collections.{single, own_makers}
-use Rattle.nj_tools.specs.Inside.Seen.{AreSeen, new_commands}
-use Rattle.nj_tools.proofs.CommandLemmas.{lines-front}
+use Rattle.nj_graph.specs.Graph.{GraphModel, edges_of}
+use Rattle.nj_graph.specs.Handles.{GraphFile, files_in}
+use Rattle.nj_tools.specs.CommandStrings.{own_commands_in}
+use Rattle.nj_tools.specs.Inside.Seen.{makers_of_file, new_command, new_of, single}
 
--- ---- repeats
+-- the commands that are left of these targets
+abbrev pub own_left : (earlier : List ℕ) → List GraphFile → List ℕ
+own_left earlier [] = []
+own_left earlier (file ∷ files) =
+    made_by single (new_command file earlier) ++ own_left (earlier ++ makers_of_file file) files
 
-not_or : (a b : Bool) → not (a || b) ≡ (not b && not a)
-not_or true true = refl
-not_or true false = refl
-not_or false true = refl
-not_or false false = refl
+module _ (g : GraphModel) where
+  has_command : ℕ → Bool
+  has_command e = not (is_phony_in (edges_of g) e)
 
--- without an edge more
-without-cons : (x : ℕ) (xs es : List ℕ) → filter (λ y. not (nat_eq y x)) (without xs es) ≡ without (x ∷ xs) es
-without-cons x xs es =
-    filter-filter (λ y. not (nat_eq y x)) (λ y. not (list_any (nat_eq y) xs)) es
-    ∙ sym (filter_agree (λ y. not (nat_eq y x || list_any (nat_eq y) xs))
-    (λ y. not (list_any (nat_eq y) xs) && not (nat_eq y x))
-    (λ y. not_or (nat_eq y x) (list_any (nat_eq y) xs)) es)
+  -- those among edges that have a command and were not met earlier
+  new_among : (earlier edges : List ℕ) → List ℕ
+  new_among earlier edges = filter has_command (without earlier (each_once nat_eq edges))
 
--- of two lists after each other, the first without its repeats, and then the new elements of the
--- second
-first-append : (xs ys : List ℕ) → each_once nat_eq (xs ++ ys)
-    ≡ each_once nat_eq xs ++ without xs (each_once nat_eq ys)
-first-append [] ys = sym (without-none (each_once nat_eq ys))
-first-append (x ∷ xs) ys =
-    let p : ℕ → Bool = λ y. not (nat_eq y x) in
-    ap (λ es. x ∷ filter p es) (first-append xs ys)
-    ∙ ap (λ es. x ∷ es) (filter-append p (each_once nat_eq xs) (without xs (each_once nat_eq ys))
-    ∙ ap (λ es. filter p (each_once nat_eq xs) ++ es) (without-cons x xs (each_once nat_eq ys)))
+  not_more : (a c : Bool) → (not c && not a) ≡ not (a || (c || false))
+  not_more true true = refl
+  not_more true false = refl
+  not_more false true = refl
+  not_more false false = refl
 
--- ---- makers
+  -- one of them comes first
+  first-new : (earlier : List ℕ) (e : ℕ) (edges : List ℕ)
+      → new_among earlier (e ∷ edges)
+      ≡ made_by single (new_of g earlier (Some e)) ++ new_among (earlier ++ single e) edges
+  unfolding new_among has_command
+  first-new earlier e edges =
+      by (list_any (nat_eq e) earlier)
+      ∙ ap (λ es. made_by single (new_of g earlier (Some e)) ++ filter has_command es)
+      (filter-filter unseen other once ∙ filter_agree (λ y. other y && unseen y)
+      (λ y. not (list_any (nat_eq y) (earlier ++ single e)))
+      (λ y. not_more (list_any (nat_eq y) earlier) (nat_eq y e)
+      ∙ ap not (sym (list_any-append (nat_eq y) earlier (e ∷ [])))) once)
+    where
+      unseen : ℕ → Bool
+      unseen y = not (list_any (nat_eq y) earlier)
 
-makers-append : (g : EdgeGraph) (files more : List FileNo)
-    → own_makers g (files ++ more) ≡ own_makers g files ++ own_makers g more
-makers-append g files more =
-    ap (λ paths. flat_map (made_by single) (row_of_paths g.edges paths))
-    (map-append (path_at g.files) files more)
-    ∙ ap (flat_map (made_by single)) (map-append (maker_of g.edges) (map (path_at g.files) files)
-    (map (path_at g.files) more))
-    ∙ flat_map-append (made_by single) (row_of g files) (row_of g more)
+      other : ℕ → Bool
+      other y = not (nat_eq y e)
 
-pub own-append : (g : EdgeGraph) (files more : List FileNo)
-    → own_commands g (files ++ more) ≡ own_commands g files
-    ++ new_commands g (own_makers g files) (each_once nat_eq (own_makers g more))
-own-append g files more =
-    ap (λ es. filter (λ e. not (is_phony g e)) (each_once nat_eq es)) (makers-append g files more)
-    ∙ ap (filter (λ e. not (is_phony g e))) (first-append (own_makers g files) (own_makers g more))
-    ∙ filter-append (λ e. not (is_phony g e)) (each_once nat_eq (own_makers g files))
-    (without (own_makers g files) (each_once nat_eq (own_makers g more)))
+      once : List ℕ
+      once = each_once nat_eq edges
 
--- the maker of one file has no repeats
-first-single : (g : EdgeGraph) (file : FileNo)
-    → each_once nat_eq (own_makers g (file ∷ [])) ≡ own_makers g (file ∷ [])
-first-single g file = by_maker (maker_of g.edges (path_at g.files file))
-  where
-    by_maker : (o : Option ℕ) → each_once nat_eq (flat_map (made_by single) (o ∷ []))
-        ≡ flat_map (made_by single) (o ∷ [])
-    by_maker None = refl
-    by_maker (Some e) = refl
+      others : List ℕ
+      others = filter unseen (filter other once)
 
--- one more target
-pub own-next : (g : EdgeGraph) (files : List FileNo) (file : FileNo)
-    → own_commands g (files ++ file ∷ []) ≡ own_commands g files
-    ++ new_commands g (own_makers g files) (own_makers g (file ∷ []))
-own-next g files file = own-append g files (file ∷ [])
-    ∙ ap (λ es. own_commands g files ++ new_commands g (own_makers g files) es) (first-single g file)
+      with_command : (h : Bool) → cond h (e ∷ filter has_command others) (filter has_command others)
+          ≡ made_by single (if h then Some e else None) ++ filter has_command others
+      with_command true = refl
+      with_command false = refl
 
--- one more target, whose maker is written or not
-pub own-more : (g : EdgeGraph) (targets : List FileNo) (i : ℕ) (d : FileNo) (edges : List ℕ)
-    → i < length targets
-    → edges ≡ new_commands g (own_makers g (take i targets)) (own_makers g (get_or targets i d ∷ []))
-    → own_commands g (take (i + 1) targets) ≡ own_commands g (take i targets) ++ edges
-own-more g targets i d edges lt new =
-    ap (own_commands g) (take_more targets i d lt) ∙ own-next g (take i targets) (get_or targets i d)
-    ∙ ap (λ es. own_commands g (take i targets) ++ es) (sym new)
+      by : (b : Bool) → filter has_command (cond (not b) (e ∷ others) others)
+          ≡ made_by single (if not b && has_command e then Some e else None) ++ filter has_command others
+      by true = refl
+      by false = with_command (has_command e)
 
--- the lines of the first targets are a front of all
-pub own-front : (entries : List ReadStatement) (g : EdgeGraph) (targets : List FileNo) (i : ℕ)
-    → IsPrefix (command_lines entries (own_commands g (take i targets)))
-    (command_lines entries (own_commands g targets))
-own-front entries g targets i =
-    lines-front entries (own_commands g (take i targets)) _ (own_commands g targets)
-    (ap (own_commands g) (sym (take-append-drop i targets))
-    ∙ own-append g (take i targets) (drop i targets))
+  own-is : (earlier : List ℕ) (paths : List (List ℕ))
+      → own_left earlier (files_in g paths)
+      ≡ new_among earlier (flat_map (made_by single) (row_of_paths (edges_of g) paths))
+  unfolding new_among
+  own-is earlier [] = refl
+  own-is earlier (path ∷ paths) = by (λ es. own-is es paths) (maker_of (edges_of g) path)
+    where
+      rest : List ℕ
+      rest = flat_map (made_by single) (row_of_paths (edges_of g) paths)
 
--- ---- flags
+      by : ((es : List ℕ) → own_left es (files_in g paths) ≡ new_among es rest)
+          → (m : Option ℕ) → made_by single (new_of g earlier m)
+          ++ own_left (earlier ++ made_by single m) (files_in g paths)
+          ≡ new_among earlier (made_by single m ++ rest)
+      by others None = ap (λ es. own_left es (files_in g paths)) (append-nil earlier) ∙ others earlier
+      by others (Some e) = ap (λ es. made_by single (new_of g earlier (Some e)) ++ es)
+          (others (earlier ++ single e))
+          ∙ sym (first-new earlier e rest)
 
--- one more target
-pub AreSeen-more : (g : EdgeGraph) (targets : List FileNo) (i : ℕ) (d : FileNo) (flags : List Bool)
-    → i < length targets
-    → AreSeen g flags (own_makers g (take i targets) ++ own_makers g (get_or targets i d ∷ []))
-    → AreSeen g flags (own_makers g (take (i + 1) targets))
-AreSeen-more g targets i d flags lt seen =
-    subst (AreSeen g flags) (sym (ap (own_makers g) (take_more targets i d lt)
-    ∙ makers-append g (take i targets) (get_or targets i d ∷ []))) seen
+  pub own-all : (paths : List (List ℕ)) → own_left [] (files_in g paths) ≡ own_commands_in (edges_of g) paths
+  unfolding new_among has_command
+  own-all paths = own-is [] paths
+      ∙ ap (filter has_command) (without-none (each_once nat_eq
+      (flat_map (made_by single) (row_of_paths (edges_of g) paths))))

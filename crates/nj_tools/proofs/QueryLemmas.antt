@@ -1,147 +1,96 @@
--- How `query` writes files and edges one after another.
-use Rattle.std.proofs.Common.{◌≡◌, ℕ, suc, ◌==◌, true, false, Option, Some, None, option_map, unwrap_or, List}
-use Rattle.std.proofs.Common.{[], ◌∷◌, ◌++◌, length, map, refl, sym, ap, ◌∙◌, append-nil}
-use Rattle.std.proofs.Common.{true≢false, arith}
-use Rattle.std.specs.Prelude.{codes, slice_get}
+-- How the lines of files and edges are made one after another.
+use Rattle.std.proofs.Common.{◌≡◌, ℕ, Some, if◌then◌else◌, List, [], ◌∷◌, ◌++◌, refl, sym, ap, ◌∙◌}
+use Rattle.std.specs.Prelude.{codes}
 use Rattle.std.specs.List.{flat_map}
-use Rattle.std.proofs.lemmas.Grind.{common_steps}
 use Rattle.std.proofs.lemmas.List.Concat.{flat_map-append}
 use Rattle.std.proofs.lemmas.List.Folds.{flat_map-map}
+use Rattle.nj_text.specs.Calls.{is_empty}
 use Rattle.nj_scope.specs.ReadingList.{ReadStatement}
-use Rattle.nj_edges.specs.declared.edges.EdgeNo.{EdgeNo}
-use Rattle.nj_names.specs.declared.files.FileNo.{FileNo}
 use Rattle.nj_edges.specs.Edges.{EdgePaths, edge_at, outputs_of, maker_of, users_of, validation_users_of}
-use Rattle.nj_names.specs.Files.{path_at}
-use Rattle.nj_statements.specs.EdgeList.{edges_read, paths_of_edges}
-use Rattle.nj_graph.specs.Graph.{GraphModel, IsGraphOf, edges_of, files_of, rule_name_at}
+use Rattle.nj_graph.specs.Graph.{GraphModel, IsGraphOf, edges_of, rule_name_at}
+use Rattle.nj_graph.specs.Handles.{GraphEdge, GraphFile, edges_in, file_in, files_in}
 use Rattle.nj_graph.proofs.Stated.{graph-edges}
 use Rattle.nj_tools.specs.Lines.{line, lines_after}
 use Rattle.nj_tools.specs.Queries.{section, inputs_by_kind, maker_text, outputs_of_all, query_in, query_text}
-use Rattle.nj_tools.specs.Inside.QueriesHeld.{validations_section, validated_section}
+use Rattle.nj_tools.specs.Inside.Pieces.{output_lines, path_lines, query_of_file, validated_lines}
+use Rattle.nj_tools.specs.Inside.Pieces.{validation_lines}
 
--- ---- files and edges
+-- the files of paths
+pub lines_in : (beginning : List ℕ) (g : GraphModel) (paths : List (List ℕ))
+    → path_lines beginning (files_in g paths) ≡ lines_after beginning paths
+lines_in beginning g paths = flat_map-map (λ file. line (beginning ++ file.path)) (file_in g) paths
 
--- the line of a file
-abbrev pub file_line : (files : List (List ℕ)) → (beginning : List ℕ) → FileNo → List ℕ
-file_line files beginning file = line (beginning ++ path_at files file)
+-- the validations of an edge
+validations_in : (g : GraphModel) (paths : List (List ℕ))
+    → validation_lines (files_in g paths)
+    ≡ (if is_empty paths then [] else section (codes "  validations:") paths)
+unfolding section
+validations_in g [] = refl
+validations_in g (path ∷ paths) =
+    ap (λ t. line (codes "  validations:") ++ t) (lines_in (codes "    ") g (path ∷ paths))
 
-pub file_line-is : (files : List (List ℕ)) (beginning : List ℕ) (file : FileNo) (path : List ℕ)
-    → slice_get files file.0 ≡ Some path
-    → line ((beginning ++ path) ++ []) ≡ file_line files beginning file
-file_line-is files beginning file path is =
-    ap line (append-nil (beginning ++ path)) ∙ sym (ap (λ o. line (beginning ++ unwrap_or o [])) is)
+-- the inputs of an edge by kind
+pub kinds_are : (g : GraphModel) (e : EdgePaths) (first second third : List GraphFile)
+    → first ≡ files_in g e.explicit_inputs → second ≡ files_in g e.implicit_inputs
+    → third ≡ files_in g e.order_only_inputs
+    → path_lines (codes "    ") first ++ path_lines (codes "    | ") second
+    ++ path_lines (codes "    || ") third ≡ inputs_by_kind e
+unfolding inputs_by_kind
+kinds_are g e first second third first_is second_is third_is =
+    (λ i. (ap (path_lines (codes "    ")) first_is ∙ lines_in (codes "    ") g e.explicit_inputs) i
+    ++ (ap (path_lines (codes "    | ")) second_is ∙ lines_in (codes "    | ") g e.implicit_inputs) i
+    ++ (ap (path_lines (codes "    || ")) third_is ∙ lines_in (codes "    || ") g e.order_only_inputs) i)
 
-pub file_lines-are : (files : List (List ℕ)) (beginning : List ℕ) (numbers : List FileNo)
-    → flat_map (file_line files beginning) numbers ≡ lines_after beginning (map (path_at files) numbers)
-file_lines-are files beginning numbers =
-    sym (flat_map-map (λ path. line (beginning ++ path)) (path_at files) numbers)
-
-abbrev pub number_of : EdgeNo → ℕ
-number_of edge = edge.0
-
-pub title-is : (title : List ℕ) → line ((title ++ []) ++ []) ≡ line title
-title-is title = ap line (append-nil (title ++ []) ∙ append-nil title)
-
--- the lines of the outputs of an edge
-abbrev pub output_lines : List EdgePaths → EdgeNo → List ℕ
-output_lines edges edge = lines_after (codes "    ") (outputs_of (edge_at edges edge.0))
-
-pub output_lines-are : (edges : List EdgePaths) (numbers : List EdgeNo)
-    → flat_map (output_lines edges) numbers
-    ≡ lines_after (codes "    ") (outputs_of_all edges (map (λ edge. edge.0) numbers))
-output_lines-are edges [] = refl
-output_lines-are edges (edge ∷ numbers) =
-    ap (λ t. output_lines edges edge ++ t) (output_lines-are edges numbers)
-    ∙ sym (flat_map-append (λ path. line (codes "    " ++ path)) (outputs_of (edge_at edges edge.0))
-    (outputs_of_all edges (map (λ edge. edge.0) numbers)))
-
--- the text for a file
-abbrev pub file_text : List ReadStatement → GraphModel → FileNo → List ℕ
-file_text entries g file = query_in entries (edges_of g) (path_at (files_of g) file)
-
-pub file_strings-are : (entries : List ReadStatement) (g : GraphModel) (numbers : List FileNo)
-    → IsGraphOf g entries
-    → flat_map (file_text entries g) numbers ≡ query_text entries (map (path_at (files_of g)) numbers)
-file_strings-are entries g numbers is =
-    ap (λ edges. flat_map (λ file. query_in entries edges (path_at (files_of g) file)) numbers)
-    (graph-edges is)
-    ∙ sym (flat_map-map (query_in entries (paths_of_edges (edges_read entries))) (path_at (files_of g))
-    numbers)
-
--- ---- sections
-
-pub none-listed : {X Y : Type 0} (f : X → Y) (xs : List X) → true ≡ (length xs == 0) → map f xs ≡ []
-none-listed f [] none = refl
-none-listed f (x ∷ xs) none = absurd (true≢false (none ∙ never (length xs)))
-  where
-    never : (n : ℕ) → (suc n == 0) ≡ false
-    never n = grind (arith, common_steps)
-
-pub some-listed : {X Y : Type 0} (f : X → Y) (xs : List X) → false ≡ (length xs == 0) → map f xs ≡ [] → ⊥
-some-listed f [] some none = absurd (true≢false (sym some))
-some-listed f (x ∷ xs) some none = absurd cc
-
-pub validations-none : (paths : List (List ℕ)) → paths ≡ [] → validations_section paths ≡ []
-unfolding validations_section
-validations-none [] none = refl
-validations-none (path ∷ paths) none = absurd cc
-
-pub validations-some : (paths : List (List ℕ)) → (paths ≡ [] → ⊥)
-    → validations_section paths ≡ line (codes "  validations:") ++ lines_after (codes "    ") paths
-unfolding validations_section section
-validations-some [] some = absurd (some refl)
-validations-some (path ∷ paths) some = refl
-
-pub validated-none : (edges : List EdgePaths) (users : List ℕ) → users ≡ []
-    → validated_section edges users ≡ []
-unfolding validated_section
-validated-none edges [] none = refl
-validated-none edges (user ∷ users) none = absurd cc
-
-pub validated-some : (edges : List EdgePaths) (users : List ℕ) → (users ≡ [] → ⊥)
-    → validated_section edges users ≡ line (codes "  validation for:")
-    ++ lines_after (codes "    ") (outputs_of_all edges users)
-unfolding validated_section section
-validated-some edges [] some = absurd (some refl)
-validated-some edges (user ∷ users) some = refl
-
--- ---- parts
-
-pub maker-none : (entries : List ReadStatement) (edges : List EdgePaths) → maker_text entries edges None ≡ []
+-- the parts of the text for the edge that makes a file
+pub maker_is : (entries : List ReadStatement) (g : GraphModel) (number : ℕ) (rule : List ℕ)
+    (validations : List GraphFile)
+    → let e = edge_at (edges_of g) number in
+    rule ≡ rule_name_at entries number → validations ≡ files_in g e.validations
+    → line (codes "  input: " ++ rule) ++ inputs_by_kind e ++ validation_lines validations
+    ≡ maker_text entries (edges_of g) (Some number)
 unfolding maker_text
-maker-none entries edges = refl
+maker_is entries g number rule validations rule_is are =
+    let e = edge_at (edges_of g) number in
+    (λ i. line (codes "  input: " ++ rule_is i) ++ inputs_by_kind e
+    ++ (ap validation_lines are ∙ validations_in g e.validations) i)
 
--- the parts of the edge that makes a file
-pub maker-is : (entries : List ReadStatement) (edges : List EdgePaths) (maker : Option EdgeNo) (edge : EdgeNo)
-    → maker ≡ Some edge
-    → let e = edge_at edges edge.0 in
-    (line (codes "  input: " ++ rule_name_at entries edge.0) ++ inputs_by_kind e)
-    ++ validations_section e.validations
-    ≡ maker_text entries edges (option_map number_of maker)
-unfolding maker_text validations_section
-maker-is entries edges maker edge is = sym (ap (λ m. maker_text entries edges (option_map number_of m)) is)
+-- the edges of numbers
+pub outputs_in : (g : GraphModel) (numbers : List ℕ)
+    → output_lines (edges_in g numbers) ≡ lines_after (codes "    ") (outputs_of_all (edges_of g) numbers)
+outputs_in g [] = refl
+outputs_in g (n ∷ numbers) =
+    let outputs = outputs_of (edge_at (edges_of g) n) in
+    ap (λ t. lines_after (codes "    ") outputs ++ t) (outputs_in g numbers)
+    ∙ sym (flat_map-append (λ path. line (codes "    " ++ path)) outputs
+    (outputs_of_all (edges_of g) numbers))
 
--- the outputs of the users of a file
-abbrev pub users_part : List EdgePaths → (users : List ℕ) → List ℕ
-users_part edges users = line (codes "  outputs:") ++ lines_after (codes "    ") (outputs_of_all edges users)
+pub queries_in : (entries : List ReadStatement) (g : GraphModel) (paths : List (List ℕ)) → IsGraphOf g entries
+    → flat_map (query_of_file entries) (files_in g paths) ≡ query_text entries paths
+queries_in entries g paths is =
+    flat_map-map (query_of_file entries) (file_in g) paths
+    ∙ ap (λ edges. flat_map (query_in entries edges) paths) (graph-edges is)
 
-pub path-is : (files : List (List ℕ)) (file : FileNo) (path : List ℕ) → slice_get files file.0 ≡ Some path
-    → path ≡ path_at files file
-path-is files file path is = sym (ap (λ o. unwrap_or o []) is)
+-- the edges that name a file as a validation
+validated_in : (g : GraphModel) (users : List ℕ)
+    → validated_lines (edges_in g users)
+    ≡ (if is_empty users then [] else section (codes "  validation for:") (outputs_of_all (edges_of g) users))
+unfolding section
+validated_in g [] = refl
+validated_in g (user ∷ users) =
+    ap (λ t. line (codes "  validation for:") ++ t) (outputs_in g (user ∷ users))
 
 -- the parts of the text for a file
-pub file-is : (entries : List ReadStatement) (g : GraphModel) (file : FileNo)
+pub query_is : (entries : List ReadStatement) (g : GraphModel) (path name : List ℕ)
+    (users validated : List GraphEdge)
     → let edges = edges_of g in
-    let at = path_at (files_of g) file in
-    ((line (at ++ codes ":") ++ maker_text entries edges (maker_of edges at)) ++ users_part edges
-    (users_of edges at))
-    ++ validated_section edges (validation_users_of edges at) ≡ file_text entries g file
-unfolding query_in section validated_section
-file-is entries g file = refl
-
--- the inputs by kind
-pub kinds-are : (e : EdgePaths)
-    → (lines_after (codes "    ") e.explicit_inputs ++ lines_after (codes "    | ") e.implicit_inputs)
-    ++ lines_after (codes "    || ") e.order_only_inputs ≡ inputs_by_kind e
-unfolding inputs_by_kind
-kinds-are e = refl
+    name ≡ path → users ≡ edges_in g (users_of edges path)
+    → validated ≡ edges_in g (validation_users_of edges path)
+    → line (name ++ codes ":") ++ maker_text entries edges (maker_of edges path)
+    ++ (line (codes "  outputs:") ++ output_lines users) ++ validated_lines validated
+    ≡ query_in entries edges path
+unfolding query_in section
+query_is entries g path name users validated name_is users_are validated_are =
+    let edges = edges_of g in
+    (λ i. line (name_is i ++ codes ":") ++ maker_text entries edges (maker_of edges path)
+    ++ (line (codes "  outputs:") ++ (ap output_lines users_are ∙ outputs_in g (users_of edges path)) i)
+    ++ (ap validated_lines validated_are ∙ validated_in g (validation_users_of edges path)) i)

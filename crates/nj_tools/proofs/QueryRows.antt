@@ -1,11 +1,14 @@
 -- Worked rows of `query` and `rules`, computed on the definitions.
-use Rattle.std.proofs.Common.{◌≡◌, ℕ, List, [], ◌∷◌, ◌++◌, true, false, refl}
+use Rattle.std.proofs.Common.{◌≡◌, ℕ, List, [], ◌∷◌, ◌++◌, true, false, ap, refl}
 use Rattle.std.specs.Prelude.{codes}
 use Rattle.nj_text.specs.Words.{Text, Name}
 use Rattle.nj_scope.specs.Rules.{RuleModel, phony_rule}
-use Rattle.nj_edges.specs.Edges.{EdgePaths}
+use Rattle.nj_edges.specs.Edges.{EdgePaths, edge_at, outputs_of}
+use Rattle.nj_graph.specs.Graph.{GraphModel, edges_of}
+use Rattle.nj_graph.specs.Handles.{edges_in, files_in}
+use Rattle.nj_tools.specs.Lines.{line, lines_after}
 use Rattle.nj_tools.specs.Queries.{section, inputs_by_kind}
-use Rattle.nj_tools.specs.Inside.QueriesHeld.{validations_section, validated_section}
+use Rattle.nj_tools.specs.Inside.Pieces.{validated_lines, validation_lines}
 use Rattle.nj_tools.specs.RuleLists.{rule_line}
 
 -- the bytes of lines
@@ -44,23 +47,20 @@ empty_section : section (codes "  outputs:") [] ≡ text (codes "  outputs:" ∷
 unfolding section
 empty_section = refl
 
-validated : validations_section (codes "lint" ∷ codes "test" ∷ [])
+validated : (g : GraphModel) → validation_lines (files_in g (codes "lint" ∷ codes "test" ∷ []))
     ≡ text (codes "  validations:" ∷ codes "    lint" ∷ codes "    test" ∷ [])
-unfolding validations_section section
-validated = refl
+validated g = refl
 
-not_validated : validations_section [] ≡ []
-unfolding validations_section
+not_validated : validation_lines [] ≡ []
 not_validated = refl
 
 -- the outputs of the edges that name the file as a validation
-validates : validated_section (object ∷ []) (0 ∷ [])
+validates : (g : GraphModel) → edges_of g ≡ object ∷ [] → validated_lines (edges_in g (0 ∷ []))
     ≡ text (codes "  validation for:" ∷ codes "    a.o" ∷ codes "    a.d" ∷ [])
-unfolding validated_section section
-validates = refl
+validates g is = ap (λ edges. line (codes "  validation for:")
+    ++ (lines_after (codes "    ") (outputs_of (edge_at edges 0)) ++ [])) is
 
-validates_none : validated_section (object ∷ []) [] ≡ []
-unfolding validated_section
+validates_none : validated_lines [] ≡ []
 validates_none = refl
 
 -- ---- rules

@@ -1,9 +1,7 @@
 -- How the quotes of paths are ordered: all in quotes before all others.
-use Rattle.std.proofs.Common.{Less, Equal, Greater, ◌≡◌, ◌==◌, ◌<◌, ◌≤◌, ◌+◌, ℕ, Bool, true, false, not}
-use Rattle.std.proofs.Common.{if◌then◌else◌, true≢false, cond, List, [], ◌∷◌, ◌++◌, map, take, length}
-use Rattle.std.proofs.Common.{get_or, refl, sym, ap, ◌∙◌, arith}
-use Rattle.std.proofs.lemmas.List.{take_more, map-append}
-use Rattle.std.proofs.lemmas.List.Elements.{filter-append}
+use Rattle.std.proofs.Common.{Less, Equal, Greater, ◌≡◌, ◌==◌, ◌<◌, ◌≤◌, ℕ, Bool, true, false, not}
+use Rattle.std.proofs.Common.{if◌then◌else◌, true≢false, cond, List, [], ◌∷◌, ◌++◌}
+use Rattle.std.proofs.Common.{refl, sym, ap, append_assoc, append-nil, ◌∙◌, arith}
 use Rattle.std.specs.List.{list_all}
 use Rattle.std.specs.Ordering.{is_lt, ordering_then, nat_cmp}
 use Rattle.std.specs.Cmp.Lexicographic.{slice_cmp}
@@ -44,32 +42,17 @@ plain-quote path = by (list_all is_plain_byte path)
     by true h = refl
     by false h = absurd (true≢false h)
 
--- ---- one more path
+-- ---- one more text
 
-module _ {X : Type 0} (path : X → List ℕ) (xs : List X) (i : ℕ) (d : X) (below : i < length xs)
-    (quote : List ℕ) (is : quote ≡ quoted (path (get_or xs i d))) where
-  more : map quoted (map path (take (i + 1) xs)) ≡ map quoted (map path (take i xs)) ++ quote ∷ []
-  more =
-      ap (λ ys. map quoted (map path ys)) (take_more xs i d below)
-      ∙ ap (map quoted) (map-append path (take i xs) (get_or xs i d ∷ []))
-      ∙ map-append quoted (map path (take i xs)) (path (get_or xs i d) ∷ [])
-      ∙ ap (λ t. map quoted (map path (take i xs)) ++ t ∷ []) (sym is)
-
-  -- those that pass a test
-  passing-more : (p : List ℕ → Bool) (b : Bool) → p quote ≡ b
-      → filter p (map quoted (map path (take (i + 1) xs)))
-      ≡ filter p (map quoted (map path (take i xs))) ++ cond b (quote ∷ []) []
-  passing-more p b test =
-      ap (filter p) more ∙ filter-append p (map quoted (map path (take i xs))) (quote ∷ [])
-      ∙ ap (λ t. filter p (map quoted (map path (take i xs))) ++ cond t (quote ∷ []) []) test
-
-  pub quoted-more : (b : Bool) → precedes_plain quote ≡ b
-      → filter precedes_plain (map quoted (map path (take (i + 1) xs)))
-      ≡ filter precedes_plain (map quoted (map path (take i xs))) ++ cond b (quote ∷ []) []
-  quoted-more b test = passing-more precedes_plain b test
-
-  pub plain-more : (b : Bool) → precedes_plain quote ≡ b
-      → filter (λ text. not (precedes_plain text)) (map quoted (map path (take (i + 1) xs)))
-      ≡ filter (λ text. not (precedes_plain text)) (map quoted (map path (take i xs)))
-      ++ cond (not b) (quote ∷ []) []
-  plain-more b test = passing-more (λ text. not (precedes_plain text)) (not b) (ap not test)
+-- one more of what is left
+pub next-passing : (p : List ℕ → Bool) (b : Bool) (held left : List (List ℕ)) (text : List ℕ)
+    {whole : List (List ℕ)} → p text ≡ b → held ++ filter p (text ∷ left) ≡ whole
+    → (held ++ cond b (text ∷ []) []) ++ filter p left ≡ whole
+next-passing p b held left text is so_far =
+    by b ∙ ap (λ c. held ++ cond c (text ∷ filter p left) (filter p left))
+    (sym is) ∙ so_far
+  where
+    by : (c : Bool) → (held ++ cond c (text ∷ []) []) ++ filter p left
+        ≡ held ++ cond c (text ∷ filter p left) (filter p left)
+    by true = append_assoc held (text ∷ []) (filter p left)
+    by false = ap (λ ts. ts ++ filter p left) (append-nil held)

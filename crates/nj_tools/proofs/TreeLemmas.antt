@@ -1,22 +1,24 @@
 -- How trees are written, row by row.
-use Rattle.std.proofs.Common.{◌≡◌, ℕ, Some, None, unwrap_or, slice_get, codes, zero, suc, ◌+◌, ◌-◌, ◌*◌, ◌<◌}
+use Rattle.std.proofs.Common.{◌≡◌, ℕ, Option, Some, None, subst, codes, zero, suc, ◌+◌, ◌-◌, ◌*◌, ◌<◌}
 use Rattle.std.proofs.Common.{◌≤◌, List, [], ◌∷◌, ◌++◌, length, flat_map, sum_by, refl, sym, ap, ◌∙◌}
-use Rattle.std.proofs.Common.{append_assoc, append-nil, map, take, drop, slice_index_or, All, Bor, arith}
+use Rattle.std.proofs.Common.{append_assoc, append-nil, map, arith}
 use Rattle.std.proofs.Common.{nat_lt, Bool, true, false, if◌then◌else◌}
 use Rattle.std.proofs.lemmas.Bool.Decides.{nat_tests}
-use Rattle.std.proofs.lemmas.List.{length-append, length-map, map-append, take_all}
-use Rattle.std.proofs.lemmas.List.Elements.{All-nil, All-cons, All-pop}
+use Rattle.std.proofs.lemmas.List.{length-append, length-map, map-append}
 use Rattle.std.proofs.lemmas.List.Sums.{sum_by-cons}
 use Rattle.nj_scope.specs.ReadingList.{ReadStatement}
 use Rattle.nj_edges.specs.Edges.{EdgePaths, maker_of, roots_of}
-use Rattle.nj_names.specs.Files.{path_at, AreFiles}
-use Rattle.nj_names.specs.declared.files.FileNo.{FileNo}
+use Rattle.nj_graph.specs.Graph.{GraphModel, IsGraphOf, edges_of, rule_name_at}
+use Rattle.nj_graph.specs.Handles.{GraphFile, files_in}
+use Rattle.nj_graph.proofs.Stated.{graph-edges}
+use Rattle.std.specs.List.{AllByRecursion}
 use Rattle.nj_statements.specs.EdgeList.{edges_read, paths_of_edges}
-use Rattle.nj_statements.proofs.LateLemmas.{paths-are}
-use Rattle.nj_graph.specs.Graph.{rule_name_at}
+use Rattle.nj_tools.proofs.EdgeLists.{all-in, paths-in}
 use Rattle.nj_tools.specs.Lines.{line}
 use Rattle.nj_tools.specs.Listings.{file_line, indent, inputs_of_maker, levels_of, tree_text, trees_text}
-use Rattle.nj_tools.specs.Inside.Trees.{rows_text, tree_lines, rows_lines, rows_after, rows_of, AreKnown}
+use Rattle.nj_tools.specs.Inside.Trees.{AreIn, inputs_below, rows_text, tree_lines, rows_left, rows_lines}
+use Rattle.nj_tools.specs.Inside.Trees.{rows_after}
+use Rattle.nj_tools.specs.Inside.Trees.{rows_of}
 
 -- ---- the text
 
@@ -142,29 +144,20 @@ indent-next text depth =
     append_assoc text (indent depth) (codes "  ") ∙ ap (λ t. text ++ t) (sym (indent-more depth))
     ∙ ap (λ n. text ++ indent n) (sym next)
 
--- the lines of a file that an edge makes
-pub made-line : (entries : List ReadStatement) (edges : List EdgePaths) (files : List (List ℕ))
-    (file : FileNo) (edge : ℕ) (path rule : List ℕ)
-    → Some edge ≡ maker_of edges (path_at files file) → slice_get files file.0 ≡ Some path
-    → rule ≡ rule_name_at entries edge
-    → line (path ++ codes ": " ++ rule) ≡ file_line entries (maker_of edges (path_at files file))
-    (path_at files file)
+-- the line of a file that an edge makes, and of a source
+pub made-line : (entries : List ReadStatement) (maker : Option ℕ) (edge : ℕ) (path rule : List ℕ)
+    → maker ≡ Some edge → rule ≡ rule_name_at entries edge
+    → path ++ line (codes ": " ++ rule) ≡ file_line entries maker path
 unfolding file_line
-made-line entries edges files file edge path rule maker found named =
-    ap (λ r. line (path ++ codes ": " ++ r)) named
-    ∙ ap (λ o. file_line entries (Some edge) (unwrap_or o [])) (sym found)
-    ∙ ap (λ m. file_line entries m (path_at files file)) maker
+made-line entries maker edge path rule made named =
+    sym (ap line (append_assoc path (codes ": ") rule) ∙ append_assoc path (codes ": " ++ rule) (10 ∷ []))
+    ∙ ap (λ r. line (path ++ codes ": " ++ r)) named
+    ∙ ap (λ m. file_line entries m path) (sym made)
 
--- the lines of a source
-pub source-line : (entries : List ReadStatement) (edges : List EdgePaths) (files : List (List ℕ))
-    (file : FileNo) (path : List ℕ)
-    → None ≡ maker_of edges (path_at files file) → slice_get files file.0 ≡ Some path
-    → line (path ++ [] ++ []) ≡ file_line entries (maker_of edges (path_at files file)) (path_at files file)
+pub source-line : (entries : List ReadStatement) (maker : Option ℕ) (path : List ℕ) → maker ≡ None
+    → path ++ line [] ≡ file_line entries maker path
 unfolding file_line
-source-line entries edges files file path maker found =
-    ap line (append-nil (path ++ []) ∙ append-nil path)
-    ∙ ap (λ o. file_line entries None (unwrap_or o [])) (sym found)
-    ∙ ap (λ m. file_line entries m (path_at files file)) maker
+source-line entries maker path none = ap (λ m. file_line entries m path) (sym none)
 
 -- ---- how many lines
 
@@ -292,147 +285,160 @@ few-rows edges levels rows path paths below = few (nat_lt (length rows + 1) leve
 
 -- ---- the rows in memory
 
--- the rows when the deepest was taken
-pub rows-popped : (files : List (List ℕ)) (items rest : List (Bor (List FileNo))) (row : Bor (List FileNo))
-    (numbers : List FileNo)
-    → items ≡ rest ++ row ∷ [] → row.now ≡ numbers
-    → rows_of files items ≡ rows_of files rest ++ map (path_at files) numbers ∷ []
-rows-popped files items rest row numbers is row_is =
-    ap (rows_of files) is ∙ map-append (λ (r : Bor (List FileNo)). map (path_at files) r.now) rest (row ∷ [])
-    ∙ ap (λ ns. rows_of files rest ++ map (path_at files) ns ∷ []) row_is
+rows-append : (rows more : List (List GraphFile)) → rows_of (rows ++ more) ≡ rows_of rows ++ rows_of more
+rows-append rows more = map-append (λ (row : List GraphFile). map (λ file. file.path) row) rows more
 
--- a row with a file
-pub row-is : (row : List FileNo) → 1 ≤ length row
-    → row ≡ slice_index_or row 0 (record { 0 = 0 }) ∷ take (length row - 1) (drop 1 row)
-row-is [] some = absurd (omega (arith, some))
-row-is (file ∷ others) some = ap (λ ns. file ∷ ns)
-    (sym (take_all (length (file ∷ others) - 1) others (omega arith)))
+in-append : (g : GraphModel) (rows more : List (List GraphFile)) → AreIn g rows → AreIn g more
+    → AreIn g (rows ++ more)
+in-append g [] more are others = others
+in-append g (row ∷ rows) more are others = (are.0, in-append g rows more are.1 others)
 
--- a row without one
+in-front : (g : GraphModel) (rows : List (List GraphFile)) (row : List GraphFile) → AreIn g (rows ++ row ∷ [])
+    → AreIn g rows × AllByRecursion (λ file. file.graph ≡ g) row
+in-front g [] row are = (tt, are.0)
+in-front g (upper ∷ rows) row are = let rest = in-front g rows row are.1 in ((are.0, rest.0), rest.1)
+
+-- the roots alone
+pub first-rows : (entries : List ReadStatement) (g : GraphModel) (levels depth : ℕ)
+    (rows : List (List GraphFile))
+    → IsGraphOf g entries → levels ≡ levels_of (edges_of g) depth
+    → rows ≡ files_in g (roots_of (edges_of g)) ∷ []
+    → trees_text entries depth ≡ rows_text entries levels 0 (rows_of rows)
+unfolding trees_text rows_text
+first-rows entries g levels depth rows is asked are =
+    let roots = roots_of (edges_of g) in
+    let none : levels_of (edges_of g) depth ≡ levels - 0 = omega (arith, asked) in
+    ap (λ es. flat_map (tree_text entries (levels_of es depth) 0) (roots_of es)) (sym (graph-edges is))
+    ∙ ap (λ n. flat_map (tree_text entries n 0) roots) none
+    ∙ ap (flat_map (tree_text entries (levels - 0) 0)) (sym (paths-in g roots))
+    ∙ ap (λ rs. rows_text entries levels 0 (rows_of rs)) (sym are)
+
+pub first-in : (g : GraphModel) (rows : List (List GraphFile)) (paths : List (List ℕ))
+    → rows ≡ files_in g paths ∷ []
+    → AreIn g rows
+first-in g rows paths are = subst (AreIn g) (sym are) (all-in g paths, tt)
+
+module _ (g : GraphModel) (levels : ℕ) (rows rest : List (List GraphFile)) (row : List GraphFile)
+    (popped : rows ≡ rest ++ row ∷ []) where
+  popped-rows : rows_of rows ≡ rows_of rest ++ map (λ file. file.path) row ∷ []
+  popped-rows = ap rows_of popped ∙ rows-append rest (row ∷ [])
+
+  held : (rs : List (List GraphFile)) → length (rows_of rs) ≡ length rs
+  held rs = length-map rs (λ (r : List GraphFile). map (λ file. file.path) r)
+
+  -- an empty row
+  module _ (none : row ≡ []) where
+    popped-empty : rows_of rows ≡ rows_of rest ++ [] ∷ []
+    popped-empty = popped-rows ∙ ap (λ r. rows_of rest ++ map (λ file. file.path) r ∷ []) none
+
+    pub left-empty : (entries : List ReadStatement)
+        → rows_text entries levels 0 (rows_of rows) ≡ rows_text entries levels 0 (rows_of rest)
+    left-empty entries = ap (rows_text entries levels 0) popped-empty
+        ∙ rows-empty entries levels (rows_of rest)
+
+    pub in-empty : AreIn g rows → AreIn g rest
+    in-empty are = (in-front g rest row (rw popped at are)).0
+
+    pub smaller-empty : 2 * rows_lines (edges_of g) levels 0 (rows_of rest) + length rest
+        < 2 * rows_lines (edges_of g) levels 0 (rows_of rows) + length rows
+    smaller-empty =
+        let fewer = fewer-empty (edges_of g) levels (rows_of rest) in
+        let lines = ap (rows_lines (edges_of g) levels 0) popped-empty in
+        let count = ap length popped-empty in
+        omega (arith, held rows, held rest, fewer, lines, count)
+
+  -- a row with a file
+  module _ (file : GraphFile) (others : List GraphFile) (first : row ≡ file ∷ others) (are : AreIn g rows)
+    where
+      abbrev after : List (List GraphFile)
+      after = rows_left levels rest file others
+
+      parts : AreIn g rest × AllByRecursion (λ f. f.graph ≡ g) (file ∷ others)
+      parts = rw first at (in-front g rest row (rw popped at are))
+
+      pub graph-is : file.graph ≡ g
+      graph-is = parts.1.0
+
+      popped-file : rows_of rows ≡ rows_of rest ++ (file.path ∷ map (λ f. f.path) others) ∷ []
+      popped-file = popped-rows ∙ ap (λ r. rows_of rest ++ map (λ f. f.path) r ∷ []) first
+
+      below_paths : map (λ f. f.path) (inputs_below file)
+          ≡ inputs_of_maker (edges_of g) (maker_of (edges_of g) file.path)
+      below_paths = paths-in file.graph _
+          ∙ ap (λ h. inputs_of_maker (edges_of h) (maker_of (edges_of h) file.path)) graph-is
+
+      after-rows : rows_of after
+          ≡ rows_after (edges_of g) levels (rows_of rest) file.path (map (λ f. f.path) others)
+      after-rows =
+          by (nat_lt (length rest + 1) levels)
+          ∙ ap (λ n. if nat_lt (n + 1) levels
+          then (rows_of rest ++ map (λ f. f.path) others ∷ []) ++ made ∷ [] else rows_of rest
+          ++ map (λ f. f.path) others ∷ [])
+          (sym (held rest))
+        where
+          made : List (List ℕ)
+          made = inputs_of_maker (edges_of g) (maker_of (edges_of g) file.path)
+
+          by : (b : Bool) → rows_of (if b then (rest ++ others ∷ []) ++ inputs_below file ∷ [] else rest
+              ++ others ∷ [])
+              ≡ (if b then (rows_of rest ++ map (λ f. f.path) others ∷ []) ++ made ∷ []
+              else rows_of rest ++ map (λ f. f.path) others ∷ [])
+          by true = rows-append (rest ++ others ∷ []) (inputs_below file ∷ [])
+              ∙ (λ i. rows-append rest (others ∷ []) i ++ below_paths i ∷ [])
+          by false = rows-append rest (others ∷ [])
+
+      pub in-after : AreIn g after
+      in-after = by (nat_lt (length rest + 1) levels)
+        where
+          by : (b : Bool) → AreIn g (if b then (rest ++ others ∷ []) ++ inputs_below file ∷ [] else rest
+              ++ others ∷ [])
+          by true = in-append g (rest ++ others ∷ []) (inputs_below file ∷ [])
+              (in-append g rest (others ∷ []) parts.0 (parts.1.1, tt)) (
+                subst (λ h. AllByRecursion (λ f. f.graph ≡ h) (inputs_below file)) graph-is
+                    (all-in file.graph _),
+                tt,
+              )
+          by false = in-append g rest (others ∷ []) parts.0 (parts.1.1, tt)
+
+      module _ (below : length rest < levels) where
+        -- the line of the file, and what is left after it
+        pub left-after : (entries : List ReadStatement) (depth : ℕ) → depth ≡ length rest
+            → IsGraphOf g entries
+            → rows_text entries levels 0 (rows_of rows)
+            ≡ (indent depth ++ file_line entries (maker_of (edges_of file.graph) file.path) file.path)
+            ++ rows_text entries levels 0 (rows_of after)
+        left-after entries depth depth_is is =
+            ap (rows_text entries levels 0) popped-file
+            ∙ turn-after entries (edges_of g) levels (rows_of rest) file.path (map (λ f. f.path) others)
+            (graph-edges is) (omega (arith, held rest, below))
+            ∙ (λ i. indent ((held rest ∙ sym depth_is) i)
+            ++ file_line entries (maker_of (edges_of (sym graph-is i)) file.path) file.path
+            ++ rows_text entries levels 0 (sym after-rows i))
+
+        pub few-after : length after ≤ levels
+        few-after =
+            let few = few-rows (edges_of g) levels (rows_of rest) file.path (map (λ f. f.path) others)
+            (omega (arith, held rest, below)) in
+            let same = ap length after-rows in
+            omega (arith, held after, few, same)
+
+        pub smaller-after : 2 * rows_lines (edges_of g) levels 0 (rows_of after) + length after
+            < 2 * rows_lines (edges_of g) levels 0 (rows_of rows) + length rows
+        smaller-after =
+            let fewer = fewer-after (edges_of g) levels (rows_of rest) file.path (map (λ f. f.path) others)
+            (omega (arith, held rest, below)) in
+            let after_lines = ap (rows_lines (edges_of g) levels 0) after-rows in
+            let after_count = ap length after-rows in
+            let lines = ap (rows_lines (edges_of g) levels 0) popped-file in
+            let count = ap length popped-file in
+            omega (arith, held rest, held after, held rows, fewer, after_lines, after_count, lines, count)
+
 pub empty-is : {X : Type 0} (row : List X) → length row < 1 → row ≡ []
 empty-is [] none = refl
 empty-is (x ∷ row) none = absurd (omega (arith, none))
 
--- the roots alone
-pub first-rows : (entries : List ReadStatement) (edges : List EdgePaths) (files : List (List ℕ))
-    (levels depth : ℕ) (items : List (Bor (List FileNo))) (roots : Bor (List FileNo))
-    → edges ≡ paths_of_edges (edges_read entries) → levels ≡ levels_of edges depth → items ≡ roots ∷ []
-    → AreFiles files roots.now (roots_of edges)
-    → trees_text entries depth ≡ rows_text entries levels 0 (rows_of files items)
-unfolding trees_text rows_text
-first-rows entries edges files levels depth items roots stated asked is are =
-    let none : levels_of edges depth ≡ levels - 0 = omega (arith, asked) in
-    ap (λ es. flat_map (tree_text entries (levels_of es depth) 0) (roots_of es)) (sym stated)
-    ∙ ap (λ n. flat_map (tree_text entries n 0) (roots_of edges)) none
-    ∙ ap (flat_map (tree_text entries (levels - 0) 0)) (sym (paths-are files roots.now (roots_of edges) are))
-    ∙ ap (λ rows. rows_text entries levels 0 (rows_of files rows)) (sym is)
-
--- a turn, in the text that is still to be written
-pub written-turn : (entries : List ReadStatement) (edges : List EdgePaths) (files : List (List ℕ))
-    (levels depth : ℕ) (items rest : List (Bor (List FileNo))) (row : Bor (List FileNo)) (file : FileNo)
-    (others : List FileNo) (whole done : List ℕ)
-    → edges ≡ paths_of_edges (edges_read entries) → depth ≡ length rest → length rest < levels
-    → items ≡ rest ++ row ∷ [] → row.now ≡ file ∷ others
-    → whole ≡ done ++ rows_text entries levels 0 (rows_of files items)
-    → whole ≡ (done ++ (indent depth ++ file_line entries (maker_of edges (path_at files file))
-    (path_at files file)))
-    ++ rows_text entries levels 0 (rows_after edges levels (rows_of files rest) (path_at files file)
-    (map (path_at files) others))
-written-turn entries edges files levels depth items rest row file others whole done stated depth_is below is
-    row_is whole_is =
-    let rows = rows_of files rest in
-    let path = path_at files file in
-    let paths = map (path_at files) others in
-    let count : length rows ≡ length rest =
-    length-map rest (λ (r : Bor (List FileNo)). map (path_at files) r.now) in
-    let same : length rows ≡ depth = count ∙ sym depth_is in
-    let left = rows_text entries levels 0 (rows_after edges levels rows path paths) in
-    whole_is
-    ∙ ap (λ r. done ++ rows_text entries levels 0 r)
-    (rows-popped files items rest row (file ∷ others) is row_is)
-    ∙ ap (λ t. done ++ t) (turn-after entries edges levels rows path paths stated
-    (omega (arith, count, below)))
-    ∙ ap (λ k. done ++ (indent k ++ file_line entries (maker_of edges path) path ++ left)) same
-    ∙ sym (append_assoc done (indent depth ++ file_line entries (maker_of edges path) path) left)
-
--- no more rows than levels
-pub few-after : (edges : List EdgePaths) (files : List (List ℕ)) (levels : ℕ)
-    (rest after : List (Bor (List FileNo))) (path : List ℕ) (paths : List (List ℕ))
-    → length rest < levels → rows_of files after ≡ rows_after edges levels (rows_of files rest) path paths
-    → length after ≤ levels
-few-after edges files levels rest after path paths below is =
-    let count = length-map rest (λ (r : Bor (List FileNo)). map (path_at files) r.now) in
-    let held = length-map after (λ (r : Bor (List FileNo)). map (path_at files) r.now) in
-    let few = few-rows edges levels (rows_of files rest) path paths (omega (arith, count, below)) in
-    let same = ap length is in
-    omega (arith, held, few, same)
-
--- less is left after a turn
-pub smaller-after : (edges : List EdgePaths) (files : List (List ℕ)) (levels : ℕ)
-    (items rest after : List (Bor (List FileNo))) (row : Bor (List FileNo)) (file : FileNo)
-    (others : List FileNo)
-    → length rest < levels → items ≡ rest ++ row ∷ [] → row.now ≡ file ∷ others
-    → rows_of files after ≡ rows_after edges levels (rows_of files rest) (path_at files file)
-    (map (path_at files) others)
-    → 2 * rows_lines edges levels 0 (rows_of files after) + length after < 2 * rows_lines edges levels 0
-    (rows_of files items) + length items
-smaller-after edges files levels items rest after row file others below is row_is after_is =
-    let count = length-map rest (λ (r : Bor (List FileNo)). map (path_at files) r.now) in
-    let held = length-map after (λ (r : Bor (List FileNo)). map (path_at files) r.now) in
-    let before = length-map items (λ (r : Bor (List FileNo)). map (path_at files) r.now) in
-    let popped = rows-popped files items rest row (file ∷ others) is row_is in
-    let fewer = fewer-after edges levels (rows_of files rest) (path_at files file)
-    (map (path_at files) others) (omega (arith, count, below)) in
-    let after_lines = ap (rows_lines edges levels 0) after_is in
-    let after_count = ap length after_is in
-    let lines = ap (rows_lines edges levels 0) popped in
-    let rows = ap length popped in
-    omega (arith, held, before, fewer, after_lines, after_count, lines, rows)
-
--- an empty row, in the text that is still to be written
-pub written-empty : (entries : List ReadStatement) (files : List (List ℕ)) (levels : ℕ)
-    (items rest : List (Bor (List FileNo))) (row : Bor (List FileNo)) (whole done : List ℕ)
-    → items ≡ rest ++ row ∷ [] → row.now ≡ []
-    → whole ≡ done ++ rows_text entries levels 0 (rows_of files items)
-    → whole ≡ done ++ rows_text entries levels 0 (rows_of files rest)
-written-empty entries files levels items rest row whole done is row_is whole_is =
-    whole_is ∙ ap (λ r. done ++ rows_text entries levels 0 r) (rows-popped files items rest row [] is row_is)
-    ∙ ap (λ t. done ++ t) (rows-empty entries levels (rows_of files rest))
-
--- less is left after it
-pub smaller-empty : (edges : List EdgePaths) (files : List (List ℕ)) (levels : ℕ)
-    (items rest : List (Bor (List FileNo))) (row : Bor (List FileNo))
-    → items ≡ rest ++ row ∷ [] → row.now ≡ []
-    → 2 * rows_lines edges levels 0 (rows_of files rest) + length rest < 2 * rows_lines edges levels 0
-    (rows_of files items) + length items
-smaller-empty edges files levels items rest row is row_is =
-    let held = length-map rest (λ (r : Bor (List FileNo)). map (path_at files) r.now) in
-    let before = length-map items (λ (r : Bor (List FileNo)). map (path_at files) r.now) in
-    let popped = rows-popped files items rest row [] is row_is in
-    let fewer = fewer-empty edges levels (rows_of files rest) in
-    let lines = ap (rows_lines edges levels 0) popped in
-    let rows = ap length popped in
-    omega (arith, held, before, fewer, lines, rows)
-
 -- nothing is left
-pub written-all : (entries : List ReadStatement) (files : List (List ℕ)) (levels : ℕ)
-    (items : List (Bor (List FileNo))) (whole done : List ℕ)
-    → items ≡ [] → whole ≡ done ++ rows_text entries levels 0 (rows_of files items) → done ≡ whole
+pub left-none : (entries : List ReadStatement) (levels : ℕ) (rows : List (List GraphFile)) → rows ≡ []
+    → rows_text entries levels 0 (rows_of rows) ≡ []
 unfolding rows_text
-written-all entries files levels items whole done is whole_is =
-    sym (whole_is ∙ ap (λ rows. done ++ rows_text entries levels 0 (rows_of files rows)) is ∙ append-nil done)
-
--- one row
-pub known-one : (files : List (List ℕ)) (row : Bor (List FileNo))
-    → All (λ (file : FileNo). file.0 < length files) row.now → AreKnown files (row ∷ [])
-known-one files row known =
-    All-cons (λ (r : Bor (List FileNo)). All (λ (file : FileNo). file.0 < length files) r.now) row [] known
-    (All-nil (λ (r : Bor (List FileNo)). All (λ (file : FileNo). file.0 < length files) r.now))
-
--- the deepest row, and the others
-pub known-popped : (files : List (List ℕ)) (items rest : List (Bor (List FileNo))) (row : Bor (List FileNo))
-    → items ≡ rest ++ row ∷ [] → AreKnown files items
-    → AreKnown files rest × All (λ (file : FileNo). file.0 < length files) row.now
-known-popped files items rest row is known =
-    All-pop (λ (r : Bor (List FileNo)). All (λ (file : FileNo). file.0 < length files) r.now) items rest
-    (Some row) is known
+left-none entries levels rows none = ap (λ rs. rows_text entries levels 0 (rows_of rs)) none

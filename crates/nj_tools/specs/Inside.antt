@@ -6,7 +6,7 @@ pub mod Commands
 pub mod CompdbHeld
 pub mod MemorySinksHeld
 pub mod ObjectTexts
-pub mod QueriesHeld
+pub mod Pieces
 pub mod QuotesHeld
 pub mod Seen
 pub mod Trees

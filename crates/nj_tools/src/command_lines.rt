@@ -1,14 +1,14 @@
 //! The commands of edges, a line each.
 
-ghost use Rattle.std.specs.Prelude.{◌≡◌, ℕ, ◌<◌, ◌++◌, List, [], ◌∷◌, length, All, IfOk, IfSome};
-ghost use Rattle.nj_tools.specs.Cited.{OfStatements, edges_of, files_of, IsSame, PutsText, made_by, written, StopsAt, number_of, command_lines, own_commands, single, own_makers, command_line, AreSeen, new_commands, WritesText};
+ghost use Rattle.std.specs.Prelude.{◌≡◌, ℕ, ◌<◌, ◌++◌, List, length, option_map, All, IfOk, OnOk};
+ghost use Rattle.nj_tools.specs.Cited.{OfStatements, OfEdge, edge_in, edge_of, edges_of, file_of, files_of, written, StopsAt, command_lines, own_commands, command_line, made_by, single, AreSeen, makers_of_file, new_command, WritesText};
 
 use crate::output::Output;
 use crate::sinks::Sink;
 use crate::tool_fault::ToolFault;
-use nj_graph::{EdgeNo, FileNo, Graph};
+use nj_graph::{Edge, File, FileNo, Graph};
 use nj_needs::{Mark, Needs};
-use std::alloc::Global;
+use std::alloc::{AllocError, Global};
 
 /// Writes the commands of the edges that are left to a walk over this graph, a line each; at most
 /// `take` of them if that is given. Returns the mark at which the walk can be resumed if more are
@@ -36,7 +36,8 @@ pub fn write_commands<S: Sink>(
     let mut output = Output::new(out, &mut text);
     let mut room = take;
     'commands: while let Some(edge) = needs.next_on_page(&mut room) {
-        write_command(graph, edge, &mut output)?;
+        append_command(output.pending, graph.edge_at(edge))?;
+        output.write_block()?;
     }
     output.flush()?;
     Ok(needs.mark_after_page(alloc, room)?)
@@ -61,48 +62,61 @@ pub fn write_single_commands<S: Sink>(
     let mut seen = vec![in alloc; false; graph.edge_count()]?;
     let mut text = Vec::new(alloc);
     let mut output = Output::new(out, &mut text);
-    'targets: for target in targets {
-        if let Some(edge) = new_maker(graph, *target, &mut seen) {
-            write_command(graph, edge, &mut output)?;
-        }
+    'targets: for target in graph.files_at(targets) {
+        append_new_command(output.pending, target, &mut seen)?;
+        output.write_block()?;
     }
     output.flush()
 }
 
-// The edge that makes a file, if it is not phony and was not seen before. It is marked as seen.
-fn new_maker(graph: &Graph, file: FileNo, seen: &mut [bool]) -> Option<EdgeNo>
-    requires file { file.0 < length (files_of graph.now) }
-    requires seen { length seen.old ≡ length (edges_of graph.now) }
-    ensures seen { (earlier : List ℕ) → AreSeen graph.now.built.graph seen.old earlier
-        → AreSeen graph.now.built.graph seen.new
-        (earlier ++ own_makers graph.now.built.graph (file ∷ [])) }
-    ensures new { (earlier : List ℕ) → AreSeen graph.now.built.graph seen.old earlier
-        → made_by single (number_of result) ≡ new_commands graph.now.built.graph earlier
-        (own_makers graph.now.built.graph (file ∷ [])) }
-    ensures known { IfSome result (λ edge. edge.0 < length (edges_of graph.now)) }
+// Appends the command of the edge that makes a file, if it has one and was not seen before.
+fn append_new_command(
+    text: &mut Vec<u8>,
+    file: File<'_>,
+    seen: &mut [bool],
+) -> Result<(), AllocError>
+    requires { length seen.old ≡ length (edges_of (file_of file).graph) }
+    ensures seen { (earlier : List ℕ) → AreSeen (file_of file.entry).graph seen.old earlier
+        → AreSeen (file_of file.entry).graph seen.new
+        (earlier ++ makers_of_file (file_of file.entry)) }
+    ensures text { OfStatements (file_of file.entry).graph (λ entries.
+        (earlier : List ℕ) → AreSeen (file_of file.entry).graph seen.old earlier
+        → OnOk result (text.new.items ≡ text.old.items
+        ++ command_lines entries (made_by single (new_command (file_of file.entry) earlier)))) }
 {
-    let edge = graph.maker(file)?;
-    if seen[edge.0] {
+    match new_maker(file, seen) {
+        Some(edge) => append_command(text, edge),
+        None => Ok(()),
+    }
+}
+
+// The edge that makes a file, if it is not phony and was not seen before. It is marked as seen.
+fn new_maker<'g>(file: File<'g>, seen: &mut [bool]) -> Option<Edge<'g>>
+    requires { length seen.old ≡ length (edges_of (file_of file).graph) }
+    ensures seen { (earlier : List ℕ) → AreSeen (file_of file.entry).graph seen.old earlier
+        → AreSeen (file_of file.entry).graph seen.new
+        (earlier ++ makers_of_file (file_of file.entry)) }
+    ensures new { (earlier : List ℕ) → AreSeen (file_of file.entry).graph seen.old earlier
+        → option_map edge_of result ≡ option_map (edge_in (file_of file.entry).graph)
+        (new_command (file_of file.entry) earlier) }
+{
+    let edge = file.maker()?;
+    if seen[edge.number().0] {
         return None;
     }
-    seen[edge.0] = true;
-    if graph.is_phony(edge) {
+    seen[edge.number().0] = true;
+    if edge.is_phony() {
         return None;
     }
     Some(edge)
 }
 
-// Writes the command of an edge as a line.
-fn write_command<S: Sink>(
-    graph: &Graph,
-    edge: EdgeNo,
-    out: &mut Output<'_, S>,
-) -> Result<(), ToolFault>
-    requires { edge.0 < length (edges_of graph.now) }
-    ensures same { IsSame out.old out.new }
-    ensures text { OfStatements graph.now (λ entries.
-        PutsText S.state out.old out.new (command_line entries edge.0) result) }
+// Appends the command of an edge as a line.
+fn append_command(text: &mut Vec<u8>, edge: Edge<'_>) -> Result<(), AllocError>
+    ensures { OfEdge (edge_of edge.entry) (λ entries number. OnOk result
+        (text.new.items ≡ text.old.items ++ command_line entries number)) }
 {
-    graph.append_variable(out.pending, edge, b"command")?;
-    out.ended(b"", b'\n')
+    edge.append_variable(text, b"command")?;
+    text.push(b'\n')?;
+    Ok(())
 }

@@ -1,14 +1,14 @@
 //! Compilation databases.
 
-ghost use Rattle.std.specs.Prelude.{◌≡◌, ◌<◌, ◌++◌, ℕ, List, All, Some, length, map, option_map, slice_get, string_bytes, IfOk, IfSome, OnOk};
-ghost use Rattle.nj_tools.specs.Cited.{OfStatements, text_fault, Refuses, AreFiles, edges_read, edges_of, files_of, IsSame, PutsText, has_object, compilation_of, objects_text, held_before, compdb_text, unheld_edge, WritesCompdb, command_text, first_path, held_compilation, list_text, object_of_strings};
+ghost use Rattle.std.specs.Prelude.{◌≡◌, ◌++◌, ℕ, List, Some, map, option_map, slice_get, string_bytes, IfOk, IfSome, OnOk};
+ghost use Rattle.nj_tools.specs.Cited.{IsGraphOf, OfStatements, OfEdge, ReadStatement, GraphModel, edge_in, edge_of, files_in, text_fault, Refuses, edges_read, IsSame, PutsText, has_object, compilation_of, compdb_text, unheld_edge, WritesCompdb, command_text, first_path, held_compilation, list_text, object_of_strings};
 
 use crate::chosen_rules::ChosenRules;
 use crate::json_strings::{held_string, json_string};
 use crate::output::Output;
 use crate::sinks::Sink;
 use crate::tool_fault::ToolFault;
-use nj_graph::{Cause, EdgeNo, FileNo, Graph, GraphFault};
+use nj_graph::{Cause, Edge, Files, Graph, GraphFault};
 use std::alloc::{AllocError, Global};
 use std::marker::Model;
 
@@ -42,19 +42,20 @@ pub fn write_compdb<S: Sink>(
     let mut output = Output::new(out, &mut text);
     let unheld = write_list(alloc, graph, &chosen, &directory, expand, &mut output)?;
     output.flush()?;
-    refuse(alloc, graph, unheld)
+    refuse(alloc, unheld)
 }
 
 /// Refuses an edge that JSON cannot contain, if there is one. The fault is at its build statement.
-pub(crate) fn refuse(alloc: Global, graph: &Graph, unheld: Option<EdgeNo>) -> Result<(), ToolFault>
-    requires { IfSome unheld (λ edge. edge.0 < length (edges_of graph.now)) }
-    ensures { OfStatements graph.now (λ entries.
-        Refuses (option_map (text_fault entries) (option_map (λ edge. edge.0) unheld)) result) }
+pub(crate) fn refuse(alloc: Global, unheld: Option<Edge<'_>>) -> Result<(), ToolFault>
+    ensures { (entries : List ReadStatement)
+        → IfSome unheld.entry (λ edge. IsGraphOf (edge_of edge).graph entries)
+        → Refuses (option_map (λ edge. text_fault entries (edge_of edge).number) unheld.entry)
+        result }
 {
     let Some(edge) = unheld else {
         return Ok(());
     };
-    let place = graph.edge_place(edge).to_place(alloc)?;
+    let place = edge.place().to_place(alloc)?;
     Err(ToolFault::TextNotUtf8(GraphFault {
         place: Some(place),
         cause: Cause::TextNotUtf8,
@@ -63,76 +64,44 @@ pub(crate) fn refuse(alloc: Global, graph: &Graph, unheld: Option<EdgeNo>) -> Re
 
 // Writes the list. Returns the first edge that JSON cannot contain, before which it stops; `None`
 // if there is none.
-fn write_list<S: Sink>(
+fn write_list<'g, S: Sink>(
     alloc: Global,
-    graph: &Graph,
+    graph: &'g Graph,
     chosen: &ChosenRules<'_>,
     directory: &[u8],
     expand: bool,
     out: &mut Output<'_, S>,
-) -> Result<Option<EdgeNo>, ToolFault>
+) -> Result<Option<Edge<'g>>, ToolFault>
     ensures same { IsSame out.old out.new }
-    ensures text { OfStatements graph.now (λ entries. PutsText S.state out.old out.new
+    ensures text { OfStatements graph.entry.now (λ entries. PutsText S.state out.old out.new
         (list_text entries directory.now chosen.now expand) result) }
-    ensures unheld { OfStatements graph.now (λ entries.
-        IfOk result (λ edge. option_map (λ edge. edge.0) edge
-        ≡ unheld_edge entries chosen.now expand)) }
-    ensures known { IfOk result (λ edge.
-        IfSome edge (λ edge. edge.0 < length (edges_of graph.now))) }
+    ensures unheld { OfStatements graph.entry.now (λ entries. IfOk result (λ edge.
+        option_map edge_of edge
+        ≡ option_map (edge_in graph.entry.now) (unheld_edge entries chosen.now expand))) }
 {
-    out.text(b"[")?;
-    match write_objects(alloc, graph, chosen, directory, expand, out)? {
-        Some(edge) => Ok(Some(edge)),
-        None => {
-            out.text(b"\n]\n")?;
-            Ok(None)
-        }
-    }
-}
-
-// Writes the objects of edges. Returns the first edge that JSON cannot contain, before which it
-// stops; `None` if there is none.
-fn write_objects<S: Sink>(
-    alloc: Global,
-    graph: &Graph,
-    chosen: &ChosenRules<'_>,
-    directory: &[u8],
-    expand: bool,
-    out: &mut Output<'_, S>,
-) -> Result<Option<EdgeNo>, ToolFault>
-    ensures same { IsSame out.old out.new }
-    ensures text { OfStatements graph.now (λ entries. PutsText S.state out.old out.new
-        (objects_text directory.now (held_before entries chosen.now expand)) result) }
-    ensures unheld { OfStatements graph.now (λ entries.
-        IfOk result (λ edge. option_map (λ edge. edge.0) edge
-        ≡ unheld_edge entries chosen.now expand)) }
-    ensures known { IfOk result (λ edge.
-        IfSome edge (λ edge. edge.0 < length (edges_of graph.now))) }
-{
+    out.pending.push(b'[')?;
     let mut separator = b"\n".as_slice();
-    'edges: for number in 0..graph.edge_count() {
-        let edge = EdgeNo(number);
-        if has_object(graph, edge, chosen) {
-            let Some(strings) = strings_of(alloc, graph, edge, expand)? else {
+    'edges: for edge in graph.edges() {
+        if has_object(edge, chosen) {
+            let Some(strings) = strings_of(alloc, edge, expand)? else {
                 return Ok(Some(edge));
             };
-            write_object(out, separator, directory, &strings)?;
+            append_object(out.pending, separator, directory, &strings)?;
+            out.write_block()?;
             separator = b",\n";
         }
     }
+    out.pending.extend_from_slice(b"\n]\n")?;
     Ok(None)
 }
 
 // Whether an edge has an object: it has a command and an input, and its rule is chosen.
-fn has_object(graph: &Graph, edge: EdgeNo, chosen: &ChosenRules<'_>) -> bool
-    requires { edge.0 < length (edges_of graph.now) }
-    ensures { OfStatements graph.now (λ entries.
+fn has_object(edge: Edge<'_>, chosen: &ChosenRules<'_>) -> bool
+    ensures { OfEdge (edge_of edge.entry) (λ entries number.
         Some result ≡ option_map (has_object entries chosen.now)
-        (slice_get (edges_read entries) edge.0)) }
+        (slice_get (edges_read entries) number)) }
 {
-    !graph.is_phony(edge)
-        && !graph.inputs(edge).is_empty()
-        && chosen.includes(graph.rule_name(edge))
+    !edge.is_phony() && !edge.inputs().is_empty() && chosen.includes(edge.rule_name())
 }
 
 // The written strings of an edge, as in JSON.
@@ -156,24 +125,18 @@ impl Model for Strings {
 }
 
 // The command of an edge, and its first input and output; `None` if one of them is not UTF-8.
-fn strings_of(
-    alloc: Global,
-    graph: &Graph,
-    edge: EdgeNo,
-    expand: bool,
-) -> Result<Option<Strings>, AllocError>
-    requires { edge.0 < length (edges_of graph.now) }
-    ensures { OfStatements graph.now (λ entries. IfOk result (λ strings.
-        strings ≡ held_compilation (compilation_of entries expand edge.0))) }
+fn strings_of(alloc: Global, edge: Edge<'_>, expand: bool) -> Result<Option<Strings>, AllocError>
+    ensures { OfEdge (edge_of edge.entry) (λ entries number. IfOk result (λ strings.
+        strings ≡ held_compilation (compilation_of entries expand number))) }
 {
-    let command = command_text(alloc, graph, edge, expand)?;
+    let command = command_text(alloc, edge, expand)?;
     let Some(command) = held_string(alloc, &command)? else {
         return Ok(None);
     };
-    let Some(file) = held_string(alloc, first_path(graph, graph.inputs(edge)))? else {
+    let Some(file) = held_string(alloc, first_path(edge.inputs()))? else {
         return Ok(None);
     };
-    let Some(output) = held_string(alloc, first_path(graph, graph.outputs(edge)))? else {
+    let Some(output) = held_string(alloc, first_path(edge.outputs()))? else {
         return Ok(None);
     };
     Ok(Some(Strings {
@@ -185,48 +148,26 @@ fn strings_of(
 
 // The command of an edge, with the contents of its response file in place of the name if `expand`
 // is set.
-fn command_text(
-    alloc: Global,
-    graph: &Graph,
-    edge: EdgeNo,
-    expand: bool,
-) -> Result<Vec<u8>, AllocError>
-    requires { edge.0 < length (edges_of graph.now) }
-    ensures { OfStatements graph.now (λ entries.
-        IfOk result (λ text. text.items ≡ command_text entries expand edge.0)) }
+fn command_text(alloc: Global, edge: Edge<'_>, expand: bool) -> Result<Vec<u8>, AllocError>
+    ensures { OfEdge (edge_of edge.entry) (λ entries number.
+        IfOk result (λ text. text.items ≡ command_text entries expand number)) }
 {
     if expand {
-        graph.command_with_rsp(alloc, edge)
+        edge.command_with_rsp(alloc)
     } else {
-        graph.command(alloc, edge)
+        edge.command(alloc)
     }
 }
 
 // The path of the first of these files; empty if there is none.
-fn first_path<'g>(graph: &'g Graph, files: &[FileNo]) -> &'g [u8]
-    requires { All (λ file. file.0 < length (files_of graph.now)) files.now }
-    ensures { (paths : List (List ℕ)) → AreFiles (files_of graph.now) files.now paths
+fn first_path<'g>(files: Files<'g>) -> &'g [u8]
+    ensures { (graph : GraphModel) (paths : List (List ℕ)) → files.entry ≡ files_in graph paths
         → result.now ≡ first_path paths }
 {
     match files.first() {
-        Some(file) => graph.path(*file),
+        Some(file) => file.path(),
         None => b"",
     }
-}
-
-// Writes an object after the one before.
-fn write_object<S: Sink>(
-    out: &mut Output<'_, S>,
-    separator: &[u8],
-    directory: &[u8],
-    strings: &Strings,
-) -> Result<(), ToolFault>
-    ensures same { IsSame out.old out.new }
-    ensures text { PutsText S.state out.old out.new
-        (separator.now ++ object_of_strings directory.now strings.now) result }
-{
-    append_object(out.pending, separator, directory, strings)?;
-    out.write_block()
 }
 
 // Appends an object after the one before.

@@ -1,14 +1,15 @@
 //! The edges of a graph as objects of JSON.
 
-ghost use Rattle.std.specs.Prelude.{◌≡◌, ◌<◌, IfOk, IfSome, OnOk, length, option_map};
-ghost use Rattle.nj_tools.specs.Cited.{OfStatements, text_fault, fold, print, edge_at, edges_of, WritesCompdb, edge_lines, edge_object, file_members, head_members, unwritable_edge, value_member, value_members, IsSame, PutsText, and_member, held_text};
+ghost use Rattle.std.specs.Prelude.{◌≡◌, IfOk, OnOk, option_map};
+ghost use Rattle.nj_tools.specs.Cited.{OfStatements, OfEdge, text_fault, fold, print, edge_in, edge_of, paths_of, WritesCompdb, edge_lines, edge_object, file_members, head_members, unwritable_edge, value_member, value_members, IsSame, PutsText, and_member, held_text};
 
 use crate::compdb::refuse;
 use crate::object_text::ObjectText;
 use crate::output::Output;
 use crate::sinks::Sink;
+use crate::text_lines::append_line;
 use crate::tool_fault::ToolFault;
-use nj_graph::{EdgeNo, Graph};
+use nj_graph::{Edge, Graph};
 use std::alloc::{AllocError, Global};
 
 /// Writes each edge as an object of JSON, a line each, by number. The keys are always the same and
@@ -34,114 +35,96 @@ pub fn write_edge_objects<S: Sink>(
     let mut output = Output::new(out, &mut text);
     let unwritable = write_lines(alloc, graph, &mut output)?;
     output.flush()?;
-    refuse(alloc, graph, unwritable)
+    refuse(alloc, unwritable)
 }
 
 // Writes the lines of edges. Returns the first edge that JSON cannot contain, before which it
 // stops; `None` if there is none.
-fn write_lines<S: Sink>(
+fn write_lines<'g, S: Sink>(
     alloc: Global,
-    graph: &Graph,
+    graph: &'g Graph,
     out: &mut Output<'_, S>,
-) -> Result<Option<EdgeNo>, ToolFault>
+) -> Result<Option<Edge<'g>>, ToolFault>
     ensures same { IsSame out.old out.new }
-    ensures text { OfStatements graph.now (λ entries.
+    ensures text { OfStatements graph.entry.now (λ entries.
         PutsText S.state out.old out.new (edge_lines entries) result) }
-    ensures unwritable { OfStatements graph.now (λ entries.
-        IfOk result (λ edge. option_map (λ edge. edge.0) edge ≡ unwritable_edge entries)) }
-    ensures known { IfOk result (λ edge.
-        IfSome edge (λ edge. edge.0 < length (edges_of graph.now))) }
+    ensures unwritable { OfStatements graph.entry.now (λ entries. IfOk result (λ edge.
+        option_map edge_of edge ≡ option_map (edge_in graph.entry.now) (unwritable_edge entries))) }
 {
-    'edges: for number in 0..graph.edge_count() {
-        let edge = EdgeNo(number);
-        let Some(object) = object_of(alloc, graph, edge)? else {
+    'edges: for edge in graph.edges() {
+        let Some(object) = object_of(alloc, edge)? else {
             return Ok(Some(edge));
         };
-        out.line(b"", &object, b"")?;
+        append_line(out.pending, &object, b"")?;
+        out.write_block()?;
     }
     Ok(None)
 }
 
 // The text of the object of an edge; `None` if a string of it is not UTF-8.
-fn object_of(alloc: Global, graph: &Graph, edge: EdgeNo) -> Result<Option<Vec<u8>>, AllocError>
-    requires { edge.0 < length (edges_of graph.now) }
-    ensures { OfStatements graph.now (λ entries.
+fn object_of(alloc: Global, edge: Edge<'_>) -> Result<Option<Vec<u8>>, AllocError>
+    ensures { OfEdge (edge_of edge.entry) (λ entries number.
         IfOk result (λ text. option_map (λ text. text.items) text
-        ≡ option_map print (held_text (edge_object entries edge.0)))) }
+        ≡ option_map print (held_text (edge_object entries number)))) }
 {
     let mut object = ObjectText::new(alloc)?;
-    add_head(&mut object, graph, edge)?;
-    add_files(&mut object, graph, edge)?;
-    add_values(alloc, &mut object, graph, edge)?;
+    add_head(&mut object, edge)?;
+    add_files(&mut object, edge)?;
+    add_values(alloc, &mut object, edge)?;
     object.into_text()
 }
 
 // Adds the number of an edge, the place of its build statement, and its rule.
-fn add_head(object: &mut ObjectText, graph: &Graph, edge: EdgeNo) -> Result<(), AllocError>
-    requires { edge.0 < length (edges_of graph.now) }
-    ensures { OfStatements graph.now (λ entries.
-        OnOk result (object.new ≡ fold and_member object.old (head_members entries edge.0))) }
+fn add_head(object: &mut ObjectText, edge: Edge<'_>) -> Result<(), AllocError>
+    ensures { OfEdge (edge_of edge.entry) (λ entries number.
+        OnOk result (object.new ≡ fold and_member object.old (head_members entries number))) }
 {
-    object.add_number("edge", edge.0)?;
-    object.add_place("place", graph.edge_place(edge))?;
-    object.add_string("rule", graph.rule_name(edge))?;
-    object.add_bool("phony", graph.is_phony(edge))
+    object.add_number("edge", edge.number().0)?;
+    object.add_place("place", edge.place())?;
+    object.add_string("rule", edge.rule_name())?;
+    object.add_bool("phony", edge.is_phony())
 }
 
 // Adds the files of an edge by kind.
-fn add_files(object: &mut ObjectText, graph: &Graph, edge: EdgeNo) -> Result<(), AllocError>
-    requires { edge.0 < length (edges_of graph.now) }
+fn add_files(object: &mut ObjectText, edge: Edge<'_>) -> Result<(), AllocError>
     ensures { OnOk result (object.new
-        ≡ fold and_member object.old (file_members (edge_at (edges_of graph.now) edge.0))) }
+        ≡ fold and_member object.old (file_members (paths_of (edge_of edge.entry)))) }
 {
-    let edges = graph.edge_graph();
-    object.add_paths("outputs", graph, edges.explicit_output_files(edge))?;
-    object.add_paths("implicit_outputs", graph, edges.implicit_output_files(edge))?;
-    object.add_paths("inputs", graph, edges.explicit_input_files(edge))?;
-    object.add_paths("implicit_inputs", graph, edges.implicit_input_files(edge))?;
-    object.add_paths(
-        "order_only_inputs",
-        graph,
-        edges.order_only_input_files(edge),
-    )?;
-    object.add_paths("validations", graph, edges.validations(edge))
+    object.add_paths("outputs", edge.explicit_outputs())?;
+    object.add_paths("implicit_outputs", edge.implicit_outputs())?;
+    object.add_paths("inputs", edge.explicit_inputs())?;
+    object.add_paths("implicit_inputs", edge.implicit_inputs())?;
+    object.add_paths("order_only_inputs", edge.order_only_inputs())?;
+    object.add_paths("validations", edge.validations())
 }
 
 // Adds the values of the variables of rules for an edge.
-fn add_values(
-    alloc: Global,
-    object: &mut ObjectText,
-    graph: &Graph,
-    edge: EdgeNo,
-) -> Result<(), AllocError>
-    requires { edge.0 < length (edges_of graph.now) }
-    ensures { OfStatements graph.now (λ entries.
-        OnOk result (object.new ≡ fold and_member object.old (value_members entries edge.0))) }
+fn add_values(alloc: Global, object: &mut ObjectText, edge: Edge<'_>) -> Result<(), AllocError>
+    ensures { OfEdge (edge_of edge.entry) (λ entries number.
+        OnOk result (object.new ≡ fold and_member object.old (value_members entries number))) }
 {
-    add_value(alloc, object, graph, edge, "command")?;
-    add_value(alloc, object, graph, edge, "description")?;
-    add_value(alloc, object, graph, edge, "depfile")?;
-    add_value(alloc, object, graph, edge, "deps")?;
-    add_value(alloc, object, graph, edge, "rspfile")?;
-    add_value(alloc, object, graph, edge, "rspfile_content")?;
-    add_value(alloc, object, graph, edge, "pool")?;
-    add_value(alloc, object, graph, edge, "dyndep")?;
-    add_value(alloc, object, graph, edge, "generator")?;
-    add_value(alloc, object, graph, edge, "restat")
+    add_value(alloc, object, edge, "command")?;
+    add_value(alloc, object, edge, "description")?;
+    add_value(alloc, object, edge, "depfile")?;
+    add_value(alloc, object, edge, "deps")?;
+    add_value(alloc, object, edge, "rspfile")?;
+    add_value(alloc, object, edge, "rspfile_content")?;
+    add_value(alloc, object, edge, "pool")?;
+    add_value(alloc, object, edge, "dyndep")?;
+    add_value(alloc, object, edge, "generator")?;
+    add_value(alloc, object, edge, "restat")
 }
 
 // Adds the value of a variable for an edge.
 fn add_value(
     alloc: Global,
     object: &mut ObjectText,
-    graph: &Graph,
-    edge: EdgeNo,
+    edge: Edge<'_>,
     name: &str,
 ) -> Result<(), AllocError>
-    requires { edge.0 < length (edges_of graph.now) }
-    ensures { OfStatements graph.now (λ entries.
-        OnOk result (object.new ≡ and_member object.old (value_member entries edge.0 name.now))) }
+    ensures { OfEdge (edge_of edge.entry) (λ entries number.
+        OnOk result (object.new ≡ and_member object.old (value_member entries number name.now))) }
 {
-    let value = graph.variable(alloc, edge, name.as_bytes())?;
+    let value = edge.variable(alloc, name.as_bytes())?;
     object.add_string(name, &value)
 }

@@ -1,14 +1,15 @@
 //! The inputs of needed edges.
 
-ghost use Rattle.std.specs.Prelude.{◌≡◌, ℕ, ◌<◌, ◌++◌, List, All, [], ◌∷◌, length, map, flat_map, IfOk, OnOk, bytes_eq, if◌then◌else◌};
-ghost use Rattle.nj_tools.specs.Cited.{quoted, FileNo, path_at, edges_of, files_of, IsSame, PutsText, AreOf, IsFlagged, with_file, with_files, new_file, new_files, each_once, sorted, needed_inputs, printed, terminated, inputs_text, WritesText};
+ghost use Rattle.std.specs.Prelude.{◌≡◌, ℕ, ◌<◌, ◌++◌, List, All, length, map, flat_map, IfOk, OnOk, bytes_eq, if◌then◌else◌};
+ghost use Rattle.nj_tools.specs.Cited.{path_at, edges_of, files_of, IsSame, PutsText, HasExactly, file_of, inputs_of_all, new_path, new_paths, with_name, with_paths, each_once, sorted, printed, printed_strings, printed_text, terminated, inputs_text, WritesText};
 
 use crate::file_list::Collected;
+use crate::file_set::FileSet;
 use crate::output::Output;
 use crate::sinks::Sink;
 use crate::sorted_paths::{sorted_paths, sorted_quotes};
 use crate::tool_fault::ToolFault;
-use nj_graph::{FileNo, Graph};
+use nj_graph::{File, FileNo, Files, Graph};
 use nj_needs::Needs;
 use nj_requests::InputsStyle;
 use nj_text::quote_into;
@@ -34,31 +35,31 @@ pub fn write_inputs<S: Sink>(
         (inputs_text style (edges_of graph.now) (map (path_at (files_of graph.now)) targets.now))
         result }
 {
+    let needs = Needs::new(alloc, graph, targets)?;
     let mut text = Vec::new(alloc);
     let mut output = Output::new(out, &mut text);
-    write_arranged(alloc, graph, targets, style, &mut output)?;
+    write_arranged(alloc, graph, needs, style, &mut output)?;
     output.flush()
 }
 
-// Writes the inputs in the order of the style.
+// Writes the inputs of the edges that are left to a walk, in the order of the style.
 fn write_arranged<S: Sink>(
     alloc: Global,
     graph: &Graph,
-    targets: &[FileNo],
+    needs: Needs<'_>,
     style: InputsStyle,
     out: &mut Output<'_, S>,
 ) -> Result<(), ToolFault>
-    requires { All (λ file. file.0 < length (files_of graph.now)) targets.now }
+    requires { needs.graph ≡ graph.now.built.graph }
     ensures same { IsSame out.old out.new }
-    ensures text { PutsText S.state out.old out.new
-        (inputs_text style (edges_of graph.now) (map (path_at (files_of graph.now)) targets.now))
-        result }
+    ensures text { PutsText S.state out.old out.new (flat_map (terminated style)
+        (printed_strings style (inputs_of_all (edges_of graph.now) needs.entry.left))) result }
 {
     if style.dependency_order {
-        write_as_needed(alloc, graph, targets, style, out)
+        write_as_needed(alloc, graph, needs, style, out)
     } else {
-        let files = needed_inputs(alloc, graph, targets)?;
-        write_sorted(alloc, graph, &files, style, out)
+        let inputs = needed_inputs(alloc, graph, needs)?;
+        write_sorted(alloc, inputs.files(), style, out)
     }
 }
 
@@ -68,131 +69,126 @@ fn write_arranged<S: Sink>(
 fn write_as_needed<S: Sink>(
     alloc: Global,
     graph: &Graph,
-    targets: &[FileNo],
+    needs: Needs<'_>,
     style: InputsStyle,
     out: &mut Output<'_, S>,
 ) -> Result<(), ToolFault>
-    requires { All (λ file. file.0 < length (files_of graph.now)) targets.now }
+    requires { needs.graph ≡ graph.now.built.graph }
     ensures same { IsSame out.old out.new }
     ensures text { PutsText S.state out.old out.new
-        (flat_map (λ path. terminated style (printed style path)) (each_once bytes_eq (needed_inputs
-        (edges_of graph.now) (map (path_at (files_of graph.now)) targets.now)))) result }
+        (printed_text style (each_once bytes_eq
+        (inputs_of_all (edges_of graph.now) needs.entry.left)))
+        result }
 {
-    let mut needs = Needs::new(alloc, graph.edge_graph(), targets)?;
-    let mut written = vec![in alloc; false; graph.file_count()]?;
-    'edges: while let Some(edge) = needs.next() {
-        write_new_files(graph, graph.inputs(edge), style, &mut written, out)?;
+    let mut written = FileSet::new(alloc, graph)?;
+    'edges: for edge in needs {
+        append_new_files(
+            out.pending,
+            graph.edge_at(edge).inputs(),
+            style,
+            &mut written,
+        )?;
+        out.write_block()?;
     }
     Ok(())
 }
 
-// Writes those files that are not flagged as written, without duplicates, and flags them.
-fn write_new_files<S: Sink>(
-    graph: &Graph,
-    files: &[FileNo],
+// Appends those files that the set does not have, without duplicates, and adds them to it.
+fn append_new_files(
+    text: &mut Vec<u8>,
+    files: Files<'_>,
     style: InputsStyle,
-    written: &mut [bool],
-    out: &mut Output<'_, S>,
-) -> Result<(), ToolFault>
-    requires known { All (λ file. file.0 < length (files_of graph.now)) files.now }
-    requires count { length written.old ≡ length (files_of graph.now) }
-    ensures same { IsSame out.old out.new }
-    ensures flags { (earlier : List FileNo) → IsFlagged written.old earlier
-        → OnOk result (IsFlagged written.new (with_files earlier files.now)) }
-    ensures puts { (earlier : List FileNo) → IsFlagged written.old earlier
-        → PutsText S.state out.old out.new
-        (flat_map (λ file. terminated style (printed style (path_at (files_of graph.now) file)))
-        (new_files earlier files.now)) result }
+    written: &mut FileSet<'_>,
+) -> Result<(), AllocError>
+    requires { All (λ file. file.graph ≡ written.old.graph) files }
+    ensures graph { written.new.graph ≡ written.old.graph }
+    ensures more { (earlier : List (List ℕ)) → HasExactly written.old earlier → OnOk result
+        (HasExactly written.new (with_paths earlier (map (λ file. file.path) files.entry))) }
+    ensures text { (earlier : List (List ℕ)) → HasExactly written.old earlier → OnOk result
+        (text.new.items ≡ text.old.items ++ printed_text style
+        (new_paths earlier (map (λ file. file.path) files.entry))) }
 {
     'files: for file in files {
-        write_new_file(graph, *file, style, written, out)?;
+        append_new_file(text, file, style, written)?;
     }
     Ok(())
 }
 
-// Writes a file that is not flagged as written, and flags it.
-fn write_new_file<S: Sink>(
-    graph: &Graph,
-    file: FileNo,
+// Appends a file that the set does not have, and adds it.
+fn append_new_file(
+    text: &mut Vec<u8>,
+    file: File<'_>,
     style: InputsStyle,
-    written: &mut [bool],
-    out: &mut Output<'_, S>,
-) -> Result<(), ToolFault>
-    requires known { file.0 < length (files_of graph.now) }
-    requires count { length written.old ≡ length (files_of graph.now) }
-    ensures same { IsSame out.old out.new }
-    ensures flags { (earlier : List FileNo) → IsFlagged written.old earlier
-        → IsFlagged written.new (with_file earlier file) }
-    ensures puts { (earlier : List FileNo) → IsFlagged written.old earlier
-        → PutsText S.state out.old out.new
-        (flat_map (λ file. terminated style (printed style (path_at (files_of graph.now) file)))
-        (new_file earlier file)) result }
+    written: &mut FileSet<'_>,
+) -> Result<(), AllocError>
+    requires { (file_of file).graph ≡ written.old.graph }
+    ensures graph { written.new.graph ≡ written.old.graph }
+    ensures more { (earlier : List (List ℕ)) → HasExactly written.old earlier → OnOk result
+        (HasExactly written.new (with_name earlier (file_of file.entry).path)) }
+    ensures text { (earlier : List (List ℕ)) → HasExactly written.old earlier → OnOk result
+        (text.new.items ≡ text.old.items
+        ++ printed_text style (new_path earlier (file_of file.entry).path)) }
 {
-    if written[file.0] {
+    if written.has(file) {
         return Ok(());
     }
-    written[file.0] = true;
-    write_path(graph.path(file), style, out)
+    append_path(text, file.path(), style)?;
+    written.insert(file);
+    Ok(())
 }
 
-// Writes a printed path with its terminator.
-fn write_path<S: Sink>(
-    path: &[u8],
-    style: InputsStyle,
-    out: &mut Output<'_, S>,
-) -> Result<(), ToolFault>
-    ensures same { IsSame out.old out.new }
-    ensures text { PutsText S.state out.old out.new
-        (terminated style (printed style path.now)) result }
+// Appends a printed path with its terminator.
+fn append_path(text: &mut Vec<u8>, path: &[u8], style: InputsStyle) -> Result<(), AllocError>
+    ensures { OnOk result
+        (text.new.items ≡ text.old.items ++ terminated style (printed style path.now)) }
 {
     if style.shell_escape {
-        quote_into(out.pending, path)?;
-        out.ended(b"", terminator(style))
+        quote_into(text, path)?;
     } else {
-        out.ended(path, terminator(style))
+        text.extend_from_slice(path)?;
     }
+    text.push(terminator(style))?;
+    Ok(())
 }
 
 // ---- in byte order
 
-// The inputs of the edges whose commands the targets need.
-fn needed_inputs(
+// The inputs of the edges that are left to a walk.
+fn needed_inputs<'g>(
     alloc: Global,
-    graph: &Graph,
-    targets: &[FileNo],
-) -> Result<Vec<FileNo>, AllocError>
-    requires { All (λ file. file.0 < length (files_of graph.now)) targets.now }
-    ensures { IfOk result (λ files. AreOf (files_of graph.now) files.items
-        (needed_inputs (edges_of graph.now) (map (path_at (files_of graph.now)) targets.now))) }
+    graph: &'g Graph,
+    needs: Needs<'_>,
+) -> Result<Collected<'g>, AllocError>
+    requires { needs.graph ≡ graph.now.built.graph }
+    ensures graph { IfOk result (λ inputs. inputs.graph ≡ graph.entry.now) }
+    ensures paths { IfOk result (λ inputs. inputs.paths
+        ≡ each_once bytes_eq (inputs_of_all (edges_of graph.entry.now) needs.entry.left)) }
 {
-    let mut needs = Needs::new(alloc, graph.edge_graph(), targets)?;
-    let mut inputs = Collected::new(alloc, graph.file_count())?;
-    'edges: while let Some(edge) = needs.next() {
-        inputs.add_all(graph.inputs(edge))?;
+    let mut inputs = Collected::new(alloc, graph)?;
+    'edges: for edge in needs {
+        inputs.add_all(graph.edge_at(edge).inputs())?;
     }
-    Ok(inputs.into_files())
+    Ok(inputs)
 }
 
 // Writes the printed paths of files, in their byte order.
 fn write_sorted<S: Sink>(
     alloc: Global,
-    graph: &Graph,
-    files: &[FileNo],
+    files: Files<'_>,
     style: InputsStyle,
     out: &mut Output<'_, S>,
 ) -> Result<(), ToolFault>
-    requires { All (λ file. file.0 < length (files_of graph.now)) files.now }
     ensures same { IsSame out.old out.new }
     ensures text { PutsText S.state out.old out.new
         (flat_map (terminated style)
-        (sorted (map (printed style) (map (path_at (files_of graph.now)) files.now)))) result }
+        (sorted (map (printed style) (map (λ file. file.path) files.entry)))) result }
 {
     if style.shell_escape {
-        let quotes = sorted_quotes(alloc, graph, files)?;
+        let quotes = sorted_quotes(alloc, files)?;
         write_quotes(&quotes.quoted, style, out)?;
         out.texts(&quotes.plain, terminator(style))
     } else {
-        let paths = sorted_paths(alloc, graph, files)?;
+        let paths = sorted_paths(alloc, files)?;
         out.texts(&paths, terminator(style))
     }
 }

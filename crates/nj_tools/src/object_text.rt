@@ -1,10 +1,10 @@
 //! An object of JSON, member by member.
 
-ghost use Rattle.std.specs.Prelude.{◌≡◌, ◌<◌, ◌∷◌, [], All, IfOk, OnOk, length, map, option_map};
-ghost use Rattle.nj_tools.specs.Cited.{decimal, array, boolean, number, string, print, begin_array, begin_object, end_array, end_object, key, path_at, files_of, place_object, strings, and_member, and_string, and_token, no_members_yet};
+ghost use Rattle.std.specs.Prelude.{◌≡◌, ◌∷◌, [], IfOk, OnOk, map, option_map};
+ghost use Rattle.nj_tools.specs.Cited.{decimal, array, boolean, number, string, print, begin_array, begin_object, end_array, end_object, key, place_object, strings, and_member, and_string, and_token, no_members_yet};
 
 use json::Writer;
-use nj_graph::{FileNo, Graph, PlaceRef};
+use nj_graph::{Files, PlaceRef};
 use std::alloc::{AllocError, Global};
 use std::marker::Model;
 
@@ -70,21 +70,15 @@ impl ObjectText {
     }
 
     /// Adds the paths of files, as an array.
-    pub(crate) fn add_paths(
-        &mut self,
-        name: &str,
-        graph: &Graph,
-        files: &[FileNo],
-    ) -> Result<(), AllocError>
-        requires { All (λ file. file.0 < length (files_of graph.now)) files.now }
+    pub(crate) fn add_paths(&mut self, name: &str, files: Files<'_>) -> Result<(), AllocError>
         ensures { OnOk result (self.new ≡ and_member self.old (
           name.now,
-          array (strings (map (path_at (files_of graph.now)) files.now)),
+          array (strings (map (λ file. file.path) files.entry)),
         )) }
     {
         self.begin_array(name)?;
         'files: for file in files {
-            self.put_string(graph.path(*file))?;
+            self.put_string(file.path())?;
         }
         self.end_array()
     }

@@ -1,7 +1,7 @@
 //! Text on its way to a sink: it is written in blocks, from one buffer that is reused.
 
 ghost use Rattle.std.specs.Prelude.{◌≡◌, ◌++◌, ◌∷◌, [], OnOk, flat_map, map};
-ghost use Rattle.nj_tools.specs.Cited.{IsSame, PutsText, line, WritesText};
+ghost use Rattle.nj_tools.specs.Cited.{IsSame, PutsText, WritesText};
 
 use crate::sinks::Sink;
 use crate::tool_fault::ToolFault;
@@ -29,15 +29,6 @@ impl<'s, S: Sink> Output<'s, S> {
         Output { sink, pending }
     }
 
-    /// Adds a text.
-    pub(crate) fn text(&mut self, bytes: &[u8]) -> Result<(), ToolFault>
-        ensures same { IsSame self.old self.new }
-        ensures text { PutsText S.state self.old self.new bytes.now result }
-    {
-        self.append(bytes)?;
-        self.write_block()
-    }
-
     /// Adds a text and the byte that ends it.
     #[inline]
     pub(crate) fn ended(&mut self, bytes: &[u8], end: u8) -> Result<(), ToolFault>
@@ -59,25 +50,6 @@ impl<'s, S: Sink> Output<'s, S> {
             self.ended(text, end)?;
         }
         Ok(())
-    }
-
-    /// Adds a line of three parts.
-    #[inline]
-    pub(crate) fn line(
-        &mut self,
-        before: &[u8],
-        middle: &[u8],
-        after: &[u8],
-    ) -> Result<(), ToolFault>
-        ensures same { IsSame self.old self.new }
-        ensures text { PutsText S.state self.old self.new
-            (line (before.now ++ middle.now ++ after.now)) result }
-    {
-        self.append(before)?;
-        self.append(middle)?;
-        self.append(after)?;
-        self.pending.push(b'\n')?;
-        self.write_block()
     }
 
     // Adds a text to what is pending.

@@ -1,13 +1,14 @@
 //! The files from which files are made, and those made from them.
 
-ghost use Rattle.std.specs.Prelude.{◌<◌, ◌++◌, All, IfSome, length, map, option_map, codes};
-ghost use Rattle.nj_tools.specs.Cited.{OfStatements, edge_at, path_at, edges_of, files_of, IsSame, PutsText, line, lines_after, query_text, query_in, maker_text, inputs_by_kind, outputs_of_all, validations_section, validated_section, WritesText};
+ghost use Rattle.std.specs.Prelude.{◌≡◌, ◌<◌, ◌++◌, All, Some, OnOk, length, map};
+ghost use Rattle.nj_tools.specs.Cited.{OfStatements, OfEdge, path_at, edge_of, edges_of, file_of, files_of, inputs_by_kind, line, maker_of, maker_text, output_lines, paths_of, query_text, query_of_file, validated_lines, validation_lines, WritesText};
 
 use crate::output::Output;
 use crate::sinks::Sink;
+use crate::text_lines::{append_line, append_paths};
 use crate::tool_fault::ToolFault;
-use nj_graph::{EdgeNo, FileNo, Graph};
-use std::alloc::Global;
+use nj_graph::{Edge, Edges, File, FileNo, Files, Graph};
+use std::alloc::{AllocError, Global};
 
 /// Writes for each of these files the edge that makes it, with its inputs, and the outputs made
 /// from the file ("Extra tools" in the Ninja manual, `query`).
@@ -28,134 +29,89 @@ pub fn write_query<S: Sink>(
 {
     let mut text = Vec::new(alloc);
     let mut output = Output::new(out, &mut text);
-    'files: for file in files {
-        write_file(graph, *file, &mut output)?;
+    'files: for file in graph.files_at(files) {
+        append_file(output.pending, file)?;
+        output.write_block()?;
     }
     output.flush()
 }
 
-// Writes the edge that makes a file, with its inputs, and the outputs made from the file.
-fn write_file<S: Sink>(
-    graph: &Graph,
-    file: FileNo,
-    out: &mut Output<'_, S>,
-) -> Result<(), ToolFault>
-    requires { file.0 < length (files_of graph.now) }
-    ensures same { IsSame out.old out.new }
-    ensures text { OfStatements graph.now (λ entries. PutsText S.state out.old out.new
-        (query_in entries (edges_of graph.now) (path_at (files_of graph.now) file)) result) }
+// Appends the edge that makes a file, with its inputs, and the outputs made from the file.
+fn append_file(text: &mut Vec<u8>, file: File<'_>) -> Result<(), AllocError>
+    ensures { OfStatements (file_of file.entry).graph (λ entries. OnOk result
+        (text.new.items ≡ text.old.items ++ query_of_file entries (file_of file.entry))) }
 {
-    out.line(b"", graph.path(file), b":")?;
-    write_maker(graph, graph.maker(file), out)?;
-    write_outputs(graph, b"  outputs:", graph.users(file), out)?;
-    write_validated(graph, graph.validation_users(file), out)
+    append_line(text, file.path(), b":")?;
+    append_maker(text, file)?;
+    append_outputs(text, b"  outputs:", file.users())?;
+    append_validated(text, file.validation_users())
 }
 
-// Writes the rule, the inputs and the validations of the edge that makes a file, if there is one.
-fn write_maker<S: Sink>(
-    graph: &Graph,
-    maker: Option<EdgeNo>,
-    out: &mut Output<'_, S>,
-) -> Result<(), ToolFault>
-    requires { IfSome maker (λ edge. edge.0 < length (edges_of graph.now)) }
-    ensures same { IsSame out.old out.new }
-    ensures text { OfStatements graph.now (λ entries. PutsText S.state out.old out.new
-        (maker_text entries (edges_of graph.now) (option_map (λ edge. edge.0) maker)) result) }
+// Appends the rule, the inputs and the validations of the edge that makes a file, if there is one.
+#[tactic(auto, unfolding(crate::specs::Queries::maker_text))]
+fn append_maker(text: &mut Vec<u8>, file: File<'_>) -> Result<(), AllocError>
+    ensures { OfStatements (file_of file.entry).graph (λ entries. OnOk result
+        (text.new.items ≡ text.old.items ++ maker_text entries
+        (edges_of (file_of file.entry).graph)
+        (maker_of (edges_of (file_of file.entry).graph) (file_of file.entry).path))) }
 {
-    let Some(edge) = maker else {
-        return Ok(());
-    };
-    out.line(b"  input: ", graph.rule_name(edge), b"")?;
-    write_by_kind(graph, edge, out)?;
-    write_validations(graph, graph.validations(edge), out)
+    match file.maker() {
+        Some(edge) => append_edge(text, edge),
+        None => Ok(()),
+    }
 }
 
-// Writes the inputs of an edge by kind.
-fn write_by_kind<S: Sink>(
-    graph: &Graph,
-    edge: EdgeNo,
-    out: &mut Output<'_, S>,
-) -> Result<(), ToolFault>
-    requires { edge.0 < length (edges_of graph.now) }
-    ensures same { IsSame out.old out.new }
-    ensures text { PutsText S.state out.old out.new
-        (inputs_by_kind (edge_at (edges_of graph.now) edge.0)) result }
+// Appends the rule, the inputs and the validations of an edge.
+fn append_edge(text: &mut Vec<u8>, edge: Edge<'_>) -> Result<(), AllocError>
+    ensures { OfEdge (edge_of edge.entry) (λ entries number. OnOk result
+        (text.new.items ≡ text.old.items
+        ++ maker_text entries (edges_of (edge_of edge.entry).graph) (Some number))) }
 {
-    let edges = graph.edge_graph();
-    write_paths(graph, b"    ", edges.explicit_input_files(edge), out)?;
-    write_paths(graph, b"    | ", edges.implicit_input_files(edge), out)?;
-    write_paths(graph, b"    || ", edges.order_only_input_files(edge), out)
+    append_line(text, b"  input: ", edge.rule_name())?;
+    append_inputs(text, edge)?;
+    append_validations(text, edge.validations())
 }
 
-// Writes validations under their title, if there are any.
-fn write_validations<S: Sink>(
-    graph: &Graph,
-    files: &[FileNo],
-    out: &mut Output<'_, S>,
-) -> Result<(), ToolFault>
-    requires { All (λ file. file.0 < length (files_of graph.now)) files.now }
-    ensures same { IsSame out.old out.new }
-    ensures text { PutsText S.state out.old out.new
-        (validations_section (map (path_at (files_of graph.now)) files.now)) result }
+// Appends the inputs of an edge by kind.
+fn append_inputs(text: &mut Vec<u8>, edge: Edge<'_>) -> Result<(), AllocError>
+    ensures { OnOk result
+        (text.new.items ≡ text.old.items ++ inputs_by_kind (paths_of (edge_of edge.entry))) }
+{
+    append_paths(text, b"    ", edge.explicit_inputs())?;
+    append_paths(text, b"    | ", edge.implicit_inputs())?;
+    append_paths(text, b"    || ", edge.order_only_inputs())
+}
+
+// Appends validations under their title, if there are any.
+fn append_validations(text: &mut Vec<u8>, files: Files<'_>) -> Result<(), AllocError>
+    ensures { OnOk result (text.new.items ≡ text.old.items ++ validation_lines files.entry) }
 {
     if files.is_empty() {
         return Ok(());
     }
-    out.line(b"  validations:", b"", b"")?;
-    write_paths(graph, b"    ", files, out)
+    append_line(text, b"  validations:", b"")?;
+    append_paths(text, b"    ", files)
 }
 
-// Writes the outputs of the edges that name a file as a validation under their title, if there are
+// Appends the outputs of the edges that name a file as a validation under their title, if there are
 // such edges.
-fn write_validated<S: Sink>(
-    graph: &Graph,
-    users: &[EdgeNo],
-    out: &mut Output<'_, S>,
-) -> Result<(), ToolFault>
-    requires { All (λ edge. edge.0 < length (edges_of graph.now)) users.now }
-    ensures same { IsSame out.old out.new }
-    ensures text { PutsText S.state out.old out.new
-        (validated_section (edges_of graph.now) (map (λ edge. edge.0) users.now)) result }
+fn append_validated(text: &mut Vec<u8>, users: Edges<'_>) -> Result<(), AllocError>
+    ensures { OnOk result (text.new.items ≡ text.old.items ++ validated_lines users.entry) }
 {
     if users.is_empty() {
         return Ok(());
     }
-    write_outputs(graph, b"  validation for:", users, out)
+    append_outputs(text, b"  validation for:", users)
 }
 
-// Writes the outputs of edges under a title.
-fn write_outputs<S: Sink>(
-    graph: &Graph,
-    title: &[u8],
-    edges: &[EdgeNo],
-    out: &mut Output<'_, S>,
-) -> Result<(), ToolFault>
-    requires { All (λ edge. edge.0 < length (edges_of graph.now)) edges.now }
-    ensures same { IsSame out.old out.new }
-    ensures text { PutsText S.state out.old out.new (line title.now ++ lines_after (codes "    ")
-        (outputs_of_all (edges_of graph.now) (map (λ edge. edge.0) edges.now))) result }
+// Appends the outputs of edges under a title.
+fn append_outputs(text: &mut Vec<u8>, title: &[u8], edges: Edges<'_>) -> Result<(), AllocError>
+    ensures { OnOk result (text.new.items
+        ≡ text.old.items ++ (line title.now ++ output_lines edges.entry)) }
 {
-    out.line(title, b"", b"")?;
+    append_line(text, title, b"")?;
     'edges: for edge in edges {
-        write_paths(graph, b"    ", graph.outputs(*edge), out)?;
-    }
-    Ok(())
-}
-
-// Writes the paths of files, a line each, after this beginning.
-fn write_paths<S: Sink>(
-    graph: &Graph,
-    beginning: &[u8],
-    files: &[FileNo],
-    out: &mut Output<'_, S>,
-) -> Result<(), ToolFault>
-    requires { All (λ file. file.0 < length (files_of graph.now)) files.now }
-    ensures same { IsSame out.old out.new }
-    ensures text { PutsText S.state out.old out.new
-        (lines_after beginning.now (map (path_at (files_of graph.now)) files.now)) result }
-{
-    'files: for file in files {
-        out.line(beginning, graph.path(*file), b"")?;
+        append_paths(text, b"    ", edge.outputs())?;
     }
     Ok(())
 }

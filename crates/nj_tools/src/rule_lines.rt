@@ -1,13 +1,14 @@
 //! The rules of the main file.
 
 ghost use Rattle.std.specs.Prelude.{◌≡◌, ◌<◌, ◌++◌, length, OnOk};
-ghost use Rattle.nj_tools.specs.Cited.{OfStatements, main_rules, main_rule_at, IsSame, PutsText, rule_line, rules_text, WritesText};
+ghost use Rattle.nj_tools.specs.Cited.{OfStatements, main_rules, main_rule_at, rule_line, rules_text, WritesText};
 
 use crate::output::Output;
 use crate::sinks::Sink;
+use crate::text_lines::append_line;
 use crate::tool_fault::ToolFault;
 use nj_graph::Graph;
-use std::alloc::Global;
+use std::alloc::{AllocError, Global};
 
 /// Writes the names of the rules of the main file's scope, `phony` among them, in byte order; with
 /// `descriptions` also the values of their `description` lines, not expanded ("Extra tools" in the
@@ -29,29 +30,29 @@ pub fn write_rules<S: Sink>(
     let mut text = Vec::new(alloc);
     let mut output = Output::new(out, &mut text);
     'rules: for index in 0..graph.main_rule_count() {
-        write_rule(alloc, graph, index, descriptions, &mut output)?;
+        append_rule(alloc, output.pending, graph, index, descriptions)?;
+        output.write_block()?;
     }
     output.flush()
 }
 
-// Writes the name of a rule, and its description if it is requested and there is one.
-fn write_rule<S: Sink>(
+// Appends the name of a rule, and its description if it is requested and there is one.
+fn append_rule(
     alloc: Global,
+    text: &mut Vec<u8>,
     graph: &Graph,
     index: usize,
     descriptions: bool,
-    out: &mut Output<'_, S>,
-) -> Result<(), ToolFault>
+) -> Result<(), AllocError>
     requires { index < length (main_rules graph.now) }
-    ensures same { IsSame out.old out.new }
-    ensures text { PutsText S.state out.old out.new
-        (rule_line descriptions (main_rule_at graph.now index)) result }
+    ensures { OnOk result (text.new.items
+        ≡ text.old.items ++ rule_line descriptions (main_rule_at graph.now index)) }
 {
     let name = graph.main_rule(index);
     if descriptions && graph.has_description(index) {
-        let description = graph.description_text(alloc, index)?;
-        out.line(name, b": ", &description)
+        text.extend_from_slice(name)?;
+        append_line(text, b": ", &graph.description_text(alloc, index)?)
     } else {
-        out.line(name, b"", b"")
+        append_line(text, name, b"")
     }
 }

@@ -1,25 +1,20 @@
 //! Paths of files in byte order, verbatim and quoted for a shell.
 
-ghost use Rattle.std.specs.Prelude.{◌≡◌, ◌<◌, not, All, length, map, filter, IfOk, OnOk};
-ghost use Rattle.nj_tools.specs.Cited.{quoted, path_at, files_of, quote_strings, precedes_plain, sorted};
+ghost use Rattle.std.specs.Prelude.{◌≡◌, not, map, filter, IfOk, OnOk};
+ghost use Rattle.nj_tools.specs.Cited.{quoted, quote_strings, precedes_plain, sorted};
 
-use nj_graph::{FileNo, Graph};
+use nj_graph::Files;
 use nj_text::quote_into;
 use std::alloc::{AllocError, Global};
 
 /// The paths of files, in byte order.
-pub(crate) fn sorted_paths<'g>(
-    alloc: Global,
-    graph: &'g Graph,
-    files: &[FileNo],
-) -> Result<Vec<&'g [u8]>, AllocError>
-    requires { All (λ file. file.0 < length (files_of graph.now)) files.now }
+pub(crate) fn sorted_paths<'g>(alloc: Global, files: Files<'g>) -> Result<Vec<&'g [u8]>, AllocError>
     ensures { IfOk result (λ paths. map (λ path. path.now) paths.items
-        ≡ sorted (map (path_at (files_of graph.now)) files.now)) }
+        ≡ sorted (map (λ file. file.path) files.entry)) }
 {
     let mut paths = Vec::with_capacity(alloc, files.len())?;
     'files: for file in files {
-        paths.push(graph.path(*file))?;
+        paths.push(file.path())?;
     }
     sort_slices(&mut paths)?;
     Ok(paths)
@@ -36,39 +31,29 @@ pub(crate) struct Quotes<'g> {
 }
 
 /// The paths of files, quoted for a shell, in byte order of the quotes.
-pub(crate) fn sorted_quotes<'g>(
-    alloc: Global,
-    graph: &'g Graph,
-    files: &[FileNo],
-) -> Result<Quotes<'g>, AllocError>
-    requires { All (λ file. file.0 < length (files_of graph.now)) files.now }
+pub(crate) fn sorted_quotes<'g>(alloc: Global, files: Files<'g>) -> Result<Quotes<'g>, AllocError>
     ensures { IfOk result (λ quotes. quote_strings quotes
-        ≡ sorted (map quoted (map (path_at (files_of graph.now)) files.now))) }
+        ≡ sorted (map quoted (map (λ file. file.path) files.entry))) }
 {
-    let mut quotes = quotes_of(alloc, graph, files)?;
+    let mut quotes = quotes_of(alloc, files)?;
     sort_strings(&mut quotes.quoted)?;
     sort_slices(&mut quotes.plain)?;
     Ok(quotes)
 }
 
 // The paths of files, quoted for a shell, in the order of the files.
-fn quotes_of<'g>(
-    alloc: Global,
-    graph: &'g Graph,
-    files: &[FileNo],
-) -> Result<Quotes<'g>, AllocError>
-    requires { All (λ file. file.0 < length (files_of graph.now)) files.now }
+fn quotes_of<'g>(alloc: Global, files: Files<'g>) -> Result<Quotes<'g>, AllocError>
     ensures quoted { IfOk result (λ quotes. map (λ text. text.items) quotes.quoted.items
-        ≡ filter precedes_plain (map quoted (map (path_at (files_of graph.now)) files.now))) }
+        ≡ filter precedes_plain (map quoted (map (λ file. file.path) files.entry))) }
     ensures plain { IfOk result (λ quotes. map (λ path. path.now) quotes.plain.items
         ≡ filter (λ text. not (precedes_plain text))
-        (map quoted (map (path_at (files_of graph.now)) files.now))) }
+        (map quoted (map (λ file. file.path) files.entry))) }
 {
     let mut quote = Vec::new(alloc);
     let mut quoted = Vec::new(alloc);
     let mut plain = Vec::with_capacity(alloc, files.len())?;
     'files: for file in files {
-        let path = graph.path(*file);
+        let path = file.path();
         quote.clear();
         quote_into(&mut quote, path)?;
         if precedes_plain(&quote) {

@@ -1,15 +1,16 @@
 //! Lists of targets.
 
-ghost use Rattle.std.specs.Prelude.{◌≡◌, ◌<◌, All, length, map, filter, flat_map, is_none, IfOk, OnOk};
-ghost use Rattle.nj_tools.specs.Cited.{OfStatements, maker_of, path_at, edges_of, files_of, IsSame, PutsText, AreOf, with_files, lines, sorted, made_line, outputs_of_rule, sources_in, outputs_text, targets_text, WritesText};
+ghost use Rattle.std.specs.Prelude.{◌≡◌, ◌++◌, All, map, bytes_eq, is_none, IfOk, OnOk};
+ghost use Rattle.nj_tools.specs.Cited.{OfStatements, OfEdge, edge_of, edges_of, file_of, maker_of, IsSame, PutsText, with_paths, each_once, lines, lines_of_rule, made_line, made_lines, sorted, sources_among, outputs_of_rule, sources_in, outputs_text, targets_text, WritesText};
 
 use crate::file_list::Collected;
 use crate::output::Output;
 use crate::sinks::Sink;
 use crate::sorted_paths::sorted_paths;
+use crate::text_lines::append_line;
 use crate::tool_fault::ToolFault;
 use crate::trees::write_trees;
-use nj_graph::{EdgeNo, FileNo, Graph};
+use nj_graph::{Edge, File, Files, Graph};
 use nj_requests::TargetsView;
 use std::alloc::{AllocError, Global};
 
@@ -47,12 +48,12 @@ fn write_view<S: Sink>(
 {
     match view {
         TargetsView::OfRule(rule) => {
-            let files = outputs_of_rule(alloc, graph, rule.as_bytes())?;
-            write_sorted(alloc, graph, &files, out)
+            let outputs = outputs_of_rule(alloc, graph, rule.as_bytes())?;
+            write_sorted(alloc, outputs.files(), out)
         }
         TargetsView::Sources => {
-            let files = sources(alloc, graph)?;
-            write_sorted(alloc, graph, &files, out)
+            let sources = sources(alloc, graph)?;
+            write_sorted(alloc, sources.files(), out)
         }
         TargetsView::Depth(depth) => write_trees(alloc, graph, *depth, out),
         TargetsView::All => write_all(graph, out),
@@ -60,74 +61,71 @@ fn write_view<S: Sink>(
 }
 
 // The outputs of the edges whose rule has this name.
-fn outputs_of_rule(alloc: Global, graph: &Graph, rule: &[u8]) -> Result<Vec<FileNo>, AllocError>
-    ensures known { IfOk result (λ files.
-        All (λ file. file.0 < length (files_of graph.now)) files.items) }
-    ensures files { OfStatements graph.now (λ entries. IfOk result (λ files.
-        AreOf (files_of graph.now) files.items (outputs_of_rule entries rule.now))) }
+fn outputs_of_rule<'g>(
+    alloc: Global,
+    graph: &'g Graph,
+    rule: &[u8],
+) -> Result<Collected<'g>, AllocError>
+    ensures graph { IfOk result (λ outputs. outputs.graph ≡ graph.entry.now) }
+    ensures paths { OfStatements graph.entry.now (λ entries. IfOk result (λ outputs.
+        outputs.paths ≡ each_once bytes_eq (outputs_of_rule entries rule.now))) }
 {
-    let mut outputs = Collected::new(alloc, graph.file_count())?;
-    'edges: for number in 0..graph.edge_count() {
-        let edge = EdgeNo(number);
-        if graph.rule_name(edge) == rule {
-            outputs.add_all(graph.outputs(edge))?;
+    let mut outputs = Collected::new(alloc, graph)?;
+    'edges: for edge in graph.edges() {
+        if edge.rule_name() == rule {
+            outputs.add_all(edge.outputs())?;
         }
     }
-    Ok(outputs.into_files())
+    Ok(outputs)
 }
 
 // The inputs that no edge makes.
-fn sources(alloc: Global, graph: &Graph) -> Result<Vec<FileNo>, AllocError>
-    ensures { IfOk result (λ files.
-        AreOf (files_of graph.now) files.items (sources_in (edges_of graph.now))) }
+fn sources<'g>(alloc: Global, graph: &'g Graph) -> Result<Collected<'g>, AllocError>
+    ensures graph { IfOk result (λ sources. sources.graph ≡ graph.entry.now) }
+    ensures paths { IfOk result (λ sources.
+        sources.paths ≡ each_once bytes_eq (sources_in (edges_of graph.entry.now))) }
 {
-    let mut sources = Collected::new(alloc, graph.file_count())?;
-    'edges: for number in 0..graph.edge_count() {
-        add_sources(graph, graph.inputs(EdgeNo(number)), &mut sources)?;
+    let mut sources = Collected::new(alloc, graph)?;
+    'edges: for edge in graph.edges() {
+        add_sources(edge.inputs(), &mut sources)?;
     }
-    Ok(sources.into_files())
+    Ok(sources)
 }
 
 // Adds those files that no edge makes.
-fn add_sources(graph: &Graph, files: &[FileNo], sources: &mut Collected) -> Result<(), AllocError>
-    requires known { All (λ file. file.0 < length (files_of graph.now)) files.now }
-    requires count { sources.old.count ≡ length (files_of graph.now) }
-    ensures count { sources.new.count ≡ sources.old.count }
-    ensures files { OnOk result (sources.new.files ≡ with_files sources.old.files
-        (filter (λ file. is_none
-        (maker_of (edges_of graph.now) (path_at (files_of graph.now) file))) files.now)) }
+fn add_sources(files: Files<'_>, sources: &mut Collected<'_>) -> Result<(), AllocError>
+    requires { All (λ file. file.graph ≡ sources.old.graph) files }
+    ensures graph { sources.new.graph ≡ sources.old.graph }
+    ensures paths { OnOk result
+        (sources.new.paths ≡ with_paths sources.old.paths (sources_among files.entry)) }
 {
     'files: for file in files {
-        if is_source(graph, *file) {
-            sources.add(*file)?;
+        if is_source(file) {
+            sources.add(file)?;
         }
     }
     Ok(())
 }
 
 // Whether no edge makes a file.
-#[tactic(auto, using(crate::proofs::ListingLemmas::no_maker))]
-fn is_source(graph: &Graph, file: FileNo) -> bool
-    requires { file.0 < length (files_of graph.now) }
-    ensures { result
-        ≡ is_none (maker_of (edges_of graph.now) (path_at (files_of graph.now) file)) }
+fn is_source(file: File<'_>) -> bool
+    ensures { result ≡ is_none (maker_of (edges_of (file_of file.entry).graph)
+        (file_of file.entry).path) }
 {
-    graph.maker(file).is_none()
+    file.maker().is_none()
 }
 
 // Writes the paths of files, in byte order.
 fn write_sorted<S: Sink>(
     alloc: Global,
-    graph: &Graph,
-    files: &[FileNo],
+    files: Files<'_>,
     out: &mut Output<'_, S>,
 ) -> Result<(), ToolFault>
-    requires { All (λ file. file.0 < length (files_of graph.now)) files.now }
     ensures same { IsSame out.old out.new }
     ensures text { PutsText S.state out.old out.new
-        (lines (sorted (map (path_at (files_of graph.now)) files.now))) result }
+        (lines (sorted (map (λ file. file.path) files.entry))) result }
 {
-    let paths = sorted_paths(alloc, graph, files)?;
+    let paths = sorted_paths(alloc, files)?;
     out.texts(&paths, b'\n')
 }
 
@@ -137,28 +135,42 @@ fn write_all<S: Sink>(graph: &Graph, out: &mut Output<'_, S>) -> Result<(), Tool
     ensures text { OfStatements graph.now (λ entries.
         PutsText S.state out.old out.new (outputs_text entries) result) }
 {
-    'edges: for number in 0..graph.edge_count() {
-        let edge = EdgeNo(number);
-        write_made(graph, graph.outputs(edge), graph.rule_name(edge), out)?;
+    'edges: for edge in graph.edges() {
+        write_made(edge, out)?;
     }
     Ok(())
 }
 
 // Writes the outputs of an edge with its rule.
-fn write_made<S: Sink>(
-    graph: &Graph,
-    files: &[FileNo],
+fn write_made<S: Sink>(edge: Edge<'_>, out: &mut Output<'_, S>) -> Result<(), ToolFault>
+    ensures same { IsSame out.old out.new }
+    ensures text { OfEdge (edge_of edge.entry) (λ entries number. PutsText S.state out.old out.new
+        (made_lines entries (edge_of edge.entry)) result) }
+{
+    write_by_rule(edge.outputs(), edge.rule_name(), out)
+}
+
+// Writes files with the rule that makes them.
+fn write_by_rule<S: Sink>(
+    files: Files<'_>,
     rule: &[u8],
     out: &mut Output<'_, S>,
 ) -> Result<(), ToolFault>
-    requires { All (λ file. file.0 < length (files_of graph.now)) files.now }
     ensures same { IsSame out.old out.new }
-    ensures text { PutsText S.state out.old out.new
-        (flat_map (λ path. made_line path rule.now)
-        (map (path_at (files_of graph.now)) files.now)) result }
+    ensures text { PutsText S.state out.old out.new (lines_of_rule rule.now files.entry) result }
 {
     'files: for file in files {
-        out.line(graph.path(*file), b": ", rule)?;
+        append_made(out.pending, file, rule)?;
+        out.write_block()?;
     }
     Ok(())
+}
+
+// Appends a file with the rule that makes it, as a line.
+fn append_made(text: &mut Vec<u8>, file: File<'_>, rule: &[u8]) -> Result<(), AllocError>
+    ensures { OnOk result (text.new.items
+        ≡ text.old.items ++ made_line (file_of file.entry).path rule.now) }
+{
+    text.extend_from_slice(file.path())?;
+    append_line(text, b": ", rule)
 }

@@ -1,12 +1,13 @@
 //! Trees of targets' inputs.
 
-ghost use Rattle.std.specs.Prelude.{◌≡◌, ◌<◌, ◌+◌, ◌++◌, [], ◌∷◌, All, length, map, OnOk};
-ghost use Rattle.nj_tools.specs.Cited.{OfStatements, maker_of, path_at, edges_of, files_of, IsSame, PutsText, file_line, indent, inputs_of_maker, levels_of, trees_text, rows_of, AreKnown, rows_after};
+ghost use Rattle.std.specs.Prelude.{◌≡◌, ◌+◌, ◌++◌, [], ◌∷◌, length, map, OnOk};
+ghost use Rattle.nj_tools.specs.Cited.{OfStatements, maker_of, edges_of, file_of, files_in, IsSame, PutsText, file_line, indent, inputs_of_maker, levels_of, trees_text, rows_left};
 
 use crate::output::Output;
 use crate::sinks::Sink;
+use crate::text_lines::append_line;
 use crate::tool_fault::ToolFault;
-use nj_graph::{FileNo, Graph};
+use nj_graph::{File, Files, Graph};
 use std::alloc::{AllocError, Global};
 
 /// Writes the trees of the roots: each file, then the inputs of its maker, one level deeper, and so
@@ -24,13 +25,14 @@ pub(crate) fn write_trees<S: Sink>(
     let below = levels_below(graph, depth);
     // The rest of each row of files: the roots at the bottom, the deepest row on top.
     let mut rows = Vec::new(alloc);
-    rows.push(graph.roots())?;
-    'files: while let Some(row) = rows.pop() {
-        let [file, others @ ..] = row else {
+    rows.push(graph.root_files())?;
+    'files: while let Some(mut row) = rows.pop() {
+        let Some(file) = row.next() else {
             continue;
         };
-        write_at_depth(graph, rows.len(), *file, out)?;
-        push_rows(graph, below, *file, others, &mut rows)?;
+        append_at_depth(out.pending, rows.len(), file)?;
+        out.write_block()?;
+        push_rows(below, file, row, &mut rows)?;
     }
     Ok(())
 }
@@ -47,60 +49,46 @@ fn levels_below(graph: &Graph, depth: u32) -> usize
 
 // Pushes the rest of a file's row back, and then the inputs of the file's maker, unless the file is
 // on the last level.
-fn push_rows<'a>(
-    graph: &'a Graph,
+fn push_rows<'g>(
     below: usize,
-    file: FileNo,
-    others: &'a [FileNo],
-    rows: &mut Vec<&'a [FileNo]>,
+    file: File<'g>,
+    others: Files<'g>,
+    rows: &mut Vec<Files<'g>>,
 ) -> Result<(), AllocError>
-    requires { file.0 < length (files_of graph.now) }
-    ensures rows { OnOk result (rows_of (files_of graph.now) rows.new.items
-        ≡ rows_after (edges_of graph.now) (below + 1) (rows_of (files_of graph.now) rows.old.items)
-        (path_at (files_of graph.now) file) (map (path_at (files_of graph.now)) others.now)) }
-    ensures known { AreKnown (files_of graph.now) rows.old.items
-        → AreKnown (files_of graph.now) (others.entry ∷ [])
-        → OnOk result (AreKnown (files_of graph.now) rows.new.items) }
+    ensures { OnOk result (rows.new.items
+        ≡ rows_left (below + 1) rows.old.items (file_of file.entry) others.entry) }
 {
     rows.push(others)?;
     if rows.len() <= below {
-        rows.push(inputs_of_maker(graph, file))?;
+        rows.push(inputs_of_maker(file))?;
     }
     Ok(())
 }
 
 // The inputs of a file's maker.
-fn inputs_of_maker(graph: &Graph, file: FileNo) -> &[FileNo]
-    requires { file.0 < length (files_of graph.now) }
-    ensures paths { map (path_at (files_of graph.now)) result.now
-        ≡ inputs_of_maker (edges_of graph.now)
-        (maker_of (edges_of graph.now) (path_at (files_of graph.now) file)) }
-    ensures known { All (λ file. file.0 < length (files_of graph.now)) result.now }
+fn inputs_of_maker<'g>(file: File<'g>) -> Files<'g>
+    ensures { result ≡ files_in (file_of file.entry).graph
+        (inputs_of_maker (edges_of (file_of file.entry).graph)
+        (maker_of (edges_of (file_of file.entry).graph) (file_of file.entry).path)) }
 {
-    match graph.maker(file) {
-        Some(edge) => graph.inputs(edge),
-        None => &[],
+    match file.maker() {
+        Some(edge) => edge.inputs(),
+        None => file.graph().files_at(&[]),
     }
 }
 
-// Writes a file at a depth, with the rule of the edge that makes it.
-fn write_at_depth<S: Sink>(
-    graph: &Graph,
-    depth: usize,
-    file: FileNo,
-    out: &mut Output<'_, S>,
-) -> Result<(), ToolFault>
-    requires { file.0 < length (files_of graph.now) }
-    ensures same { IsSame out.old out.new }
-    ensures text { OfStatements graph.now (λ entries. PutsText S.state out.old out.new
-        (indent depth ++ file_line entries
-        (maker_of (edges_of graph.now) (path_at (files_of graph.now) file))
-        (path_at (files_of graph.now) file)) result) }
+// Appends a file at a depth, with the rule of the edge that makes it.
+fn append_at_depth(text: &mut Vec<u8>, depth: usize, file: File<'_>) -> Result<(), AllocError>
+    ensures { OfStatements (file_of file.entry).graph (λ entries. OnOk result (text.new.items
+        ≡ text.old.items ++ (indent depth ++ file_line entries
+        (maker_of (edges_of (file_of file.entry).graph) (file_of file.entry).path)
+        (file_of file.entry).path))) }
 {
-    append_indent(out.pending, depth)?;
-    match graph.maker(file) {
-        Some(edge) => out.line(graph.path(file), b": ", graph.rule_name(edge)),
-        None => out.line(graph.path(file), b"", b""),
+    append_indent(text, depth)?;
+    text.extend_from_slice(file.path())?;
+    match file.maker() {
+        Some(edge) => append_line(text, b": ", edge.rule_name()),
+        None => append_line(text, b"", b""),
     }
 }
 

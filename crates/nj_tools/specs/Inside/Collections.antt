@@ -1,55 +1,50 @@
 -- How files are collected, without duplicates.
-use Rattle.std.specs.Prelude.{◌≡◌, ℕ, ◌<◌, Bool, false, if◌then◌else◌, List, [], ◌∷◌, ◌++◌, All, map, length, slice_index_or}
-use Rattle.std.specs.Prelude.{bytes_eq}
-use Rattle.std.specs.List.{flat_map}
+use Rattle.std.specs.Prelude.{◌≡◌, ℕ, ◌<◌, Bool, false, if◌then◌else◌, List, [], ◌∷◌, ◌++◌, All, flat_map, is_none, filter, map, length, slice_index_or}
 use Rattle.nj_names.specs.declared.files.FileNo.{FileNo}
-use Rattle.nj_edges.specs.Inside.EdgesHeld.{has_number}
 use Rattle.nj_names.specs.Files.{path_at}
-use Rattle.nj_edges.specs.Repeats.{each_once}
-use Rattle.nj_edges.specs.EdgeGraphs.{EdgeGraph}
-use Rattle.nj_needs.specs.Graphs.{row_of}
-use Rattle.nj_needs.specs.Order.{made_by}
+use Rattle.nj_names.specs.NameTables.{is_among, name_at, with_name}
+use Rattle.nj_edges.specs.Edges.{EdgePaths, edge_at, inputs_of, maker_of}
+use Rattle.nj_graph.specs.Graph.{GraphModel, edges_of, files_of}
+use Rattle.nj_graph.specs.Handles.{GraphFile}
 
--- an edge by itself
-abbrev pub single : ℕ → List ℕ
-single e = e ∷ []
+-- a set of files of a graph: a flag for each of its files
+pub record Flags : Type 0 where
+  pub graph : GraphModel
+  pub flags : List Bool
 
--- the makers of files, in their order, with repeats
-abbrev pub own_makers : EdgeGraph → (files : List FileNo) → List ℕ
-own_makers g files = flat_map (made_by single) (row_of g files)
+-- the set has the files of these paths and no others
+pub record HasExactly (set : Flags) (paths : List (List ℕ)) : Type 0 where
+  pub flagged : (number : ℕ) → number < length set.flags
+      → slice_index_or set.flags number false ≡ is_among paths (name_at (files_of set.graph) number)
 
--- files of a graph that has `count` files
+-- files of a graph, by their paths
 pub record Collection : Type 0 where
-  pub count : ℕ
-  pub files : List FileNo
+  pub graph : GraphModel
+  pub paths : List (List ℕ)
 
--- whether a file is one of these
-abbrev pub is_collected : List FileNo → FileNo → Bool
-is_collected files file = has_number file.0 files
+-- the files of these numbers are those of the set
+pub record AreAdded (set : Flags) (files : List FileNo) : Type 0 where
+  pub exactly : HasExactly set (map (path_at (files_of set.graph)) files)
+  pub known : All (λ file. file.0 < length (files_of set.graph)) files
 
--- the files with one more at the end, unless it is there already
-abbrev pub with_file : List FileNo → FileNo → List FileNo
-with_file files file = if is_collected files file then files else files ++ file ∷ []
+-- the paths with more of them
+abbrev pub with_paths : (paths more : List (List ℕ)) → List (List ℕ)
+with_paths paths [] = paths
+with_paths paths (path ∷ more) = with_paths (with_name paths path) more
 
--- the flags are set for exactly these files
-abbrev pub IsFlagged : (flags : List Bool) → List FileNo → Type 0
-IsFlagged flags files = (file : FileNo) → file.0 < length flags → slice_index_or flags file.0 false ≡ is_collected files file
+-- a path, unless it is one of these already
+abbrev pub new_path : (paths : List (List ℕ)) → (path : List ℕ) → List (List ℕ)
+new_path paths path = if is_among paths path then [] else path ∷ []
 
--- the files with more of them
-abbrev pub with_files : List FileNo → List FileNo → List FileNo
-with_files files [] = files
-with_files files (file ∷ more) = with_files (with_file files file) more
+-- of more paths those that are new, without duplicates
+abbrev pub new_paths : (paths more : List (List ℕ)) → List (List ℕ)
+new_paths paths [] = []
+new_paths paths (path ∷ more) = new_path paths path ++ new_paths (with_name paths path) more
 
--- a file, unless it is one of these already
-abbrev pub new_file : List FileNo → FileNo → List FileNo
-new_file files file = if is_collected files file then [] else file ∷ []
+-- the paths of those files that no edge makes
+abbrev pub sources_among : List GraphFile → List (List ℕ)
+sources_among files = map (λ file. file.path) (filter (λ file. is_none (maker_of (edges_of file.graph) file.path)) files)
 
--- of more files those that are new, without duplicates
-abbrev pub new_files : List FileNo → List FileNo → List FileNo
-new_files files [] = []
-new_files files (file ∷ more) = new_file files file ++ new_files (with_file files file) more
-
--- these are the files of a list of paths, without duplicates
-pub record AreOf (paths : List (List ℕ)) (files : List FileNo) (listed : List (List ℕ)) : Type 0 where
-  pub paths_are : map (path_at paths) files ≡ each_once bytes_eq listed
-  pub known : All (λ file. file.0 < length paths) files
+-- the inputs of edges
+abbrev pub inputs_of_all : List EdgePaths → (numbers : List ℕ) → List (List ℕ)
+inputs_of_all edges numbers = flat_map (λ e. inputs_of (edge_at edges e)) numbers

@@ -1,5 +1,6 @@
 -- A sink, and the text that it is to take next.
-use Rattle.std.specs.Prelude.{◌≡◌, ℕ, List, ◌++◌, Result, Ok, Err}
+use Rattle.std.specs.Prelude.{◌≡◌, ℕ, List, ◌++◌, flat_map, Result, Ok, Err}
+use Rattle.std.specs.List.{AllByRecursion}
 use Rattle.nj_tools.specs.Sinks.{SinkState}
 use Rattle.nj_tools.specs.Texts.{StopsWithin}
 use Rattle.nj_tools.specs.Inside.Blocks.{IsUnderway}
@@ -24,3 +25,14 @@ module _ {S : Type 0} (state : S → SinkState) where
   abbrev pub PutsText : {X : Type 0} → (old new : Output S) → (text : List ℕ) → Result X ToolFault → Type 0
   PutsText old new text (Ok done) = Adds old new text
   PutsText old new text (Err fault) = Stops old new text fault
+
+  -- a text was added since the old value, and that and what is left are the whole
+  pub record Leaves (old now : Output S) (whole left : List ℕ) : Type 0 where
+    pub text : List ℕ
+    pub added : Adds old now text
+    pub parts : text ++ left ≡ whole
+
+  -- the same where a text is left for each of these items, of which all have a property
+  pub record LeavesEach {X : Type 0} (text_of : X → List ℕ) (P : X → Type 0) (old now : Output S) (whole : List ℕ) (items : List X) : Type 0 where
+    pub all : AllByRecursion P items
+    pub left : Leaves old now whole (flat_map text_of items)

@@ -1,10 +1,10 @@
 -- How trees are written, row by row.
-use Rattle.std.specs.Prelude.{ℕ, zero, suc, ◌+◌, ◌-◌, List, [], ◌∷◌, ◌++◌, map, flat_map, length, sum_by, All, ◌<◌, nat_lt, if◌then◌else◌}
-use Rattle.std.specs.Borrow.{Bor}
+use Rattle.std.specs.Prelude.{◌≡◌, ℕ, zero, suc, ◌+◌, ◌-◌, List, [], ◌∷◌, ◌++◌, map, flat_map, length, sum_by, nat_lt, if◌then◌else◌}
+use Rattle.std.specs.List.{AllByRecursion}
 use Rattle.nj_scope.specs.ReadingList.{ReadStatement}
 use Rattle.nj_edges.specs.Edges.{EdgePaths, maker_of}
-use Rattle.nj_names.specs.Files.{path_at}
-use Rattle.nj_names.specs.declared.files.FileNo.{FileNo}
+use Rattle.nj_graph.specs.Graph.{GraphModel, edges_of}
+use Rattle.nj_graph.specs.Handles.{GraphFile, files_in}
 use Rattle.nj_tools.specs.Listings.{inputs_of_maker, tree_text}
 
 -- the trees of the rest of rows of files, the deepest row last, where this many levels are written
@@ -24,12 +24,22 @@ rows_after edges levels rows path others =
 -- ---- how they are held
 
 -- rows of files by their paths
-abbrev pub rows_of : (files : List (List ℕ)) → (rows : List (Bor (List FileNo))) → List (List (List ℕ))
-rows_of files rows = map (λ row. map (path_at files) row.now) rows
+abbrev pub rows_of : (rows : List (List GraphFile)) → List (List (List ℕ))
+rows_of rows = map (λ row. map (λ file. file.path) row) rows
 
--- all of them are numbers of files
-abbrev pub AreKnown : (files : List (List ℕ)) → (rows : List (Bor (List FileNo))) → Type 0
-AreKnown files rows = All (λ row. All (λ file. file.0 < length files) row.now) rows
+-- all of them are files of the graph
+abbrev pub AreIn : GraphModel → (rows : List (List GraphFile)) → Type 0
+AreIn graph rows = AllByRecursion (λ row. AllByRecursion (λ file. file.graph ≡ graph) row) rows
+
+-- the inputs of a file's maker
+abbrev pub inputs_below : GraphFile → List GraphFile
+inputs_below file = files_in file.graph (inputs_of_maker (edges_of file.graph) (maker_of (edges_of file.graph) file.path))
+
+-- the rows after a file was written, as above
+abbrev pub rows_left : (levels : ℕ) → (rows : List (List GraphFile)) → (file : GraphFile) → (others : List GraphFile)
+    → List (List GraphFile)
+rows_left levels rows file others =
+    if nat_lt (length rows + 1) levels then (rows ++ others ∷ []) ++ inputs_below file ∷ [] else rows ++ others ∷ []
 
 -- ---- how long it takes
 

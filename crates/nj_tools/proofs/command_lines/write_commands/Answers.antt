@@ -1,22 +1,33 @@
-use Rattle.std.proofs.Common.{[], ◌∷◌, ◌++◌, sym, subst, rules}
+use Rattle.std.proofs.Common.{[], ◌∷◌, ◌++◌, refl, sym, subst, rules}
 use Rattle.std.proofs.lemmas.Result.{err_from_is_err_and}
 use Rattle.nj_scope.specs.Readings.{IsPrefix}
 use Rattle.nj_needs.specs.PageWalks.{written}
 use Rattle.nj_tools.specs.CommandStrings.{command_lines}
-use Rattle.nj_tools.proofs.OutputLemmas.{adds-next, sink-fails, sink-takes, stops-front, stops-next}
-use Rattle.nj_tools.proofs.OutputLemmas.{text-stopped}
-use Rattle.nj_tools.proofs.CommandLemmas.{lines-last, lines-front}
+use Rattle.nj_tools.proofs.OutputLemmas.{adds-next, adds_block, sink-fails, sink-takes, stops-front}
+use Rattle.nj_tools.proofs.OutputLemmas.{stops-here}
+use Rattle.nj_tools.proofs.OutputLemmas.{stops-next, stops_block, text-stopped}
+use Rattle.nj_tools.proofs.CommandLemmas.{lines-last, lines-front, of_edge}
 use Rattle.nj_tools.proofs.command_lines.write_commands.Goals as goal
 
-pub returns-in_err-write_command-clause-writes : goal.returns-in_err-write_command-clause-writes
-returns-in_err-write_command-clause-writes g c entries graph =
+pub returns-in_err-append_command-clause-writes : goal.returns-in_err-append_command-clause-writes
+returns-in_err-append_command-clause-writes g c entries graph =
+    let i = c.commands.invariant in
+    text-stopped c.args.out.now _ c.from_residual.result (search rules) c.from_residual.ensures.1
+    (stops-here {new = c.commands.output} _ (lines-front entries i.edges _ _ i.page.written)
+    (i.text entries graph))
+
+pub returns-in_err-write_block-clause-writes : goal.returns-in_err-write_block-clause-writes
+returns-in_err-write_block-clause-writes g c entries graph =
     let i = c.commands.invariant in
     let e = c.in-Some.edge.0 in
     let page = c.in-Some.ensures.goes_on c.args.needs.now c.args.take i.edges i.page in
     let front = subst (λ t. IsPrefix t (command_lines entries (written c.args.take c.args.needs.now.left)))
     (lines-last entries i.edges e) (lines-front entries (i.edges ++ e ∷ []) _ _ page.written) in
-    text-stopped c.args.out.now _ c.from_residual.result (search rules) c.from_residual.ensures.1
-    (stops-next _ front (i.text entries graph) (c.in_err-write_command.ensures.text entries graph))
+    text-stopped c.args.out.now _ c.from_residual-in_err-write_block.result (search rules)
+    c.from_residual-in_err-write_block.ensures.1
+    (stops-next _ front (i.text entries graph)
+    (stops_block _ refl (of_edge _ c.edge_at.ensures (c.in_ok-append_command.ensures entries) graph)
+    c.in_err-write_block.ensures.text))
 
 pub commands-preserved : goal.commands-preserved
 commands-preserved g c =
@@ -27,7 +38,8 @@ commands-preserved g c =
       page = c.in-Some.ensures.goes_on c.args.needs.now c.args.take i.edges i.page;
       same = search rules;
       text = λ entries graph. adds-next _ (sym (lines-last entries i.edges e)) (i.text entries graph)
-          (c.in_ok-write_command.ensures.text entries graph);
+          (adds_block _ refl (of_edge _ c.edge_at.ensures (c.in_ok-append_command.ensures entries) graph)
+          c.in_ok-write_block.ensures.text);
     }
 
 pub returns-in_err-flush-clause-writes : goal.returns-in_err-flush-clause-writes

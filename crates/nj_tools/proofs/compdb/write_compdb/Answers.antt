@@ -1,7 +1,8 @@
-use Rattle.std.proofs.Common.{map, string_bytes, subst, ◌∙◌, rules}
+use Rattle.std.proofs.Common.{map, refl, string_bytes, subst, ◌∙◌, rules}
+use Rattle.nj_tools.specs.Compdb.{unheld_edge}
 use Rattle.nj_tools.specs.Inside.CompdbHeld.{Refuses}
 use Rattle.nj_tools.proofs.OutputLemmas.{adds-is, front-is, sink-fails, sink-stops, sink-takes, stops-before}
-use Rattle.nj_tools.proofs.CompdbLemmas.{fault-is, list-ends, list-is, list-stops}
+use Rattle.nj_tools.proofs.CompdbLemmas.{fault-is, list-ends, list-is, list-stops, refused-is}
 use Rattle.nj_tools.proofs.compdb.write_compdb.Goals as goal
 
 pub returns-in_err-unheld : goal.returns-in_err-unheld
@@ -30,9 +31,12 @@ returns g c entries graph =
     let rules_of = map string_bytes c.args.rules.now in
     let is = list-is entries c.args.directory.now chosen rules_of c.args.expand c.in_ok-chosen.ensures
     c.deref.result.now (c.deref.ensures.value ∙ c.in_ok-directory.ensures) in
+    let refused = refused-is entries c.args.graph.now c.in_ok-unheld.unheld
+    (unheld_edge entries chosen c.args.expand) (c.in_ok-unheld.ensures.unheld entries graph) graph in
     list-ends _ _ _ _ c.refuse.result
     (sink-takes c.args.out.now _ _ (search rules) (adds-is _ is (c.in_ok-unheld.ensures.text entries graph))
     c.in_ok-flush.ensures.writes)
-    (subst (λ refused. Refuses refused c.refuse.result)
-    (fault-is entries c.args.directory.now chosen rules_of c.args.expand c.in_ok-chosen.ensures _
-    (c.in_ok-unheld.ensures.unheld entries graph)) (c.refuse.ensures entries graph))
+    (subst (λ fault. Refuses fault c.refuse.result)
+    (refused.1 ∙ fault-is entries c.args.directory.now chosen rules_of c.args.expand c.in_ok-chosen.ensures _
+    refl)
+    (c.refuse.ensures entries refused.0))

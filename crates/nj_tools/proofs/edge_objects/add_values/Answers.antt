@@ -4,7 +4,7 @@ use Rattle.nj_tools.proofs.edge_objects.add_values.Goals as goal
 
 pub returns : goal.returns
 returns c entries graph = on_ok_weaker c.add_value-10.result (λ is.
-    values-added entries c.args.edge.0 c.args.object.now
+    values-added entries c.args.edge.number.0 c.args.object.now
     c.add_value.new.object c.add_value-2.new.object c.add_value-3.new.object c.add_value-4.new.object
     c.add_value-5.new.object
     c.add_value-6.new.object c.add_value-7.new.object c.add_value-8.new.object c.add_value-9.new.object

@@ -11,7 +11,7 @@ use Rattle.nj_tools.proofs.edge_objects.object_of.Goals as goal
 
 pub returns : goal.returns
 returns c entries graph =
-    let edge = c.args.edge.0 in
+    let edge = c.args.edge.number.0 in
     IfOk-weaker c.into_text.result _ _
     (λ text is. is ∙ ap (option_map print)
     (members-added entries edge c.in_ok-object.object c.add_head.new.object c.add_files.new.object

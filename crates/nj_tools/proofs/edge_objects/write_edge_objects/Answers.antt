@@ -1,8 +1,8 @@
-use Rattle.std.proofs.Common.{option_map, ap, subst, rules}
-use Rattle.nj_tools.specs.Compdb.{text_fault}
+use Rattle.std.proofs.Common.{subst, rules}
+use Rattle.nj_tools.specs.EdgeObjects.{unwritable_edge}
 use Rattle.nj_tools.specs.Inside.CompdbHeld.{Refuses}
 use Rattle.nj_tools.proofs.OutputLemmas.{sink-fails, sink-stops, sink-takes}
-use Rattle.nj_tools.proofs.CompdbLemmas.{list-ends, list-stops}
+use Rattle.nj_tools.proofs.CompdbLemmas.{list-ends, list-stops, refused-is}
 use Rattle.nj_tools.proofs.edge_objects.write_edge_objects.Goals as goal
 
 pub returns-in_err-unwritable : goal.returns-in_err-unwritable
@@ -20,9 +20,9 @@ returns-in_err-flush g c entries graph =
 
 pub returns : goal.returns
 returns g c entries graph =
+    let refused = refused-is entries c.args.graph.now c.in_ok-unwritable.unwritable (unwritable_edge entries)
+    (c.in_ok-unwritable.ensures.unwritable entries graph) graph in
     list-ends _ _ _ _ c.refuse.result
     (sink-takes c.args.out.now _ _ (search rules)
     (c.in_ok-unwritable.ensures.text entries graph) c.in_ok-flush.ensures.writes)
-    (subst (λ refused. Refuses refused c.refuse.result)
-    (ap (option_map (text_fault entries)) (c.in_ok-unwritable.ensures.unwritable entries graph))
-    (c.refuse.ensures entries graph))
+    (subst (λ fault. Refuses fault c.refuse.result) refused.1 (c.refuse.ensures entries refused.0))

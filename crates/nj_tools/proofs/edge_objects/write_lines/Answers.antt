@@ -1,90 +1,119 @@
-use Rattle.std.proofs.Common.{◌≡◌, ◌<◌, None, length, option_map, refl, ap, sym, ◌∙◌, arith, rules}
+use Rattle.std.proofs.Common.{◌≡◌, ◌++◌, ◌∙◌, [], None, ap, flat_map, length, not, option_map, refl}
+use Rattle.std.proofs.Common.{rules, subst, sym}
+use Rattle.std.specs.Prelude.{find, take_while}
+use Rattle.std.specs.List.{range_with_len}
 use Rattle.std.specs.Global.{Vec}
 use Rattle.json.specs.Print.{print}
-use Rattle.nj_statements.specs.EdgeList.{edges_read}
-use Rattle.nj_edges.specs.EdgeGraphs.{EdgeGraph}
-use Rattle.nj_graph.specs.Graph.{edges_of}
+use Rattle.nj_scope.proofs.MemoryLemmas.{find-map}
+use Rattle.nj_graph.specs.Graph.{IsGraphOf, edges_of}
+use Rattle.nj_graph.specs.Handles.{edge_in, edge_of}
 use Rattle.nj_tools.specs.EdgeObjects.{edge_object}
 use Rattle.nj_tools.specs.Inside.ObjectTexts.{held_text}
-use Rattle.nj_tools.proofs.OutputLemmas.{adds-is, adds-next, adds-nothing, stops-here, stops-next, stops-with}
-use Rattle.nj_tools.proofs.CompdbLemmas.{count-is}
-use Rattle.nj_tools.proofs.EdgeObjectLemmas.{is-unwritable, line-front, lines-all, lines-before, lines-front}
-use Rattle.nj_tools.proofs.EdgeObjectLemmas.{lines-next, none-unwritable, passed-next}
+use Rattle.nj_tools.specs.JsonObjects.{json_line, strings_are_utf8}
+use Rattle.nj_tools.specs.Lines.{line}
+use Rattle.nj_tools.proofs.EdgeLists.{edge-count, edges-in}
+use Rattle.nj_tools.proofs.EdgeObjectLemmas.{is-unwritable, lines-all, lines-end, lines-next, lines-none}
+use Rattle.nj_tools.proofs.EdgeObjectLemmas.{lines_left}
+use Rattle.nj_tools.proofs.EdgeObjectLemmas.{passes-next, writable}
+use Rattle.nj_tools.proofs.OutputLemmas.{adds_block, leaves_all, leaves_next, leaves_none, stops-with}
+use Rattle.nj_tools.proofs.OutputLemmas.{stops_block}
+use Rattle.nj_tools.proofs.OutputLemmas.{stops_memory, stops_next}
 use Rattle.nj_tools.proofs.edge_objects.write_lines.Goals as goal
 
 pub edges-init : goal.edges-init
-edges-init g c = record { same = search rules; written = λ entries graph. (refl, adds-nothing _) }
+edges-init g c =
+    let h = c.args.graph.now in
+    let is = c.into_iter-edge-iterator.ensures.into_iter_gives ∙ c.edges-edge-items.ensures in
+    record {
+      same = search rules;
+      all = rw is (edges-in h _);
+      left = λ entries graph.
+          leaves_all _ _ _ (ap (lines_left entries) is
+          ∙ lines-all entries h (range_with_len 0 (length (edges_of h)))
+          ∙ ap (λ n. flat_map (λ edge. json_line (edge_object entries edge))
+          (take_while (λ edge. strings_are_utf8 (edge_object entries edge)) (range_with_len 0 n)))
+          (edge-count h entries graph));
+      unwritable = λ entries graph.
+          ap (find (λ edge. not (writable entries edge))) is
+          ∙ find-map (edge_in h) (λ edge. not (writable entries edge))
+          (range_with_len 0 (length (edges_of h)))
+          ∙ ap (λ n. option_map (edge_in h) (find (λ edge. not (strings_are_utf8 (edge_object entries edge)))
+          (range_with_len 0 n))) (edge-count h entries graph);
+    }
 
 pub returns-in_err-object-clause-text : goal.returns-in_err-object-clause-text
 returns-in_err-object-clause-text g c entries graph =
-    let (passed, text) = c.edges.invariant.written entries graph in
     stops-with c.from_residual.result c.from_residual.ensures.1
-    (stops-here _ (lines-front entries c.edges.number passed) text)
+    (stops_memory (c.edges.invariant.left entries graph) c.edges.out refl)
 
 pub returns-in_default-clause-text : goal.returns-in_default-clause-text
 returns-in_default-clause-text g c entries graph =
-    let count = count-is c.args.graph.now entries graph in
-    let counted : c.edge_count-number-end.result ≡ length (edges_of c.args.graph.now) =
-    c.edge_count-number-end.ensures.count ∙ ap (λ (v : EdgeGraph). length v.edges) c.deref.ensures in
-    let below : c.edges.number < length (edges_read entries) = omega (arith, count, counted) in
-    let given = c.in_ok-object.ensures entries graph in
-    let none : None ≡ option_map print (held_text (edge_object entries c.edges.number)) = search rules in
-    let (passed, text) = c.edges.invariant.written entries graph in
-    adds-is _ (lines-before entries c.edges.number passed below none) text
+    let of_graph = subst (λ h. IsGraphOf h entries)
+    (sym (rw c.in-Some.ensures.steps at c.edges.invariant.all).0) graph in
+    let given = c.in_ok-object.ensures entries of_graph in
+    let none : None ≡ option_map print (held_text (edge_object entries (edge_of c.in-Some.edge).number)) =
+    search rules in
+    leaves_none (c.edges.invariant.left entries graph)
+    (ap (lines_left entries) c.in-Some.ensures.steps ∙ lines-end entries _ _ none)
 
 pub returns-in_default-clause-unwritable : goal.returns-in_default-clause-unwritable
 returns-in_default-clause-unwritable g c entries graph =
-    let count = count-is c.args.graph.now entries graph in
-    let counted : c.edge_count-number-end.result ≡ length (edges_of c.args.graph.now) =
-    c.edge_count-number-end.ensures.count ∙ ap (λ (v : EdgeGraph). length v.edges) c.deref.ensures in
-    let below : c.edges.number < length (edges_read entries) = omega (arith, count, counted) in
-    let given = c.in_ok-object.ensures entries graph in
-    let none : None ≡ option_map print (held_text (edge_object entries c.edges.number)) = search rules in
-    is-unwritable entries c.edges.number (c.edges.invariant.written entries graph).0 below none
+    let of_graph = subst (λ h. IsGraphOf h entries)
+    (sym (rw c.in-Some.ensures.steps at c.edges.invariant.all).0) graph in
+    let given = c.in_ok-object.ensures entries of_graph in
+    let none : None ≡ option_map print (held_text (edge_object entries (edge_of c.in-Some.edge).number)) =
+    search rules in
+    sym (ap (find (λ edge. not (writable entries edge))) c.in-Some.ensures.steps
+    ∙ is-unwritable entries _ _ none)
+    ∙ c.edges.invariant.unwritable entries graph
 
-pub returns-in_err-line-clause-text : goal.returns-in_err-line-clause-text
-returns-in_err-line-clause-text g c entries graph =
-    let count = count-is c.args.graph.now entries graph in
-    let counted : c.edge_count-number-end.result ≡ length (edges_of c.args.graph.now) =
-    c.edge_count-number-end.ensures.count ∙ ap (λ (v : EdgeGraph). length v.edges) c.deref.ensures in
-    let below : c.edges.number < length (edges_read entries) = omega (arith, count, counted) in
-    let some = ap (option_map (λ (v : Vec _). v.items)) (sym c.in-Some.is) ∙
-    c.in_ok-object.ensures entries graph in
-    let (passed, text) = c.edges.invariant.written entries graph in
-    stops-with c.from_residual-in_err-line.result c.from_residual-in_err-line.ensures.1
-    (stops-next _ (line-front entries c.edges.number passed below c.in-Some.object.items some) text
-    (rw c.deref-in-edges.ensures.value at c.in_err-line.ensures.text))
+pub returns-in_err-append_line-clause-text : goal.returns-in_err-append_line-clause-text
+returns-in_err-append_line-clause-text g c entries graph =
+    stops-with c.from_residual-in_err-append_line.result c.from_residual-in_err-append_line.ensures.1
+    (stops_memory (c.edges.invariant.left entries graph) _ refl)
 
 pub edges-preserved : goal.edges-preserved
 edges-preserved g c = record {
   same = search rules;
-  written = λ entries graph.
-      let count = count-is c.args.graph.now entries graph in
-      let counted : c.edge_count-number-end.result ≡ length (edges_of c.args.graph.now) =
-      c.edge_count-number-end.ensures.count ∙ ap (λ (v : EdgeGraph). length v.edges) c.deref.ensures in
-      let below : c.edges.number < length (edges_read entries) = omega (arith, count, counted) in
-      let some = ap (option_map (λ (v : Vec _). v.items)) (sym c.in-Some.is) ∙
-      c.in_ok-object.ensures entries graph in
-      let (passed, text) = c.edges.invariant.written entries graph in (
-        passed-next entries c.edges.number passed below c.in-Some.object.items some,
-        adds-next _ (lines-next entries c.edges.number passed below c.in-Some.object.items some) text
-            (rw c.deref-in-edges.ensures.value at c.in_ok-line.ensures.text),
-      );
+  all = (rw c.in-Some.ensures.steps at c.edges.invariant.all).1;
+  left = λ entries graph.
+      let of_graph = subst (λ h. IsGraphOf h entries)
+      (sym (rw c.in-Some.ensures.steps at c.edges.invariant.all).0) graph in
+      let some = ap (option_map (λ (v : Vec _). v.items)) (sym c.in-Some-2.is)
+      ∙ c.in_ok-object.ensures entries of_graph in
+      leaves_next _ _ (c.edges.invariant.left entries graph)
+      (ap (lines_left entries) c.in-Some.ensures.steps ∙ lines-next entries _ _ c.in-Some-2.object.items some)
+      (adds_block _ refl (c.in_ok-append_line.ensures
+      ∙ ap (λ t. c.edges.out.pending.now.items ++ line (t ++ [])) c.deref.ensures.value)
+      c.in_ok-write_block.ensures.text);
+  unwritable = λ entries graph.
+      let of_graph = subst (λ h. IsGraphOf h entries)
+      (sym (rw c.in-Some.ensures.steps at c.edges.invariant.all).0) graph in
+      let some = ap (option_map (λ (v : Vec _). v.items)) (sym c.in-Some-2.is)
+      ∙ c.in_ok-object.ensures entries of_graph in
+      sym (ap (find (λ edge. not (writable entries edge))) c.in-Some.ensures.steps
+      ∙ passes-next entries _ _ c.in-Some-2.object.items some) ∙ c.edges.invariant.unwritable entries graph;
 }
+
+pub returns-in_err-write_block-clause-text : goal.returns-in_err-write_block-clause-text
+returns-in_err-write_block-clause-text g c entries graph =
+    let of_graph = subst (λ h. IsGraphOf h entries)
+    (sym (rw c.in-Some.ensures.steps at c.edges.invariant.all).0) graph in
+    let some = ap (option_map (λ (v : Vec _). v.items)) (sym c.in-Some-2.is)
+    ∙ c.in_ok-object.ensures entries of_graph in
+    stops-with c.from_residual-in_err-write_block.result c.from_residual-in_err-write_block.ensures.1
+    (stops_next _ _ (c.edges.invariant.left entries graph)
+    (ap (lines_left entries) c.in-Some.ensures.steps ∙ lines-next entries _ _ c.in-Some-2.object.items some)
+    (stops_block _ refl (c.in_ok-append_line.ensures
+    ∙ ap (λ t. c.edges.out.pending.now.items ++ line (t ++ [])) c.deref.ensures.value)
+    c.in_err-write_block.ensures.text))
 
 pub returns-clause-text : goal.returns-clause-text
 returns-clause-text g c entries graph =
-    let count = count-is c.args.graph.now entries graph in
-    let counted : c.edge_count-number-end.result ≡ length (edges_of c.args.graph.now) =
-    c.edge_count-number-end.ensures.count ∙ ap (λ (v : EdgeGraph). length v.edges) c.deref.ensures in
-    let all : c.edges.number ≡ length (edges_read entries) = omega (arith, count, counted) in
-    let (passed, text) = c.edges.invariant.written entries graph in
-    adds-is _ (lines-all entries c.edges.number passed all) text
+    leaves_none (c.edges.invariant.left entries graph)
+    (ap (lines_left entries) c.in-None.ensures.steps.0 ∙ lines-none entries)
 
 pub returns-clause-unwritable : goal.returns-clause-unwritable
 returns-clause-unwritable g c entries graph =
-    let count = count-is c.args.graph.now entries graph in
-    let counted : c.edge_count-number-end.result ≡ length (edges_of c.args.graph.now) =
-    c.edge_count-number-end.ensures.count ∙ ap (λ (v : EdgeGraph). length v.edges) c.deref.ensures in
-    let all : c.edges.number ≡ length (edges_read entries) = omega (arith, count, counted) in
-    none-unwritable entries c.edges.number (c.edges.invariant.written entries graph).0 all
+    sym (ap (find (λ edge. not (writable entries edge))) c.in-None.ensures.steps.0)
+    ∙ c.edges.invariant.unwritable entries graph

@@ -1,42 +1,36 @@
-use Rattle.std.proofs.Common.{[], ◌∷◌, ◌++◌, sym, ap, subst, ◌∙◌, append_assoc}
+use Rattle.std.proofs.Common.{◌≡◌, ◌∙◌, All, ap, subst, sym}
 use Rattle.nj_edges.specs.Edges.{edge_at, inputs_of}
-use Rattle.nj_graph.specs.Graph.{edges_of, files_of}
-use Rattle.nj_needs.specs.Walks.{commands_of}
-use Rattle.nj_tools.specs.Inside.Collections.{Collection, AreOf}
-use Rattle.nj_tools.proofs.CollectedLemmas.{AreOf-none}
-use Rattle.nj_tools.proofs.ListingLemmas.{AreOf-row}
+use Rattle.nj_graph.specs.Graph.{edges_of}
+use Rattle.nj_graph.specs.Handles.{GraphEdge, GraphFile, paths_of}
+use Rattle.nj_tools.specs.Inside.Collections.{Collection, inputs_of_all, with_paths}
+use Rattle.nj_tools.proofs.CollectedLemmas.{with-append, with-none}
+use Rattle.nj_tools.proofs.EdgeLists.{are-paths, files-in}
 use Rattle.nj_tools.proofs.input_lists.needed_inputs.Goals as goal
 
 pub edges-init : goal.edges-init
-edges-init c =
-    let paths = files_of c.args.graph.now in
-    record {
-      edges = [];
-      all = ap (λ g. commands_of g c.args.targets.now) (sym c.edge_graph.ensures)
-          ∙ sym c.in_ok-needs.ensures.commands;
-      graph = c.in_ok-needs.ensures.begins.graph ∙ c.edge_graph.ensures;
-      count = ap (λ (s : Collection). s.count) c.in_ok-inputs.ensures
-          ∙ (rw c.deref.ensures at c.file_count.ensures.count);
-      are = subst (λ fs. AreOf paths fs []) (sym (ap (λ (s : Collection). s.files) c.in_ok-inputs.ensures))
-          (AreOf-none paths);
-    }
+edges-init c = record {
+  walk = rw c.into_iter-edge-iterator.ensures.into_iter_gives c.requires;
+  graph = ap (λ (s : Collection). s.graph) c.in_ok-inputs.ensures;
+  paths = rw (c.into_iter-edge-iterator.ensures.into_iter_gives, c.in_ok-inputs.ensures) (with-none _);
+}
+
+pub add_all-requires : goal.add_all-requires
+add_all-requires c =
+    subst (All (λ (file : GraphFile). file.graph ≡ c.edges.inputs.graph)) (sym c.inputs.ensures)
+    (files-in _ _ _ (ap (λ (e : GraphEdge). e.graph) c.edge_at.ensures ∙ sym c.edges.invariant.graph))
 
 pub edges-preserved : goal.edges-preserved
 edges-preserved c =
-    let i = c.edges.invariant in
-    let e = c.in-Some.edge.0 in
-    let next = c.in-Some.ensures.next in
-    let same = c.in-Some.ensures.same in
     let edges = edges_of c.args.graph.now in
+    let old = c.edges.inputs.paths in
+    let left = inputs_of_all edges c.next.new.self.left in
+    let inputs = are-paths _ _ _ c.inputs.ensures
+    ∙ ap (λ (e : GraphEdge). inputs_of (paths_of e)) c.edge_at.ensures in
     record {
-      edges = i.edges ++ e ∷ [];
-      all = i.all ∙ ap (λ es. i.edges ++ es) next.first
-          ∙ sym (append_assoc i.edges (e ∷ []) c.next.new.self.left);
-      graph = same.graph ∙ i.graph;
-      count = c.in_ok-add_all.ensures.count ∙ i.count;
-      are = AreOf-row (files_of c.args.graph.now) (rw c.deref.ensures at c.file_count.ensures.each_path_once)
-          (λ n. inputs_of (edge_at edges n)) i.edges e c.inputs.result.now c.edges.inputs.files
-          c.add_all.new.self.files
-          (rw c.deref-in-Some.ensures at c.inputs.ensures.files)
-          (rw c.deref-in-Some.ensures at c.inputs.ensures.known) i.are c.in_ok-add_all.ensures.files;
+      walk = c.in-Some.ensures.steps.same.graph ∙ c.edges.invariant.walk;
+      graph = c.in_ok-add_all.ensures.graph ∙ c.edges.invariant.graph;
+      paths = ap (λ ps. with_paths ps left) (c.in_ok-add_all.ensures.paths ∙ ap (with_paths old) inputs)
+          ∙ sym (with-append old (inputs_of (edge_at edges c.in-Some.edge.0)) left)
+          ∙ ap (λ es. with_paths old (inputs_of_all edges es)) (sym c.in-Some.ensures.steps.next.first)
+          ∙ c.edges.invariant.paths;
     }

@@ -2,8 +2,7 @@ use Rattle.std.proofs.Common.{◌≡◌, ◌++◌, ℕ, true, List, [], ◌∷�
 use Rattle.std.specs.List.{flat_map}
 use Rattle.std.proofs.lemmas.List.Concat.{flat_map-append}
 use Rattle.nj_text.specs.Quotes.{quoted}
-use Rattle.nj_names.specs.Files.{path_at}
-use Rattle.nj_graph.specs.Graph.{files_of}
+use Rattle.nj_graph.specs.Handles.{GraphFile}
 use Rattle.nj_tools.specs.Inside.Outputs.{PutsText}
 use Rattle.nj_requests.specs.declared.style.InputsStyle.{InputsStyle}
 use Rattle.nj_tools.specs.Listings.{printed, sorted, terminated}
@@ -19,7 +18,7 @@ now_of path = path.now
 
 pub returns-in_ok-paths-clause-text : goal.returns-in_ok-paths-clause-text
 returns-in_ok-paths-clause-text g c =
-    let paths = map (path_at (files_of c.args.graph.now)) c.args.files.now in
+    let paths = map (λ (file : GraphFile). file.path) c.args.files in
     let strings = ap (map (λ path. path.now)) c.deref-else-style.ensures.value ∙ c.in_ok-paths.ensures
     ∙ ap sorted (sym (printed-as_they_are c.args.style c.if-style.false paths)) in
     subst (λ t. PutsText g.S.Sink.state c.args.out.now c.texts-else-style.new.self t
@@ -44,7 +43,7 @@ returns-in_err-write_quotes-clause-text g c =
     let are = ap (λ (ts : List (Vec ℕ Global)). map text_of ts ++ others) c.deref.ensures.value ∙
     c.in_ok-quotes.ensures in
     let is = in-parts c.args.style c.if-style.true
-    (map (path_at (files_of c.args.graph.now)) c.args.files.now) quotes others are in
+    (map (λ (file : GraphFile). file.path) c.args.files) quotes others are in
     stops-with c.from_residual-in_err-write_quotes.result c.from_residual-in_err-write_quotes.ensures.1
     (stops-before _ (front-of _ _ (front-is _ is)) c.in_err-write_quotes.ensures.text)
 
@@ -57,7 +56,7 @@ returns-in_ok-write_quotes-clause-text g c =
     ∙ ap (λ (ps : List (Bor (List ℕ))). map text_of c.in_ok-quotes.quotes.quoted.items ++ map now_of ps)
     c.deref-then-style.ensures.value ∙ c.in_ok-quotes.ensures in
     let is = in-parts c.args.style c.if-style.true
-    (map (path_at (files_of c.args.graph.now)) c.args.files.now) quotes others are in
+    (map (λ (file : GraphFile). file.path) c.args.files) quotes others are in
     let ends = ap (λ end. flat_map (terminated c.args.style) quotes ++ flat_map (λ t. t ++ end ∷ []) others)
     c.terminator.ensures in
     puts-next _ _ _ c.texts.result (ends ∙ is) c.in_ok-write_quotes.ensures.text c.texts.ensures.text

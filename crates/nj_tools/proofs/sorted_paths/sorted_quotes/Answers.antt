@@ -1,7 +1,5 @@
 use Rattle.std.proofs.Common.{◌++◌, map, ap, ◌∙◌}
 use Rattle.nj_text.specs.Quotes.{quoted}
-use Rattle.nj_names.specs.Files.{path_at}
-use Rattle.nj_graph.specs.Graph.{files_of}
 use Rattle.nj_tools.specs.Listings.{sorted}
 use Rattle.nj_tools.proofs.QuoteLemmas.{two-parts}
 use Rattle.nj_tools.proofs.sorted_paths.sorted_quotes.Goals as goal
@@ -10,4 +8,4 @@ pub returns : goal.returns
 returns c =
     (λ j. (c.in_ok-sort_strings.ensures ∙ ap sorted c.in_ok-quotes.ensures.quoted) j
     ++ (c.in_ok-sort_slices.ensures ∙ ap sorted c.in_ok-quotes.ensures.plain) j)
-    ∙ two-parts (map quoted (map (path_at (files_of c.args.graph.now)) c.args.files.now))
+    ∙ two-parts (map quoted (map (λ file. file.path) c.args.files))

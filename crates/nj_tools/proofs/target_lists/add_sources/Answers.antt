@@ -1,42 +1,29 @@
-use Rattle.std.proofs.Common.{Bool, [], ◌∷◌, ◌++◌, take, get_or, cond, filter, is_none, sym, ap, ◌∙◌}
-use Rattle.std.proofs.Common.{append-nil, arith}
-use Rattle.std.proofs.lemmas.List.Elements.{filter_more}
-use Rattle.nj_names.specs.declared.files.FileNo.{FileNo}
-use Rattle.nj_edges.specs.Edges.{maker_of}
-use Rattle.nj_names.specs.Files.{path_at}
-use Rattle.nj_graph.specs.Graph.{edges_of, files_of}
-use Rattle.nj_tools.specs.Inside.Collections.{Collection, with_file, with_files}
-use Rattle.nj_tools.proofs.CollectedLemmas.{with_files-push}
+use Rattle.std.proofs.Common.{◌≡◌, ◌∙◌, ap, sym, false, true}
+use Rattle.std.proofs.lemmas.List.Elements.{All-tail}
+use Rattle.nj_graph.specs.Handles.{GraphFile, file_of}
+use Rattle.nj_tools.specs.Inside.Collections.{sources_among, with_paths}
+use Rattle.nj_tools.proofs.EdgeLists.{next-source}
 use Rattle.nj_tools.proofs.target_lists.add_sources.Goals as goal
-use Rattle.nj_tools.proofs.target_lists.add_sources.Goals.{then-is_source+in_ok-add, else-is_source}
+
+pub files-preserved-in-Continue-1 : goal.files-preserved-in-Continue-1
+files-preserved-in-Continue-1 c = record {
+  graph = c.in_ok-add.ensures.graph ∙ c.files.invariant.graph;
+  all = All-tail (λ (file : GraphFile). file.graph ≡ c.args.sources.now.graph) _ _
+      (rw c.in-Some.ensures.steps at c.files.invariant.all);
+  paths = ap (λ ps. with_paths ps (sources_among c.next.new.self)) c.in_ok-add.ensures.paths
+      ∙ ap (with_paths c.files.sources.paths)
+      (next-source (file_of c.in-Some.file) c.next.new.self true
+      (sym c.if-is_source.true ∙ c.is_source.ensures))
+      ∙ (rw c.in-Some.ensures.steps at c.files.invariant.paths);
+}
 
 pub files-preserved : goal.files-preserved
-files-preserved c =
-    let i = c.files.file-index in
-    let files = c.args.files.now in
-    let file : FileNo = get_or files i (record { 0 = 0 }) in
-    let old = c.args.sources.now.files in
-    let passes : FileNo → Bool = λ f. is_none
-    (maker_of (edges_of c.args.graph.now) (path_at (files_of c.args.graph.now) f)) in
-    let next = filter_more passes files i (record { 0 = 0 }) (omega arith) in
-    let tells = sym c.is_source.ensures in
-    elim c.if-is_source.branch [
-      | then-is_source+in_ok-add w ↦
-          let more = next ∙ ap (λ b. filter passes (take i files) ++ cond b (file ∷ []) [])
-          (tells ∙ w.if-is_source.true) in
-          record {
-            count = ap (λ (s : Collection). s.count) w.sources-is ∙ w.in_ok-add.ensures.count
-                ∙ c.files.invariant.count;
-            files = ap (λ (s : Collection). s.files) w.sources-is ∙ w.in_ok-add.ensures.files
-                ∙ ap (λ fs. with_file fs file) c.files.invariant.files
-                ∙ sym (ap (with_files old) more ∙ with_files-push (filter passes (take i files)) old file);
-          }
-      | else-is_source w ↦
-          let more = next ∙ ap (λ b. filter passes (take i files) ++ cond b (file ∷ []) [])
-          (tells ∙ w.if-is_source.false) ∙ append-nil (filter passes (take i files)) in
-          record {
-            count = ap (λ (s : Collection). s.count) w.sources-is ∙ c.files.invariant.count;
-            files = ap (λ (s : Collection). s.files) w.sources-is ∙ c.files.invariant.files
-                ∙ sym (ap (with_files old) more);
-          }
-    ]
+files-preserved c = record {
+  graph = c.files.invariant.graph;
+  all = All-tail (λ (file : GraphFile). file.graph ≡ c.args.sources.now.graph) _ _
+      (rw c.in-Some.ensures.steps at c.files.invariant.all);
+  paths = ap (with_paths c.files.sources.paths)
+      (next-source (file_of c.in-Some.file) c.next.new.self false
+      (sym c.if-is_source.false ∙ c.is_source.ensures))
+      ∙ (rw c.in-Some.ensures.steps at c.files.invariant.paths);
+}

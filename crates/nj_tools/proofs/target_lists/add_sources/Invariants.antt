@@ -1,15 +1,11 @@
-use Rattle.std.proofs.Common.{◌≡◌, take, filter, is_none}
-use Rattle.nj_edges.specs.Edges.{maker_of}
-use Rattle.nj_names.specs.Files.{path_at}
-use Rattle.nj_graph.specs.Graph.{edges_of, files_of}
-use Rattle.nj_tools.specs.Inside.Collections.{with_files}
+use Rattle.std.proofs.Common.{◌≡◌, All}
+use Rattle.nj_tools.specs.Inside.Collections.{sources_among, with_paths}
 use Rattle.nj_tools.proofs.target_lists.add_sources.Given as goal
 
 abbrev pub invariant-files : goal.invariant-files
 invariant-files l = record {
-  count : l.sources.count ≡ l.fn.sources.count;
-  files : l.sources.files
-      ≡ with_files l.fn.sources.files (filter
-      (λ file. is_none (maker_of (edges_of l.graph) (path_at (files_of l.graph) file)))
-      (take l.file-index l.files));
+  graph : l.sources.graph ≡ l.fn.sources.graph;
+  all : All (λ file. file.graph ≡ l.fn.sources.graph) l.file-iterator;
+  paths : with_paths l.sources.paths (sources_among l.file-iterator)
+      ≡ with_paths l.fn.sources.paths (sources_among l.fn.files);
 }

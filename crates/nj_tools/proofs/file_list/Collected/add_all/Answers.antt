@@ -1,18 +1,14 @@
-use Rattle.std.proofs.Common.{take, get_or, sym, ap, ◌∙◌, arith}
-use Rattle.std.proofs.lemmas.List.{take_more}
-use Rattle.nj_names.specs.declared.files.FileNo.{FileNo}
-use Rattle.nj_tools.specs.Inside.Collections.{with_file, with_files}
-use Rattle.nj_tools.proofs.CollectedLemmas.{with_files-push}
+use Rattle.std.proofs.Common.{◌≡◌, ◌∙◌, map, ap}
+use Rattle.std.proofs.lemmas.List.Elements.{All-tail}
+use Rattle.nj_graph.specs.Handles.{GraphFile}
+use Rattle.nj_tools.specs.Inside.Collections.{with_paths}
 use Rattle.nj_tools.proofs.file_list.Collected.add_all.Goals as goal
 
 pub files-preserved : goal.files-preserved
-files-preserved c =
-    let i = c.files.file-index in
-    let files = c.args.files.now in
-    let file : FileNo = get_or files i (record { 0 = 0 }) in
-    record {
-      count = c.in_ok-add.ensures.count ∙ c.files.invariant.count;
-      files = c.in_ok-add.ensures.files ∙ ap (λ fs. with_file fs file) c.files.invariant.files
-          ∙ sym (ap (with_files c.args.self.now.files) (take_more files i (record { 0 = 0 }) (omega arith))
-          ∙ with_files-push (take i files) c.args.self.now.files file);
-    }
+files-preserved c = record {
+  graph = c.in_ok-add.ensures.graph ∙ c.files.invariant.graph;
+  all = All-tail (λ (file : GraphFile). file.graph ≡ c.args.self.now.graph) _ _
+      (rw c.in-Some.ensures.steps at c.files.invariant.all);
+  paths = ap (λ ps. with_paths ps (map (λ file. file.path) c.next.new.self)) c.in_ok-add.ensures.paths
+      ∙ (rw c.in-Some.ensures.steps at c.files.invariant.paths);
+}
