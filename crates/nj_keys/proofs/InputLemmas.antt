@@ -1,161 +1,72 @@
 -- The outputs and inputs of an edge, one after another.
-use Rattle.std.proofs.Common.{◌≡◌, ◌<◌, ◌≤◌, ◌+◌, ℕ, Option, Some, List, [], ◌∷◌, ◌++◌, map, length, get_or}
-use Rattle.std.proofs.Common.{drop, refl, sym, ap, ◌∙◌, append_assoc, arith}
-use Rattle.std.specs.Prelude.{slice_get, unwrap_or}
+use Rattle.std.proofs.Common.{◌≡◌, ℕ, List, [], ◌∷◌, ◌++◌, append_assoc, length, map, refl, sym, ap, ◌∙◌}
 use Rattle.std.specs.List.{flat_map}
-use Rattle.std.proofs.lemmas.Bool.{le-ltb, lt-ltb}
-use Rattle.std.proofs.lemmas.List.{at_drop_more, length-append}
-use Rattle.nj_graph.specs.declared.FileNo.{FileNo}
+use Rattle.std.proofs.lemmas.Grind.{flat_map-append}
+use Rattle.std.proofs.lemmas.List.{length-map}
 use Rattle.nj_graph.specs.declared.Kind.{Kind}
 use Rattle.nj_graph.specs.declared.Kind.TheVariants.{Explicit, Implicit, OrderOnly}
-use Rattle.nj_graph.specs.Edges.{EdgePaths, inputs_of, kind_at, maker_of}
-use Rattle.nj_graph.specs.Files.{path_at, AreFiles}
+use Rattle.nj_graph.specs.Edges.{EdgePaths}
+use Rattle.nj_graph.specs.Graph.{GraphModel, edges_of}
+use Rattle.nj_graph.specs.Handles.{GraphFile, file_in, files_in}
 use Rattle.nj_keys.specs.Bases.{mapped}
-use Rattle.nj_keys.specs.Keys.{bars, field, input_fields, input_text, inputs_with_keys, maker_key}
-use Rattle.nj_keys.specs.Keys.{InputFields}
+use Rattle.nj_keys.specs.Keys.{field, input_fields, input_text, inputs_with_keys, number}
+use Rattle.nj_keys.specs.Inside.FileTexts.{input_texts, path_texts}
 
--- ---- the paths of files
+module _ (folders : List (List ℕ)) (g : GraphModel) where
+  -- the paths of files in a graph
+  pub paths-text : (paths : List (List ℕ))
+      → path_texts folders (files_in g paths) ≡ flat_map field (map (mapped folders) paths)
+  paths-text [] = refl
+  paths-text (path ∷ paths) = ap (λ text. field (mapped folders path) ++ text) (paths-text paths)
 
-paths-some : (files : List (List ℕ)) (numbers : List FileNo)
-    → map (λ (o : Option (List ℕ)). unwrap_or o []) (map (λ (f : FileNo). slice_get files f.0) numbers)
-    ≡ map (path_at files) numbers
-paths-some files [] = refl
-paths-some files (n ∷ numbers) = ap (λ ps. path_at files n ∷ ps) (paths-some files numbers)
+  -- inputs of a kind
+  kind-text : (keys : ℕ → List ℕ) (kind : Kind) (paths : List (List ℕ))
+      → input_texts folders keys kind (files_in g paths)
+      ≡ flat_map input_text (map (input_fields folders (edges_of g) keys kind) paths)
+  kind-text keys kind [] = refl
+  kind-text keys kind (path ∷ paths) =
+      ap (λ text. input_text (input_fields folders (edges_of g) keys kind path) ++ text)
+      (kind-text keys kind paths)
 
-some-paths : (paths : List (List ℕ)) → map (λ (o : Option (List ℕ)). unwrap_or o []) (map Some paths) ≡ paths
-some-paths [] = refl
-some-paths (path ∷ paths) = ap (λ ps. path ∷ ps) (some-paths paths)
+  -- all inputs
+  pub inputs-text : (keys : ℕ → List ℕ) (e : EdgePaths)
+      → input_texts folders keys Explicit (files_in g e.explicit_inputs)
+      ++ input_texts folders keys Implicit (files_in g e.implicit_inputs)
+      ++ input_texts folders keys OrderOnly (files_in g e.order_only_inputs)
+      ≡ flat_map input_text (inputs_with_keys folders (edges_of g) keys e)
+  inputs-text keys e = rw (
+    kind-text keys Explicit e.explicit_inputs,
+    kind-text keys Implicit e.implicit_inputs,
+    kind-text keys OrderOnly e.order_only_inputs,
+  ) (sym (simp flat_map-append))
 
-pub paths-of : (files : List (List ℕ)) (numbers : List FileNo) (paths : List (List ℕ))
-    → AreFiles files numbers paths → map (path_at files) numbers ≡ paths
-paths-of files numbers paths are = sym (paths-some files numbers)
-    ∙ ap (map (λ (o : Option (List ℕ)). unwrap_or o [])) are ∙ some-paths paths
+  pub inputs-added : (keys : ℕ → List ℕ) (e : EdgePaths) (text one two three : List ℕ)
+      (explicit implicit order_only : List GraphFile)
+      → explicit ≡ files_in g e.explicit_inputs → implicit ≡ files_in g e.implicit_inputs
+      → order_only ≡ files_in g e.order_only_inputs
+      → one ≡ text ++ input_texts folders keys Explicit explicit
+      → two ≡ one ++ input_texts folders keys Implicit implicit
+      → three ≡ two ++ input_texts folders keys OrderOnly order_only
+      → three ≡ text ++ flat_map input_text (inputs_with_keys folders (edges_of g) keys e)
+  inputs-added keys e text one two three explicit implicit order_only is1 is2 is3 more1 more2 more3 =
+      let a = input_texts folders keys Explicit explicit in
+      let b = input_texts folders keys Implicit implicit in
+      let c = input_texts folders keys OrderOnly order_only in
+      let all = λ (fs gs hs : List GraphFile). text ++ (input_texts folders keys Explicit fs
+      ++ input_texts folders keys Implicit gs ++ input_texts folders keys OrderOnly hs) in
+      more3 ∙ ap (λ t. t ++ c) (more2 ∙ ap (λ t. t ++ b) more1 ∙ append_assoc text a b)
+      ∙ append_assoc text (a ++ b) c
+      ∙ ap (λ fs. all fs implicit order_only) is1
+      ∙ ap (λ fs. all (files_in g e.explicit_inputs) fs order_only) is2
+      ∙ ap (λ fs. all (files_in g e.explicit_inputs) (files_in g e.implicit_inputs) fs) is3
+      ∙ ap (λ t. text ++ t) (inputs-text keys e)
 
-pub path-is : (files : List (List ℕ)) (file : FileNo) (path : List ℕ) → slice_get files file.0 ≡ Some path
-    → path ≡ path_at files file
-path-is files file path is = sym (ap (λ (o : Option (List ℕ)). unwrap_or o []) is)
-
--- ---- outputs
-
-module _ (folders files : List (List ℕ)) where
-  abbrev pub output_texts : List FileNo → List ℕ
-  output_texts numbers = flat_map field (map (mapped folders) (map (path_at files) numbers))
-
-  -- with the output at an index
-  pub output-next : (numbers : List FileNo) (i : ℕ) (d : FileNo) (text more all path : List ℕ)
-      → i < length numbers → path ≡ path_at files (get_or numbers i d)
-      → more ≡ text ++ field (mapped folders path) → text ++ output_texts (drop i numbers) ≡ all
-      → more ++ output_texts (drop (i + 1) numbers) ≡ all
-  output-next numbers i d text more all path below path-is is so_far =
-      let rest = output_texts (drop (i + 1) numbers) in
-      ap (λ t. t ++ rest) is ∙ ap (λ p. (text ++ field (mapped folders p)) ++ rest) path-is
-      ∙ append_assoc text (field (mapped folders (path_at files (get_or numbers i d)))) rest
-      ∙ ap (λ t. text ++ t) (sym (at_drop_more output_texts numbers i d below)) ∙ so_far
-
--- ---- inputs
-
-module _ (folders : List (List ℕ)) (edges : List EdgePaths) (keys : ℕ → List ℕ) (e : EdgePaths) where
-  -- the inputs from an index on, at these paths
-  abbrev pub inputs_from : (index : ℕ) → List (List ℕ) → List InputFields
-  inputs_from index [] = []
-  inputs_from index (path ∷ paths) = input_fields folders edges keys (kind_at e index) path ∷ inputs_from
-      (index + 1) paths
-
-  inputs-append : (index : ℕ) (paths more : List (List ℕ))
-      → inputs_from index (paths ++ more) ≡ inputs_from index paths ++ inputs_from (index + length paths) more
-  inputs-append index [] more = let same : index ≡ index + 0 = omega arith in
-      ap (λ n. inputs_from n more) same
-  inputs-append index (path ∷ paths) more =
-      let next : (index + 1) + length paths ≡ index + length (path ∷ paths) = omega arith in
-      let input = input_fields folders edges keys (kind_at e index) path in
-      ap (λ is. input ∷ is) (inputs-append (index + 1) paths more)
-      ∙ ap (λ n. input ∷ (inputs_from (index + 1) paths ++ inputs_from n more)) next
-
-  inputs-kind : (kind : Kind) (index : ℕ) (paths : List (List ℕ))
-      → ((i : ℕ) → index ≤ i → i < index + length paths → kind_at e i ≡ kind)
-      → inputs_from index paths ≡ map (input_fields folders edges keys kind) paths
-  inputs-kind kind index [] are = refl
-  inputs-kind kind index (path ∷ paths) are =
-      ap (λ k. input_fields folders edges keys k path ∷ inputs_from (index + 1) paths)
-      (are index (omega arith) (omega arith))
-      ∙ ap (λ is. input_fields folders edges keys kind path ∷ is)
-      (inputs-kind kind (index + 1) paths (λ i from below. are i (omega (arith, from))
-      (omega (arith, below))))
-
-  explicit-kind : (i : ℕ) → i < length e.explicit_inputs → kind_at e i ≡ Explicit
-  explicit-kind i below = rw (lt-ltb i (length e.explicit_inputs) below) refl
-
-  implicit-kind : (i : ℕ) → length e.explicit_inputs ≤ i
-      → i < length e.explicit_inputs + length e.implicit_inputs → kind_at e i ≡ Implicit
-  implicit-kind i from below = rw (
-    le-ltb i (length e.explicit_inputs) from,
-    lt-ltb i (length e.explicit_inputs + length e.implicit_inputs) below,
-  ) refl
-
-  order_only-kind : (i : ℕ) → length e.explicit_inputs + length e.implicit_inputs ≤ i
-      → kind_at e i ≡ OrderOnly
-  order_only-kind i from =
-      rw (
-        le-ltb i (length e.explicit_inputs) (omega (arith, from)),
-        le-ltb i (length e.explicit_inputs + length e.implicit_inputs) from,
-      ) refl
-
-  inputs-all : inputs_from 0 (inputs_of e) ≡ inputs_with_keys folders edges keys e
-  inputs-all =
-      let explicit = e.explicit_inputs in
-      let implicit = e.implicit_inputs in
-      let order_only = e.order_only_inputs in
-      let of : Kind → List (List ℕ) → List InputFields =
-      λ kind paths. map (input_fields folders edges keys kind) paths in
-      let first = inputs-kind Explicit 0 explicit (λ i from below. explicit-kind i (omega (arith, below))) in
-      let second = inputs-kind Implicit (length explicit) implicit
-      (λ i from below. implicit-kind i from below) in
-      let third = inputs-kind OrderOnly (length explicit + length implicit) order_only
-      (λ i from below. order_only-kind i from) in
-      let from_implicit : 0 + length explicit ≡ length explicit = omega arith in
-      let from_order_only : 0 + length (explicit ++ implicit) ≡ length explicit + length implicit =
-      omega (arith, length-append explicit implicit) in
-      inputs-append 0 (explicit ++ implicit) order_only
-      ∙ ap (λ n. inputs_from 0 (explicit ++ implicit) ++ inputs_from n order_only) from_order_only
-      ∙ ap (λ is. inputs_from 0 (explicit ++ implicit) ++ is) third
-      ∙ ap (λ is. is ++ of OrderOnly order_only)
-      (inputs-append 0 explicit implicit ∙ ap (λ n. inputs_from 0 explicit ++ inputs_from n implicit)
-      from_implicit
-      ∙ ap (λ is. inputs_from 0 explicit ++ is) second ∙ ap (λ is. is ++ of Implicit implicit) first)
-
-  module _ (files : List (List ℕ)) where
-    abbrev pub texts_from : (index : ℕ) → List FileNo → List ℕ
-    texts_from index numbers = flat_map input_text (inputs_from index (map (path_at files) numbers))
-
-    -- all of them
-    pub texts-all : (numbers : List FileNo) → AreFiles files numbers (inputs_of e)
-        → texts_from 0 numbers ≡ flat_map input_text (inputs_with_keys folders edges keys e)
-    texts-all numbers are = ap (λ paths. flat_map input_text (inputs_from 0 paths))
-        (paths-of files numbers (inputs_of e) are) ∙ ap (flat_map input_text) inputs-all
-
-    -- with the input at an index
-    pub input-next : (numbers : List FileNo) (i : ℕ) (d : FileNo)
-        (text with_kind with_path with_key kind path key : List ℕ) → i < length numbers
-        → kind ≡ bars (kind_at e i) → path ≡ path_at files (get_or numbers i d)
-        → key ≡ maker_key keys (maker_of edges (path_at files (get_or numbers i d)))
-        → with_kind ≡ text ++ field kind → with_path ≡ with_kind ++ field (mapped folders path)
-        → with_key ≡ with_path ++ field key
-        → with_key ++ texts_from (i + 1) (drop (i + 1) numbers) ≡ text ++ texts_from i (drop i numbers)
-    input-next numbers i d text with_kind with_path with_key kind path key below kind-is path-is key-is first
-        second third =
-        let file = get_or numbers i d in
-        let rest = texts_from (i + 1) (drop (i + 1) numbers) in
-        let input = input_fields folders edges keys (kind_at e i) (path_at files file) in
-        let parts = λ (k p c : List ℕ). ((text ++ field k) ++ field p) ++ field c in
-        let written : with_key ≡ parts (bars input.kind) input.path input.key =
-        third ∙ ap (λ t. t ++ field key) (second ∙ ap (λ t. t ++ field (mapped folders path)) first)
-        ∙ ap (λ k. parts k (mapped folders path) key) kind-is
-        ∙ ap (λ p. parts (bars input.kind) (mapped folders p) key) path-is
-        ∙ ap (λ c. parts (bars input.kind) input.path c) key-is in
-        ap (λ t. t ++ rest) (written
-        ∙ append_assoc (text ++ field (bars input.kind)) (field input.path) (field input.key)
-        ∙ append_assoc text (field (bars input.kind)) (field input.path ++ field input.key)
-        ∙ ap (λ t. text ++ t) (sym (append_assoc (field (bars input.kind)) (field input.path)
-        (field input.key))))
-        ∙ append_assoc text (input_text input) rest
-        ∙ ap (λ t. text ++ t) (sym (at_drop_more (texts_from i) numbers i d below))
+  pub outputs-added : (paths : List (List ℕ)) (text counted new : List ℕ) (files : List GraphFile) (count : ℕ)
+      → files ≡ files_in g paths → count ≡ length files → counted ≡ text ++ number count
+      → new ≡ counted ++ path_texts folders files
+      → new ≡ text ++ number (length paths) ++ flat_map field (map (mapped folders) paths)
+  outputs-added paths text counted new files count are is first second =
+      let many : count ≡ length paths = is ∙ ap length are ∙ length-map paths (file_in g) in
+      second ∙ ap (λ t. t ++ path_texts folders files) first
+      ∙ ap (λ n. text ++ number n ++ path_texts folders files) many
+      ∙ ap (λ t. text ++ number (length paths) ++ t) (ap (path_texts folders) are ∙ paths-text paths)

@@ -1,7 +1,6 @@
 mod BaseLemmas
 mod BaseRows
 mod FieldLaws
-mod FieldLemmas
 mod InputLemmas
 mod KeyLaws
 mod LineLaws

@@ -7,11 +7,14 @@ use Rattle.std.proofs.lemmas.List.{get_or-set_same, length-set, reverse-append}
 use Rattle.std.proofs.lemmas.List.Sums.{sum_by-set}
 use Rattle.std.proofs.lemmas.Option.{get_or_from_slice_get, slice_get-get_or, slice_get_within}
 use Rattle.nj_graph.specs.ReadingList.{ReadStatement}
-use Rattle.nj_graph.specs.Edges.{EdgePaths}
+use Rattle.nj_graph.specs.Edges.{EdgePaths, edge_at, inputs_of}
+use Rattle.nj_graph.specs.Graph.{GraphModel, edges_of}
+use Rattle.nj_graph.specs.Handles.{GraphEdge, GraphFile, edge_in, edge_of, files_in}
 use Rattle.nj_keys.specs.declared.keys.Frame.{Frame}
 use Rattle.nj_keys.specs.Keys.{IsKey, Needs}
-use Rattle.nj_keys.specs.Inside.Keeping.{missing, missing_one, AreOpen, BeganWith, IsKept, IsRank, KeepsKeys}
-use Rattle.nj_keys.specs.Inside.Keeping.{KeepsMakers}
+use Rattle.nj_keys.specs.Inside.Keeping.{inputs_in, missing, missing_one, AreOpen, BeganWith, IsMissing}
+use Rattle.nj_keys.specs.Inside.Keeping.{IsKept, IsOpen, IsRank, KeepsKeys, MakesOne}
+use Rattle.nj_keys.proofs.MakerLemmas.{kept-unless, makes-needed, needed-makes}
 
 -- ---- lists in which one element is set
 
@@ -35,15 +38,16 @@ module _ (keys : List (Option (List ℕ))) (e : ℕ) (key : List ℕ) where
   abbrev after : List (Option (List ℕ))
   after = set keys e (Some key)
 
-  pub kept-set : (f : ℕ) → IsKept keys f → IsKept after f
-  kept-set f (other, is) = elim (cases_eq f e) [
-    | inl same ↦ (
-      key,
-      subst (λ n. slice_get after n ≡ Some (Some key)) (sym same)
-          (get-set_same keys e (Some key) (subst (λ n. n < length keys) same
-          (slice_get_within keys f (Some other) is))),
-    )
-    | inr apart ↦ (other, get-set_other keys e f (Some key) apart ∙ is)
+  -- a key that is still missing was missing before
+  pub still-missing : (f : ℕ) → IsMissing after f → IsMissing keys f
+  still-missing f none = elim (cases_eq f e) [
+    | inl same ↦
+        let below : e < length keys = subst (λ n. n < length keys) same
+        (omega (arith, slice_get_within after f None none, length-set keys e (Some key))) in
+        let here : Some (Some key) ≡ Some None =
+        sym (get-set_same keys e (Some key) below) ∙ ap (slice_get after) (sym same) ∙ none in
+        absurd cc
+    | inr apart ↦ sym (get-set_other keys e f (Some key) apart) ∙ none
   ]
 
   pub keys-set : (folders : List (List ℕ)) (edges : List EdgePaths) (entries : List ReadStatement)
@@ -68,77 +72,126 @@ module _ (keys : List (Option (List ℕ))) (e : ℕ) (key : List ℕ) where
 
 -- ---- open edges
 
-module _ (edges : List EdgePaths) (rank : ℕ → ℕ) (ranked : IsRank edges rank) where
+module _ (g : GraphModel) (rank : ℕ → ℕ) (ranked : IsRank (edges_of g) rank) where
   open-less : (keys : List (Option (List ℕ))) (least less : ℕ) (frames : List Frame) → less ≤ least
-      → AreOpen edges keys rank least frames → AreOpen edges keys rank less frames
+      → AreOpen g keys rank least frames → AreOpen g keys rank less frames
   open-less keys least less [] under are = tt
   open-less keys least less (frame ∷ frames) under (is, are) = (
     record {
+      graph = is.graph;
       above = omega (arith, under, is.above);
-      known = is.known;
       missing = is.missing;
-      makers =
-          is.makers;
+      needed = is.needed;
+      left = is.left;
     },
     are,
   )
 
   -- no more are open than there are edges
-  pub open-length : (keys : List (Option (List ℕ))) (least : ℕ) (frames : List Frame) → least ≤ length edges
-      → AreOpen edges keys rank least frames → least + length frames ≤ length edges
-  open-length keys least [] within are = omega (arith, within)
-  open-length keys least (frame ∷ frames) within (is, are) =
-      let bounded = ranked.bounded frame.edge.0 is.known in
-      omega (arith, is.above, open-length keys (rank frame.edge.0 + 1) frames (omega (arith, bounded)) are)
+  pub open-length : (keys : List (Option (List ℕ))) → length keys ≡ length (edges_of g)
+      → (least : ℕ) (frames : List Frame) → least ≤ length (edges_of g)
+      → AreOpen g keys rank least frames → least + length frames ≤ length (edges_of g)
+  open-length keys count least [] within are = omega (arith, within)
+  open-length keys count least (frame ∷ frames) within (is, are) =
+      let edge = (edge_of frame.edge).number in
+      let known = slice_get_within keys edge None is.missing in
+      let bounded = ranked.bounded edge (omega (arith, known, count)) in
+      omega (arith, is.above, open-length keys count (rank edge + 1) frames (omega (arith, bounded)) are)
 
   -- the key of an edge of a lesser rank is kept from now on
   open-set : (keys : List (Option (List ℕ))) (e : ℕ) (key : List ℕ) (least : ℕ) (frames : List Frame)
       → rank e < least
-      → AreOpen edges keys rank least frames → AreOpen edges (set keys e (Some key)) rank least frames
+      → AreOpen g keys rank least frames → AreOpen g (set keys e (Some key)) rank least frames
   open-set keys e key least [] under are = tt
   open-set keys e key least (frame ∷ frames) under (is, are) =
-      let apart : frame.edge.0 ≢ e = λ same. absurd (omega (arith, under, is.above, ap rank same)) in (
+      let edge = (edge_of frame.edge).number in
+      let apart : edge ≢ e = λ same. absurd (omega (arith, under, is.above, ap rank same)) in (
         record {
+          graph = is.graph;
           above = is.above;
-          known = is.known;
-          missing = get-set_other keys e frame.edge.0 (Some key) apart ∙ is.missing;
-          makers = λ i f before at. kept-set keys e key f (is.makers i f before at);
+          missing = get-set_other keys e edge (Some key) apart ∙ is.missing;
+          needed = is.needed;
+          left = λ f needs none. is.left f needs (still-missing keys e key f none);
         },
-        open-set keys e key (rank frame.edge.0 + 1) frames (omega (arith, under, is.above)) are,
+        open-set keys e key (rank edge + 1) frames (omega (arith, under, is.above)) are,
       )
 
   pub open-closed : (keys : List (Option (List ℕ))) (key : List ℕ) (frame : Frame) (frames : List Frame)
-      → AreOpen edges keys rank 0 (frame ∷ frames)
-      → AreOpen edges (set keys frame.edge.0 (Some key)) rank 0 frames
+      → AreOpen g keys rank 0 (frame ∷ frames)
+      → AreOpen g (set keys (edge_of frame.edge).number (Some key)) rank 0 frames
   open-closed keys key frame frames (is, are) =
-      let e = frame.edge.0 in
+      let e = (edge_of frame.edge).number in
       open-less (set keys e (Some key)) (rank e + 1) 0 frames (omega arith)
       (open-set keys e key (rank e + 1) frames (omega arith) are)
 
+  -- an edge is opened with all its inputs
+  pub is-opened : (keys : List (Option (List ℕ))) (least : ℕ) (edge : GraphEdge) → edge.graph ≡ g
+      → least ≤ rank edge.number → IsMissing keys edge.number
+      → IsOpen g keys rank least edge (inputs_in edge)
+  is-opened keys least edge graph above none =
+      let paths = inputs_of (edge_at (edges_of g) edge.number) in
+      let inputs : inputs_in edge ≡ files_in g paths =
+      ap (λ h. files_in h (inputs_of (edge_at (edges_of h) edge.number))) graph in
+      record {
+        graph = graph;
+        above = above;
+        missing = none;
+        needed = λ maker makes. makes-needed g paths maker
+            (subst (λ files. MakesOne files maker) inputs makes);
+        left = λ maker needs none. subst (λ files. MakesOne files (edge_in g maker)) (sym inputs)
+            (needed-makes g paths maker needs);
+      }
+
+  -- the first one
+  pub open-first : (keys : List (Option (List ℕ))) (frame : Frame) (edge : GraphEdge) → edge.graph ≡ g
+      → IsMissing keys edge.number → edge_of frame.edge ≡ edge → frame.inputs ≡ inputs_in edge
+      → AreOpen g keys rank 0 (frame ∷ [])
+  open-first keys frame edge graph none is inputs = (
+    subst (λ e. IsOpen g keys rank 0 e frame.inputs) (sym is)
+        (subst (IsOpen g keys rank 0 edge) (sym inputs) (is-opened keys 0 edge graph (omega arith) none)),
+    tt,
+  )
+
   -- a maker of an input is opened
   pub open-next : (keys : List (Option (List ℕ))) (frame here next : Frame) (frames : List Frame)
-      → AreOpen edges keys rank 0 (frame ∷ frames)
-      → here.edge ≡ frame.edge → KeepsMakers edges keys frame.edge.0 here.place
-      → Needs edges frame.edge.0 next.edge.0 → slice_get keys next.edge.0 ≡ Some None → next.place ≡ 0
-      → AreOpen edges keys rank 0 (next ∷ here ∷ frames)
-  open-next keys frame here next frames (is, are) same before needs none start =
-      let edge : here.edge.0 ≡ frame.edge.0 = ap (λ e. e.0) same in (
-        record {
-          above = omega arith;
-          known = ranked.within frame.edge.0 next.edge.0 needs;
-          missing = none;
-          makers = λ i f below at. absurd (omega (arith, below, start));
-        },
+      (maker : GraphEdge) → AreOpen g keys rank 0 (frame ∷ frames)
+      → edge_of here.edge ≡ edge_of frame.edge
+      → ((edge : GraphEdge) → MakesOne here.inputs edge → MakesOne frame.inputs edge)
+      → ((edge : GraphEdge) → MakesOne frame.inputs edge → IsMissing keys edge.number
+      → MakesOne here.inputs edge)
+      → MakesOne frame.inputs maker → IsMissing keys maker.number
+      → edge_of next.edge ≡ maker → next.inputs ≡ inputs_in maker
+      → AreOpen g keys rank 0 (next ∷ here ∷ frames)
+  open-next keys frame here next frames maker (is, are) same fewer left makes none next-is inputs =
+      let user = edge_of frame.edge in
+      let needs = is.needed maker makes in
+      let stays : IsOpen g keys rank (rank maker.number + 1) user here.inputs = record {
+        graph = is.graph;
+        above = omega (arith, ranked.falls user.number maker.number needs.1);
+        missing = is.missing;
+        needed = λ f there. is.needed f (fewer f there);
+        left = λ f needed missing. left (edge_in g f) (is.left f needed missing) missing;
+      } in
+      let first = open-first keys next maker needs.0 none next-is inputs in (
+        first.0,
         (
-          record {
-            above = omega (arith, ranked.falls frame.edge.0 next.edge.0 needs, ap rank edge);
-            known = omega (arith, is.known, edge);
-            missing = ap (slice_get keys) edge ∙ is.missing;
-            makers = subst (λ e. KeepsMakers edges keys e here.place) (sym edge) before;
-          },
-          subst (λ e. AreOpen edges keys rank (rank e + 1) frames) (sym edge) are,
+          subst (λ n. IsOpen g keys rank (rank n + 1) (edge_of here.edge) here.inputs)
+              (sym (ap (λ e. e.number) next-is))
+              (subst (λ e. IsOpen g keys rank (rank maker.number + 1) e here.inputs) (sym same) stays),
+          subst (λ e. AreOpen g keys rank (rank e.number + 1) frames) (sym same) are,
         ),
       )
+
+  -- the makers of the inputs of an edge are kept, where none of those that may have no key is missing
+  pub makers-kept : (keys : List (Option (List ℕ))) → length keys ≡ length (edges_of g)
+      → (least : ℕ) (edge : GraphEdge) (inputs : List GraphFile) → IsOpen g keys rank least edge inputs
+      → ((maker : GraphEdge) → MakesOne inputs maker → IsMissing keys maker.number → ⊥)
+      → (maker : ℕ) → Needs (edges_of edge.graph) edge.number maker → IsKept keys maker
+  makers-kept keys count least edge inputs is never maker needs =
+      let needed = subst (λ h. Needs (edges_of h) edge.number maker) is.graph needs in
+      let within = ranked.within edge.number maker needed in
+      kept-unless keys maker (omega (arith, within, count))
+      (λ none. never (edge_in g maker) (is.left maker needed none) none)
 
 -- ---- the edge that was opened first
 
@@ -148,18 +201,19 @@ began-any keys others edge frame [] began = began
 began-any keys others edge frame (next ∷ frames) began = began-any keys others edge next frames began
 
 pub began-next : (keys : List (Option (List ℕ))) (edge : ℕ) (frame here next : Frame) (frames : List Frame)
-    → here.edge ≡ frame.edge
+    → edge_of here.edge ≡ edge_of frame.edge
     → BeganWith keys edge (frame ∷ frames) → BeganWith keys edge (next ∷ here ∷ frames)
-began-next keys edge frame here next [] same began = ap (λ e. e.0) same ∙ began
+began-next keys edge frame here next [] same began = ap (λ e. e.number) same ∙ began
 began-next keys edge frame here next (other ∷ frames) same began = began
 
 pub began-closed : (keys : List (Option (List ℕ))) (edge : ℕ) (key : List ℕ) (frame : Frame)
-    (frames : List Frame) → frame.edge.0 < length keys
-    → BeganWith keys edge (frame ∷ frames) → BeganWith (set keys frame.edge.0 (Some key)) edge frames
+    (frames : List Frame) → (edge_of frame.edge).number < length keys
+    → BeganWith keys edge (frame ∷ frames)
+    → BeganWith (set keys (edge_of frame.edge).number (Some key)) edge frames
 began-closed keys edge key frame [] below began = (
   key,
-  subst (λ n. slice_get (set keys frame.edge.0 (Some key)) n ≡ Some (Some key)) began
-      (get-set_same keys frame.edge.0 (Some key) below),
+  subst (λ n. slice_get (set keys (edge_of frame.edge).number (Some key)) n ≡ Some (Some key)) began
+      (get-set_same keys (edge_of frame.edge).number (Some key) below),
 )
 began-closed keys edge key frame (next ∷ frames) below began =
-    began-any keys (set keys frame.edge.0 (Some key)) edge next frames began
+    began-any keys (set keys (edge_of frame.edge).number (Some key)) edge next frames began

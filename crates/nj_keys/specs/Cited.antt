@@ -3,14 +3,15 @@ pub use Rattle.nj_text.specs.Paths.{clean_path_of, is_absolute}
 pub use Rattle.nj_keys.specs.Bases.{is_quote, is_separator, is_path_byte, ends_before, begins_with_quote, stands_at, longest_at}
 pub use Rattle.nj_keys.specs.Bases.{front_mapped, mapped}
 pub use Rattle.nj_keys.specs.Inside.Folders.{may_begin_after, paths}
-pub use Rattle.nj_graph.specs.Graph.{OfStatements, edges_of, files_of}
+pub use Rattle.nj_graph.specs.Graph.{edges_of, OfStatements, files_of}
+pub use Rattle.nj_graph.specs.Handles.{OfEdge, edge_of, file_of, paths_of, GraphEdge}
 pub use Rattle.std.specs.List.{flat_map}
-pub use Rattle.nj_graph.specs.Edges.{edge_at, outputs_of, maker_of, first_output}
-pub use Rattle.nj_graph.specs.Files.{path_at}
+pub use Rattle.nj_graph.specs.Edges.{outputs_of, maker_of, first_output}
 pub use Rattle.nj_keys.specs.Keys.{bars, field, fields_of, fields_text, input_text, inputs_with_keys, maker_key, number, response_of}
 pub use Rattle.nj_keys.specs.Keys.{variable_of, IsKey, Needs, EdgesHaveKeys, KeysAreUnique, LinesAreUnique, PagesOfLinesJoin}
 pub use Rattle.nj_keys.specs.Keys.{TextsTellFields, line, ListsKeys}
-pub use Rattle.nj_keys.specs.Inside.Keeping.{kept_key, IsAcyclic, IsKept, KeepsKeys, KeepsMakers}
+pub use Rattle.nj_keys.specs.Inside.Keeping.{kept_key, inputs_in, made_by, IsAcyclic, IsKept, IsMissing, KeepsKeys, MakesOne}
+pub use Rattle.nj_keys.specs.Inside.FileTexts.{input_texts, path_texts}
 pub use Rattle.nj_needs.specs.Graphs.{makers_of, row_of}
 pub use Rattle.nj_needs.specs.Marks.{is_valid}
 pub use Rattle.nj_needs.specs.Walks.{rest_of, BeginsAt, WalkState}

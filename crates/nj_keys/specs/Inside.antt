@@ -1,3 +1,4 @@
 -- How the code meets the definitions beside this directory.
+pub mod FileTexts
 pub mod Folders
 pub mod Keeping

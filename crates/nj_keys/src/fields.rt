@@ -1,11 +1,11 @@
 //! The contents of an edge's key.
 
-ghost use Rattle.std.specs.Prelude.{◌≡◌, ◌<◌, ◌++◌, codes, IfOk, OnOk, length, map};
-ghost use Rattle.nj_keys.specs.Cited.{OfStatements, flat_map, edge_at, outputs_of, maker_of, path_at, edges_of, files_of, mapped, bars, field, fields_of, fields_text, input_text, inputs_with_keys, maker_key, number, response_of, variable_of, kept_key};
+ghost use Rattle.std.specs.Prelude.{◌≡◌, ◌++◌, codes, IfOk, OnOk, length, map};
+ghost use Rattle.nj_keys.specs.Cited.{edges_of, OfEdge, edge_of, file_of, paths_of, flat_map, outputs_of, maker_of, mapped, bars, field, fields_of, fields_text, input_text, inputs_with_keys, maker_key, number, response_of, variable_of, kept_key, input_texts, path_texts};
 
 use crate::bases::Bases;
 use itoa::Buffer;
-use nj_graph::{EdgeNo, FileNo, Graph, Kind};
+use nj_graph::{Edge, EdgeNo, File, Files, Kind};
 use std::alloc::{AllocError, Global};
 
 // The key of an edge.
@@ -14,116 +14,112 @@ pub(crate) type Key = [u8; 32];
 /// The text of the fields of an edge, where the keys of the edges that make its inputs are kept.
 pub(crate) fn fields_text(
     alloc: Global,
-    graph: &Graph,
+    edge: Edge<'_>,
     bases: &Bases,
     keys: &[Option<Key>],
-    edge: EdgeNo,
 ) -> Result<Vec<u8>, AllocError>
-    requires { edge.0 < length (edges_of graph.now) }
-    ensures { OfStatements graph.now (λ entries. IfOk result (λ text. text.items ≡ fields_text
-        (fields_of bases.now (edges_of graph.now) entries (kept_key keys.now) edge.0))) }
+    ensures { OfEdge (edge_of edge.entry) (λ entries number.
+        IfOk result (λ text. text.items ≡ fields_text (fields_of bases.now
+        (edges_of (edge_of edge.entry).graph) entries (kept_key keys.now) number))) }
 {
     let mut text = Vec::new(alloc);
-    push_command(&mut text, graph, bases, edge)?;
-    push_response(&mut text, graph, bases, edge)?;
-    push_outputs(&mut text, graph, bases, edge)?;
-    push_inputs(&mut text, graph, bases, keys, edge)?;
+    push_command(&mut text, edge, bases)?;
+    push_response(&mut text, edge, bases)?;
+    push_outputs(&mut text, edge, bases)?;
+    push_inputs(&mut text, edge, bases, keys)?;
     Ok(text)
 }
 
 // Appends the command of an edge.
-fn push_command(
-    text: &mut Vec<u8>,
-    graph: &Graph,
-    bases: &Bases,
-    edge: EdgeNo,
-) -> Result<(), AllocError>
-    requires { edge.0 < length (edges_of graph.now) }
-    ensures { OfStatements graph.now (λ entries.
-        OnOk result (text.new.items ≡ text.old.items ++ field (mapped bases.now
-        (variable_of (edges_of graph.now) entries edge.0 (codes "command"))))) }
+fn push_command(text: &mut Vec<u8>, edge: Edge<'_>, bases: &Bases) -> Result<(), AllocError>
+    ensures { OfEdge (edge_of edge.entry) (λ entries number.
+        OnOk result (text.new.items ≡ text.old.items ++ field (mapped bases.now (variable_of
+        (edges_of (edge_of edge.entry).graph) entries number (codes "command"))))) }
 {
-    let command = variable_of(*text.allocator(), graph, edge, b"command")?;
+    let command = variable_of(*text.allocator(), edge, b"command")?;
     push_mapped(text, bases, &command)
 }
 
 // Appends the name and the content of the response file of an edge.
-fn push_response(
-    text: &mut Vec<u8>,
-    graph: &Graph,
-    bases: &Bases,
-    edge: EdgeNo,
-) -> Result<(), AllocError>
-    requires { edge.0 < length (edges_of graph.now) }
-    ensures { OfStatements graph.now (λ entries.
+fn push_response(text: &mut Vec<u8>, edge: Edge<'_>, bases: &Bases) -> Result<(), AllocError>
+    ensures { OfEdge (edge_of edge.entry) (λ entries number.
         OnOk result (text.new.items ≡ text.old.items ++ field (mapped bases.now
-        (variable_of (edges_of graph.now) entries edge.0 (codes "rspfile")))
-        ++ field (mapped bases.now (response_of (edges_of graph.now) entries edge.0)))) }
+        (variable_of (edges_of (edge_of edge.entry).graph) entries number (codes "rspfile")))
+        ++ field (mapped bases.now
+        (response_of (edges_of (edge_of edge.entry).graph) entries number)))) }
 {
-    let file = variable_of(*text.allocator(), graph, edge, b"rspfile")?;
+    let file = variable_of(*text.allocator(), edge, b"rspfile")?;
     push_mapped(text, bases, &file)?;
     if file.as_slice().is_empty() {
         return push_mapped(text, bases, b"");
     }
-    let content = variable_of(*text.allocator(), graph, edge, b"rspfile_content")?;
+    let content = variable_of(*text.allocator(), edge, b"rspfile_content")?;
     push_mapped(text, bases, &content)
 }
 
 // The value of a variable of an edge; a phony edge has none.
-fn variable_of(
-    alloc: Global,
-    graph: &Graph,
-    edge: EdgeNo,
-    name: &[u8],
-) -> Result<Vec<u8>, AllocError>
-    requires { edge.0 < length (edges_of graph.now) }
-    ensures { OfStatements graph.now (λ entries. IfOk result (λ text. text.items
-        ≡ variable_of (edges_of graph.now) entries edge.0 name.now)) }
+fn variable_of(alloc: Global, edge: Edge<'_>, name: &[u8]) -> Result<Vec<u8>, AllocError>
+    ensures { OfEdge (edge_of edge.entry) (λ entries number. IfOk result (λ text. text.items
+        ≡ variable_of (edges_of (edge_of edge.entry).graph) entries number name.now)) }
 {
-    if graph.is_phony(edge) {
+    if edge.is_phony() {
         return Ok(Vec::new(alloc));
     }
-    graph.variable(alloc, edge, name)
+    edge.variable(alloc, name)
 }
 
 // Appends the number of the outputs of an edge, and their paths.
-fn push_outputs(
-    text: &mut Vec<u8>,
-    graph: &Graph,
-    bases: &Bases,
-    edge: EdgeNo,
-) -> Result<(), AllocError>
-    requires { edge.0 < length (edges_of graph.now) }
+fn push_outputs(text: &mut Vec<u8>, edge: Edge<'_>, bases: &Bases) -> Result<(), AllocError>
     ensures { OnOk result (text.new.items ≡ text.old.items
-        ++ number (length (outputs_of (edge_at (edges_of graph.now) edge.0)))
-        ++ flat_map field
-        (map (mapped bases.now) (outputs_of (edge_at (edges_of graph.now) edge.0)))) }
+        ++ number (length (outputs_of (paths_of (edge_of edge.entry))))
+        ++ flat_map field (map (mapped bases.now) (outputs_of (paths_of (edge_of edge.entry))))) }
 {
-    let outputs = graph.outputs(edge);
+    let outputs = edge.outputs();
     push_number(text, outputs.len())?;
-    'outputs: for output in outputs {
-        push_mapped(text, bases, graph.path(*output))?;
+    push_paths(text, outputs, bases)
+}
+
+// Appends the paths of files.
+fn push_paths(text: &mut Vec<u8>, files: Files<'_>, bases: &Bases) -> Result<(), AllocError>
+    ensures { OnOk result (text.new.items ≡ text.old.items ++ path_texts bases.now files.entry) }
+{
+    'files: for file in files {
+        push_mapped(text, bases, file.path())?;
     }
     Ok(())
 }
 
-// Appends the inputs of an edge: of each its kind, its path and the key of the edge that makes it.
+// Appends the inputs of an edge, kind by kind.
 fn push_inputs(
     text: &mut Vec<u8>,
-    graph: &Graph,
+    edge: Edge<'_>,
     bases: &Bases,
     keys: &[Option<Key>],
-    edge: EdgeNo,
 ) -> Result<(), AllocError>
-    requires { edge.0 < length (edges_of graph.now) }
     ensures { OnOk result (text.new.items ≡ text.old.items ++ flat_map input_text
-        (inputs_with_keys bases.now (edges_of graph.now) (kept_key keys.now)
-        (edge_at (edges_of graph.now) edge.0))) }
+        (inputs_with_keys bases.now (edges_of (edge_of edge.entry).graph) (kept_key keys.now)
+        (paths_of (edge_of edge.entry)))) }
 {
-    'inputs: for (index, input) in graph.inputs(edge).iter().enumerate() {
-        push_field(text, bars(graph.input_kind(edge, index)))?;
-        push_mapped(text, bases, graph.path(*input))?;
-        push_field(text, maker_key(graph, keys, *input))?;
+    push_files(text, Kind::Explicit, edge.explicit_inputs(), bases, keys)?;
+    push_files(text, Kind::Implicit, edge.implicit_inputs(), bases, keys)?;
+    push_files(text, Kind::OrderOnly, edge.order_only_inputs(), bases, keys)
+}
+
+// Appends inputs of a kind: of each the kind, its path and the key of the edge that makes it.
+fn push_files(
+    text: &mut Vec<u8>,
+    kind: Kind,
+    files: Files<'_>,
+    bases: &Bases,
+    keys: &[Option<Key>],
+) -> Result<(), AllocError>
+    ensures { OnOk result (text.new.items ≡ text.old.items
+        ++ input_texts bases.now (kept_key keys.now) kind files.entry) }
+{
+    'files: for file in files {
+        push_field(text, bars(kind))?;
+        push_mapped(text, bases, file.path())?;
+        push_field(text, maker_key(keys, file))?;
     }
     Ok(())
 }
@@ -167,13 +163,12 @@ fn push_number(text: &mut Vec<u8>, count: usize) -> Result<(), AllocError>
 }
 
 // The key that is kept of the edge that makes a file; empty if there is none.
-fn maker_key<'a>(graph: &Graph, keys: &'a [Option<Key>], file: FileNo) -> &'a [u8]
-    requires { file.0 < length (files_of graph.now) }
+fn maker_key<'a>(keys: &'a [Option<Key>], file: File<'_>) -> &'a [u8]
     ensures { result.now ≡ maker_key (kept_key keys.now)
-        (maker_of (edges_of graph.now) (path_at (files_of graph.now) file)) }
+        (maker_of (edges_of (file_of file.entry).graph) (file_of file.entry).path) }
 {
-    match graph.maker(file) {
-        Some(edge) => kept_key(keys, edge),
+    match file.maker() {
+        Some(edge) => kept_key(keys, edge.number()),
         None => b"",
     }
 }

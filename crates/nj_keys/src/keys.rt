@@ -1,104 +1,113 @@
 //! The keys of edges, each from those of the edges that make its inputs.
 
-ghost use Rattle.std.specs.Prelude.{◌≡◌, ℕ, ◌<◌, ◌≤◌, None, Some, IfNone, IfOk, IfSome, OnOk, length, slice_get};
-ghost use Rattle.nj_keys.specs.Cited.{OfStatements, edges_of, IsKey, Needs, IsAcyclic, IsKept, KeepsKeys, KeepsMakers};
+ghost use Rattle.std.specs.Prelude.{◌≡◌, ℕ, IfNone, IfOk, IfSome, OnOk, Some, length};
+ghost use Rattle.nj_keys.specs.Cited.{edges_of, GraphEdge, OfEdge, edge_of, file_of, IsKey, Needs, inputs_in, made_by, IsAcyclic, IsKept, IsMissing, KeepsKeys, MakesOne};
 
 use crate::bases::Bases;
 use crate::fields::{Key, fields_text};
-use nj_graph::{EdgeNo, Graph};
+use nj_graph::{Edge, File, Files};
 use sha2::{Digest, Sha256};
 use std::alloc::{AllocError, Global};
 
-// An edge without a key, and a place among its inputs: the makers of those before it have keys.
-#[derive(Clone, Copy)]
-struct Frame {
-    edge: EdgeNo,
-    place: usize,
+// An edge without a key, and those of its inputs whose makers may have none.
+#[derive(Drop)]
+struct Frame<'g> {
+    edge: Edge<'g>,
+    inputs: Files<'g>,
 }
 
 // Keeps the key of an edge, after the missing ones of all edges that it needs. `keys` has a place
 // for each edge.
 pub(crate) fn keep_key(
     alloc: Global,
-    graph: &Graph,
+    edge: Edge<'_>,
     bases: &Bases,
     keys: &mut [Option<Key>],
-    edge: EdgeNo,
 ) -> Result<(), AllocError>
-    requires edge { edge.0 < length (edges_of graph.now) }
-    requires count { length keys.old ≡ length (edges_of graph.now) }
-    requires acyclic { IsAcyclic (edges_of graph.now) }
-    ensures keys { OfStatements graph.now (λ entries.
-        KeepsKeys bases.now (edges_of graph.now) entries keys.old
-        → KeepsKeys bases.now (edges_of graph.now) entries keys.new) }
-    ensures kept { OnOk result (IsKept keys.new edge.0) }
+    requires count { length keys.old ≡ length (edges_of (edge_of edge).graph) }
+    requires acyclic { IsAcyclic (edges_of (edge_of edge).graph) }
+    ensures keys { OfEdge (edge_of edge.entry) (λ entries number.
+        KeepsKeys bases.now (edges_of (edge_of edge.entry).graph) entries keys.old
+        → KeepsKeys bases.now (edges_of (edge_of edge.entry).graph) entries keys.new) }
+    ensures kept { OnOk result (IsKept keys.new (edge_of edge.entry).number) }
 {
-    if keys[edge.0].is_some() {
+    if keys[edge.number().0].is_some() {
         return Ok(());
     }
     let mut open = Vec::new(alloc);
-    open.push(Frame { edge, place: 0 })?;
+    open.push(opened(edge))?;
     'open: while let Some(frame) = open.pop() {
-        match missing_maker(graph, keys, frame) {
-            Some(missing) => {
-                open.push(Frame {
-                    edge: frame.edge,
-                    place: missing.place,
-                })?;
-                open.push(Frame {
-                    edge: missing.edge,
-                    place: 0,
-                })?;
+        let user = frame.edge;
+        let mut inputs = frame.inputs;
+        match missing_maker(&mut inputs, keys) {
+            Some(maker) => {
+                open.push(Frame { edge: user, inputs })?;
+                open.push(opened(maker))?;
             }
-            None => keys[frame.edge.0] = Some(key_of(alloc, graph, bases, keys, frame.edge)?),
+            None => keys[user.number().0] = Some(key_of(alloc, user, bases, keys)?),
         }
     }
     Ok(())
 }
 
-// From the place on, the first input whose maker has no key: that maker, and the place of the
-// input.
-fn missing_maker(graph: &Graph, keys: &[Option<Key>], frame: Frame) -> Option<Frame>
-    requires edge { frame.edge.0 < length (edges_of graph.now) }
-    requires count { length keys.now ≡ length (edges_of graph.now) }
-    requires acyclic { IsAcyclic (edges_of graph.now) }
-    requires before { KeepsMakers (edges_of graph.now) keys.now frame.edge.0 frame.place }
-    ensures needed { IfSome result (λ missing.
-        Needs (edges_of graph.now) frame.edge.0 missing.edge.0) }
-    ensures missing { IfSome result (λ missing. slice_get keys.now missing.edge.0 ≡ Some None) }
-    ensures before { IfSome result (λ missing.
-        KeepsMakers (edges_of graph.now) keys.now frame.edge.0 missing.place) }
-    ensures all { IfNone result ((edge : ℕ)
-        → Needs (edges_of graph.now) frame.edge.0 edge
-        → IsKept keys.now edge) }
+// An edge with all its inputs.
+fn opened(edge: Edge<'_>) -> Frame<'_>
+    ensures edge { edge_of result.edge ≡ edge_of edge.entry }
+    ensures inputs { result.inputs ≡ inputs_in (edge_of edge.entry) }
 {
-    let mut place = frame.place;
-    'places: while let Some(maker) = graph.maker_at(frame.edge, place) {
-        if let Some(edge) = maker {
-            if keys[edge.0].is_none() {
-                return Some(Frame { edge, place });
-            }
+    Frame {
+        edge,
+        inputs: edge.inputs(),
+    }
+}
+
+// The first of the edges that make these files which has no key; its file becomes the first one.
+fn missing_maker<'g>(files: &mut Files<'g>, keys: &[Option<Key>]) -> Option<Edge<'g>>
+    ensures found { IfSome result (λ maker. MakesOne files.old (edge_of maker)) }
+    ensures missing { IfSome result (λ maker. IsMissing keys.now (edge_of maker).number) }
+    ensures none { IfNone result ((edge : GraphEdge) → MakesOne files.old edge
+        → IsMissing keys.now edge.number → ⊥) }
+    ensures left { (edge : GraphEdge) → MakesOne files.old edge
+        → IsMissing keys.now edge.number → MakesOne files.new edge }
+    ensures fewer { (edge : GraphEdge) → MakesOne files.new edge → MakesOne files.old edge }
+{
+    'files: while let Some(file) = files.first() {
+        if let Some(maker) = maker_without_key(file, keys) {
+            return Some(maker);
         }
-        place += 1;
+        files.next();
     }
     None
+}
+
+// The edge that makes a file, if it has no key.
+fn maker_without_key<'g>(file: File<'g>, keys: &[Option<Key>]) -> Option<Edge<'g>>
+    ensures maker { IfSome result (λ maker. made_by (file_of file.entry) ≡ Some (edge_of maker)) }
+    ensures missing { IfSome result (λ maker. IsMissing keys.now (edge_of maker).number) }
+    ensures none { IfNone result ((edge : GraphEdge) → made_by (file_of file.entry) ≡ Some edge
+        → IsMissing keys.now edge.number → ⊥) }
+{
+    let maker = file.maker()?;
+    match keys.get(maker.number().0) {
+        Some(None) => Some(maker),
+        _ => None,
+    }
 }
 
 // The key of an edge. Those of the edges that make its inputs are kept.
 fn key_of(
     alloc: Global,
-    graph: &Graph,
+    edge: Edge<'_>,
     bases: &Bases,
     keys: &[Option<Key>],
-    edge: EdgeNo,
 ) -> Result<Key, AllocError>
-    requires edge { edge.0 < length (edges_of graph.now) }
-    requires makers { (maker : ℕ) → Needs (edges_of graph.now) edge.0 maker
+    requires { (maker : ℕ)
+        → Needs (edges_of (edge_of edge).graph) (edge_of edge).number maker
         → IsKept keys.now maker }
-    ensures { OfStatements graph.now (λ entries.
-        KeepsKeys bases.now (edges_of graph.now) entries keys.now
-        → IfOk result (λ key. IsKey bases.now (edges_of graph.now) entries edge.0 key)) }
+    ensures { OfEdge (edge_of edge.entry) (λ entries number.
+        KeepsKeys bases.now (edges_of (edge_of edge.entry).graph) entries keys.now → IfOk result
+        (λ key. IsKey bases.now (edges_of (edge_of edge.entry).graph) entries number key)) }
 {
-    let fields = fields_text(alloc, graph, bases, keys, edge)?;
+    let fields = fields_text(alloc, edge, bases, keys)?;
     Ok(Sha256::digest(fields.as_slice()))
 }

@@ -1,12 +1,12 @@
 //! The lines of commands, in pages.
 
 ghost use Rattle.std.specs.Prelude.{◌≡◌, ◌<◌, ◌++◌, ◌⊎◌, [], true, false, All, IfErr, IfOk, OnOk, length, unwrap_or};
-ghost use Rattle.nj_keys.specs.Cited.{OfStatements, edge_at, first_output, makers_of, row_of, is_valid, rest_of, BeginsAt, WalkState, written, StopsAt, edges_of, files_of, line, ListsKeys, kept_key};
+ghost use Rattle.nj_keys.specs.Cited.{edge_of, paths_of, OfStatements, first_output, makers_of, row_of, is_valid, rest_of, BeginsAt, WalkState, written, StopsAt, edges_of, files_of, line, ListsKeys, kept_key};
 
 use crate::bases::Bases;
 use crate::fields::{Key, kept_key};
 use crate::keys::keep_key;
-use nj_graph::{EdgeNo, FileNo, Graph};
+use nj_graph::{Edge, FileNo, Graph};
 use nj_needs::{Mark, MarkFault, Needs};
 use std::alloc::{AllocError, Global};
 
@@ -46,7 +46,7 @@ pub fn page_from(
         × BeginsAt graph.now.built.graph targets.now mark.now walk
         × StopsAt walk take page.mark) }
 {
-    let mut needs = Needs::resume(alloc, graph.edge_graph(), targets, mark)?;
+    let mut needs = Needs::resume(alloc, graph, targets, mark)?;
     let page = next_page(alloc, graph, bases, &mut needs, take)?;
     Ok(page)
 }
@@ -69,40 +69,35 @@ fn next_page(
     let keys = kept.as_mut_slice();
     let mut lines = Vec::new(alloc);
     let mut room = take;
-    'commands: while let Some(edge) = needs.next_on_page(&mut room) {
-        keep_key(alloc, graph, bases, keys, edge)?;
-        push_line(&mut lines, graph, keys, edge)?;
+    'commands: while let Some(number) = needs.next_on_page(&mut room) {
+        let edge = graph.edge_at(number);
+        keep_key(alloc, edge, bases, keys)?;
+        push_line(&mut lines, edge, keys)?;
     }
     let mark = needs.mark_after_page(alloc, room)?;
     Ok(Page { lines, mark })
 }
 
 // Appends the line of an edge, with the key that is kept of it.
-fn push_line(
-    lines: &mut Vec<u8>,
-    graph: &Graph,
-    keys: &[Option<Key>],
-    edge: EdgeNo,
-) -> Result<(), AllocError>
-    requires { edge.0 < length (edges_of graph.now) }
+fn push_line(lines: &mut Vec<u8>, edge: Edge<'_>, keys: &[Option<Key>]) -> Result<(), AllocError>
     ensures { OnOk result (lines.new.items ≡ lines.old.items
-        ++ line (edges_of graph.now) edge.0 (kept_key keys.now edge.0)) }
+        ++ line (edges_of (edge_of edge.entry).graph) (edge_of edge.entry).number
+        (kept_key keys.now (edge_of edge.entry).number)) }
 {
-    let digits = hex::encode(*lines.allocator(), kept_key(keys, edge))?;
+    let digits = hex::encode(*lines.allocator(), kept_key(keys, edge.number()))?;
     lines.extend_from_slice(digits.as_bytes())?;
     lines.push(b' ')?;
-    lines.extend_from_slice(first_output(graph, edge))?;
+    lines.extend_from_slice(first_output(edge))?;
     lines.push(b'\n')?;
     Ok(())
 }
 
 // The path of the first output of an edge; empty if it has none.
-fn first_output(graph: &Graph, edge: EdgeNo) -> &[u8]
-    requires { edge.0 < length (edges_of graph.now) }
-    ensures { result.now ≡ unwrap_or (first_output (edge_at (edges_of graph.now) edge.0)) [] }
+fn first_output(edge: Edge<'_>) -> &[u8]
+    ensures { result.now ≡ unwrap_or (first_output (paths_of (edge_of edge.entry))) [] }
 {
-    match graph.outputs(edge).first() {
-        Some(output) => graph.path(*output),
+    match edge.outputs().first() {
+        Some(output) => output.path(),
         None => b"",
     }
 }

@@ -1,8 +1,11 @@
 -- The keys that are kept while more are computed.
-use Rattle.std.specs.Prelude.{◌≡◌, ◌≤◌, ◌<◌, ℕ, ◌+◌, if◌then◌else◌, Option, Some, None, is_some, unwrap_or, List, [], ◌∷◌, length, slice_get, sum_by}
+use Rattle.std.specs.Prelude.{◌≡◌, ◌≤◌, ◌<◌, ◌⊎◌, ℕ, ◌+◌, if◌then◌else◌, Option, Some, None, is_some, option_map, unwrap_or}
+use Rattle.std.specs.Prelude.{List, [], ◌∷◌, length, slice_get, sum_by}
 use Rattle.nj_graph.specs.ReadingList.{ReadStatement}
-use Rattle.nj_graph.specs.Edges.{EdgePaths}
-use Rattle.nj_keys.specs.Keys.{input_makers, IsKey, Needs}
+use Rattle.nj_graph.specs.Edges.{EdgePaths, inputs_of, maker_of}
+use Rattle.nj_graph.specs.Graph.{GraphModel, edges_of}
+use Rattle.nj_graph.specs.Handles.{GraphEdge, GraphFile, edge_in, edge_of, files_in, paths_of}
+use Rattle.nj_keys.specs.Keys.{IsKey, Needs}
 use Rattle.nj_keys.specs.declared.keys.Frame.{Frame}
 
 -- the key that is kept of an edge; empty if none is
@@ -16,9 +19,24 @@ IsKept keys edge = (key : List ℕ) × (slice_get keys edge ≡ Some (Some key))
 abbrev pub KeepsKeys : (folders : List (List ℕ)) → List EdgePaths → List ReadStatement → (keys : List (Option (List ℕ))) → Type 0
 KeepsKeys folders edges entries keys = (e : ℕ) (key : List ℕ) → slice_get keys e ≡ Some (Some key) → IsKey folders edges entries e key
 
--- the keys of the makers of an edge's inputs before a place are kept
-abbrev pub KeepsMakers : List EdgePaths → (keys : List (Option (List ℕ))) → (edge place : ℕ) → Type 0
-KeepsMakers edges keys edge place = (i f : ℕ) → i < place → slice_get (input_makers edges edge) i ≡ Some (Some f) → IsKept keys f
+-- no key is kept of an edge, for which there is a place
+abbrev pub IsMissing : List (Option (List ℕ)) → (edge : ℕ) → Type 0
+IsMissing keys edge = slice_get keys edge ≡ Some None
+
+-- ---- makers
+
+-- the edge that makes a file
+abbrev pub made_by : GraphFile → Option GraphEdge
+made_by file = option_map (edge_in file.graph) (maker_of (edges_of file.graph) file.path)
+
+-- an edge makes one of these files
+abbrev pub MakesOne : List GraphFile → GraphEdge → Type 0
+MakesOne [] edge = ⊥
+MakesOne (file ∷ files) edge = (made_by file ≡ Some edge) ⊎ MakesOne files edge
+
+-- the inputs of an edge
+abbrev pub inputs_in : GraphEdge → List GraphFile
+inputs_in edge = files_in edge.graph (inputs_of (paths_of edge))
 
 -- ---- open edges
 
@@ -32,22 +50,25 @@ pub record IsRank (edges : List EdgePaths) (rank : ℕ → ℕ) : Type 0 where
 abbrev pub IsAcyclic : List EdgePaths → Type 0
 IsAcyclic edges = (rank : ℕ → ℕ) × IsRank edges rank
 
--- an edge without a key, whose makers before a place have theirs
-pub record IsOpen (edges : List EdgePaths) (keys : List (Option (List ℕ))) (rank : ℕ → ℕ) (least : ℕ) (frame : Frame) : Type 0 where
-  pub above : least ≤ rank frame.edge.0
-  pub known : frame.edge.0 < length edges
-  pub missing : slice_get keys frame.edge.0 ≡ Some None
-  pub makers : KeepsMakers edges keys frame.edge.0 frame.place
+-- an edge of the graph without a key, and those of its inputs whose makers may have none
+pub record IsOpen (g : GraphModel) (keys : List (Option (List ℕ))) (rank : ℕ → ℕ) (least : ℕ) (edge : GraphEdge)
+    (inputs : List GraphFile) : Type 0 where
+  pub graph : edge.graph ≡ g
+  pub above : least ≤ rank edge.number
+  pub missing : IsMissing keys edge.number
+  pub needed : (maker : GraphEdge) → MakesOne inputs maker → (maker.graph ≡ g) × Needs (edges_of g) edge.number maker.number
+  pub left : (maker : ℕ) → Needs (edges_of g) edge.number maker → IsMissing keys maker → MakesOne inputs (edge_in g maker)
 
 -- edges of rising ranks, the last that was opened first
-abbrev pub AreOpen : List EdgePaths → (keys : List (Option (List ℕ))) → (rank : ℕ → ℕ) → (least : ℕ) → List Frame → Type 0
-AreOpen edges keys rank least [] = Unit {0}
-AreOpen edges keys rank least (frame ∷ frames) = IsOpen edges keys rank least frame × AreOpen edges keys rank (rank frame.edge.0 + 1) frames
+abbrev pub AreOpen : GraphModel → (keys : List (Option (List ℕ))) → (rank : ℕ → ℕ) → (least : ℕ) → List Frame → Type 0
+AreOpen g keys rank least [] = Unit {0}
+AreOpen g keys rank least (frame ∷ frames) =
+    IsOpen g keys rank least (edge_of frame.edge) frame.inputs × AreOpen g keys rank (rank (edge_of frame.edge).number + 1) frames
 
 -- this edge was opened before all others; once none is open, its key is kept
 abbrev pub BeganWith : (keys : List (Option (List ℕ))) → (edge : ℕ) → List Frame → Type 0
 BeganWith keys edge [] = IsKept keys edge
-BeganWith keys edge (frame ∷ []) = frame.edge.0 ≡ edge
+BeganWith keys edge (frame ∷ []) = (edge_of frame.edge).number ≡ edge
 BeganWith keys edge (frame ∷ next ∷ frames) = BeganWith keys edge (next ∷ frames)
 
 -- how many keys are missing

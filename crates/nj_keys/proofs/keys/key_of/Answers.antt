@@ -1,13 +1,15 @@
 use Rattle.std.proofs.Common.{sym, ap, ◌∙◌, subst}
 use Rattle.sha2.specs.Sha256.{sha256}
 use Rattle.nj_graph.specs.Graph.{edges_of}
+use Rattle.nj_graph.specs.Handles.{edge_of}
 use Rattle.nj_keys.specs.Keys.{IsKey}
 use Rattle.nj_keys.proofs.MakerLemmas.{kept-digest}
 use Rattle.nj_keys.proofs.keys.key_of.Goals as goal
 
 pub returns : goal.returns
 returns c entries graph kept =
-    let edges = edges_of c.args.graph.now in
+    let edge = edge_of c.args.edge in
+    let edges = edges_of edge.graph in
     let is = c.digest.ensures ∙ ap sha256 (c.as_slice.ensures.value ∙ c.in_ok-fields.ensures entries graph) in
-    subst (IsKey c.args.bases.now edges entries c.args.edge.0) (sym is)
-    (kept-digest edges c.args.keys.now c.args.edge.0 c.args.bases.now entries c.requires.makers kept)
+    subst (IsKey c.args.bases.now edges entries edge.number) (sym is)
+    (kept-digest edges c.args.keys.now edge.number c.args.bases.now entries c.requires kept)

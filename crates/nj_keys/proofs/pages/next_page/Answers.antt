@@ -1,7 +1,9 @@
-use Rattle.std.proofs.Common.{[], ◌∷◌, ◌++◌, ◌∙◌, sym, subst, rules}
+use Rattle.std.proofs.Common.{◌≡◌, [], ◌∷◌, ◌++◌, ◌∙◌, sym, subst, rules}
 use Rattle.nj_graph.specs.Graph.{edges_of}
-use Rattle.nj_keys.specs.Keys.{ListsKeys}
+use Rattle.nj_graph.specs.Handles.{GraphEdge, OfEdge}
+use Rattle.nj_keys.specs.Keys.{line, ListsKeys}
 use Rattle.nj_keys.specs.Keys.ListsKeys.{none, last}
+use Rattle.nj_keys.specs.Inside.Keeping.{kept_key, IsAcyclic, IsKept, KeepsKeys}
 use Rattle.nj_keys.proofs.MakerLemmas.{key-of-kept, no-keys, only-none}
 use Rattle.nj_keys.proofs.pages.next_page.Goals as goal
 
@@ -20,23 +22,33 @@ commands-init c = record {
 pub commands-preserved : goal.commands-preserved
 commands-preserved c =
     let i = c.commands.invariant in
+    let bases = c.args.bases.now in
     let edges = edges_of c.args.graph.now in
-    let e = c.in-Some.edge.0 in
+    let e = c.in-Some.number.0 in
+    let is = c.edge_at-edge.ensures in
+    let keeps = subst (λ (edge : GraphEdge). OfEdge edge (λ entries number.
+    KeepsKeys bases (edges_of edge.graph) entries c.commands.keys
+    → KeepsKeys bases (edges_of edge.graph) entries c.keep_key.new.keys)) is c.in_ok-keep_key.ensures.keys in
+    let kept = subst (λ (edge : GraphEdge). IsKept c.keep_key.new.keys edge.number) is
+    c.in_ok-keep_key.ensures.kept in
+    let line_is = subst (λ (edge : GraphEdge). c.push_line.new.lines.items ≡ c.commands.lines.items
+    ++ line (edges_of edge.graph) edge.number (kept_key c.keep_key.new.keys edge.number)) is
+    c.in_ok-push_line.ensures in
     record {
       numbers = i.numbers ++ e ∷ [];
       page = c.in-Some.ensures.goes_on c.args.needs.now c.args.take i.numbers i.page;
-      keys = λ entries graph. c.in_ok-keep_key.ensures.keys entries graph (i.keys entries graph);
+      keys = λ entries graph. keeps entries graph (i.keys entries graph);
       lines = λ entries graph.
-          let kept = c.in_ok-keep_key.ensures.keys entries graph (i.keys entries graph) in
-          let key = key-of-kept c.args.bases.now edges entries c.keep_key.new.keys e
-          c.in_ok-keep_key.ensures.kept kept in
-          subst (ListsKeys c.args.bases.now edges entries (i.numbers ++ e ∷ []))
-          (sym c.in_ok-push_line.ensures) (last (i.lines entries graph) key);
+          let key = key-of-kept bases edges entries c.keep_key.new.keys e kept
+          (keeps entries graph (i.keys entries graph)) in
+          subst (ListsKeys bases edges entries (i.numbers ++ e ∷ [])) (sym line_is)
+          (last (i.lines entries graph) key);
     }
 
 pub keep_key-requires-clause-acyclic : goal.keep_key-requires-clause-acyclic
 keep_key-requires-clause-acyclic c =
-    let acyclic = rw c.deref.ensures at c.edge_count.ensures.acyclic in (
+    let acyclic = rw c.deref.ensures at c.edge_count.ensures.acyclic in
+    let is : IsAcyclic (edges_of c.args.graph.now) = (
       acyclic.0,
       record {
         falls = acyclic.1.falls;
@@ -45,3 +57,5 @@ keep_key-requires-clause-acyclic c =
             acyclic.1.within;
       },
     )
+    in
+    subst (λ (edge : GraphEdge). IsAcyclic (edges_of edge.graph)) (sym c.edge_at-edge.ensures) is

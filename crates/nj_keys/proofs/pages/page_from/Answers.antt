@@ -11,7 +11,7 @@ returns-clause-lines c entries graph =
     let begins = c.in_ok-needs.ensures.1 in
     let left =
     begins.sound.left
-    ∙ ap (λ g. rest_of g needs.targets needs.mark) (begins.graph ∙ c.edge_graph.ensures)
+    ∙ ap (λ g. rest_of g needs.targets needs.mark) (begins.graph ∙ c.deref.ensures)
     ∙ ap (λ files. rest_of c.args.graph.now.built.graph files needs.mark) begins.targets
     ∙ ap (rest_of c.args.graph.now.built.graph c.args.targets.now) begins.mark
     in
