@@ -1,13 +1,16 @@
 -- Files that are found one by one.
-use Rattle.std.proofs.Common.{◌≡◌, ◌<◌, ℕ, Option, Some, None, List, [], ◌∷◌, ◌++◌, map, length, refl, sym}
-use Rattle.std.proofs.Common.{ap, subst, ◌∙◌, append-nil, append_assoc}
-use Rattle.std.specs.Prelude.{option_and_then, All}
+use Rattle.std.proofs.Common.{◌≡◌, ℕ, Option, Some, None, List, [], ◌∷◌, ◌++◌, refl, sym, ap, ◌∙◌}
+use Rattle.std.proofs.Common.{append_assoc}
+use Rattle.std.specs.Prelude.{option_and_then}
 use Rattle.std.specs.List.{cons_option, filter_map}
-use Rattle.std.proofs.lemmas.List.{map_push}
-use Rattle.std.proofs.lemmas.List.Elements.{All-push, filter_map-append}
-use Rattle.nj_names.specs.declared.files.FileNo.{FileNo}
+use Rattle.std.proofs.lemmas.List.Elements.{filter_map-append}
+use Rattle.nj_graph.specs.Graph.{GraphModel, files_of}
+use Rattle.nj_graph.specs.Handles.{GraphFile, file_in}
+use Rattle.nj_audit.specs.Audit.{path_of}
 use Rattle.nj_audit.specs.NamedPaths.{after_letter, after_sign, number_at, path_named, paths_in}
 use Rattle.nj_audit.specs.Inside.FilesNamed.{AddsFiles, paths_of_name}
+use Rattle.nj_audit.specs.Inside.Handles.{files_numbered}
+use Rattle.nj_audit.proofs.ListLemmas.{map-append}
 
 -- ---- the names in a word
 
@@ -39,47 +42,19 @@ names-are folder word = three-names (path_named folder) word (after_sign word) (
 
 -- ---- files
 
-module _ (files : List (List ℕ)) where
-  pub adds-none : (old : List FileNo) → AddsFiles files [] old old
-  adds-none old = record {
-    numbers = sym (append-nil (map (λ file. file.0) old));
-    known = λ known. known;
-  }
+module _ (g : GraphModel) where
+  -- the files at these paths
+  abbrev pub files_at : List (List ℕ) → List GraphFile
+  files_at paths = files_numbered g (filter_map (number_at (files_of g)) paths)
 
-  pub adds-then : (paths more : List (List ℕ)) (first old new : List FileNo) → AddsFiles files paths first old
-      → AddsFiles files more old new
-      → AddsFiles files (paths ++ more) first new
-  adds-then paths more first old new a b = record {
-    numbers = b.numbers ∙ ap (λ ns. ns ++ filter_map (number_at files) more) a.numbers
-        ∙ append_assoc (map (λ file. file.0) first) (filter_map (number_at files) paths)
-        (filter_map (number_at files) more)
-        ∙ ap (λ ns. map (λ file. file.0) first ++ ns) (sym (filter_map-append (number_at files) paths more));
-    known = λ known. b.known (a.known known);
-  }
+  pub files-append : (paths more : List (List ℕ)) → files_at (paths ++ more) ≡ files_at paths ++ files_at more
+  files-append paths more =
+      ap (files_numbered g) (filter_map-append (number_at (files_of g)) paths more)
+      ∙ map-append (λ n. file_in g (path_of g n)) (filter_map (number_at (files_of g)) paths)
+      (filter_map (number_at (files_of g)) more)
 
-  pub adds-file : (path : List ℕ) (old new : List FileNo) (file : FileNo) → number_at files path ≡ Some file.0
-      → file.0 < length files
-      → new ≡ old ++ file ∷ [] → AddsFiles files (path ∷ []) old new
-  adds-file path old new file is below pushed = record {
-    numbers = ap (map (λ file. file.0)) pushed ∙ map_push (λ file. file.0) old file
-        ∙ ap (λ o. map (λ file. file.0) old ++ cons_option o []) (sym is);
-    known = λ known. subst (All (λ (file : FileNo). file.0 < length files)) (sym pushed)
-        (All-push (λ (file : FileNo). file.0 < length files) old file known below);
-  }
-
-  pub adds-no-file : (path : List ℕ) (old : List FileNo) → number_at files path ≡ None
-      → AddsFiles files (path ∷ []) old old
-  adds-no-file path old is = record {
-    numbers = sym (append-nil (map (λ file. file.0) old))
-        ∙ ap (λ o. map (λ file. file.0) old ++ cons_option o []) (sym is);
-    known = λ known. known;
-  }
-
-  -- the files of two lists of paths
-  pub named-of : (paths more : List (List ℕ)) (first middle last : List FileNo) → first ≡ []
-      → AddsFiles files paths first middle
-      → AddsFiles files more middle last → map (λ file. file.0) last
-      ≡ filter_map (number_at files) (paths ++ more)
-  named-of paths more first middle last empty one two =
-      (adds-then paths more first middle last one two).numbers
-      ∙ ap (λ ns. map (λ file. file.0) ns ++ filter_map (number_at files) (paths ++ more)) empty
+  pub adds-then : (paths more : List (List ℕ)) (first old new : List GraphFile) → AddsFiles g paths first old
+      → AddsFiles g more old new → AddsFiles g (paths ++ more) first new
+  adds-then paths more first old new a b =
+      b ∙ ap (λ fs. fs ++ files_at more) a ∙ append_assoc first (files_at paths) (files_at more)
+      ∙ ap (λ fs. first ++ fs) (sym (files-append paths more))

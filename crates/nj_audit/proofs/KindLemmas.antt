@@ -275,16 +275,6 @@ module _ (g : GraphModel) (entries : List ReadStatement) (missing serving : List
       ≡ findings_asked_for kinds (all_findings g entries missing serving undeclared)
   asked-law kinds = nine (contains kinds) (findings_of g entries missing serving undeclared) of-kind
 
--- one more kind
-pub one-asked : (b : Bool) (text found : List FindingModel) → b ≡ true
-    → text ++ found ≡ text ++ (cond b found [] ++ [])
-one-asked b text found is = ap (λ t. text ++ t) (sym (append-nil found))
-    ∙ ap (λ c. text ++ (cond c found [] ++ [])) (sym is)
-
-pub none-asked : (b : Bool) (text found : List FindingModel) → b ≡ false
-    → text ≡ text ++ (cond b found [] ++ [])
-none-asked b text found is = sym (append-nil text) ∙ ap (λ c. text ++ (cond c found [] ++ [])) (sym is)
-
 -- ---- words
 
 pub any-mapped : {X Y : Type 0} (f : X → Y) (p : Y → Bool) (xs : List X)

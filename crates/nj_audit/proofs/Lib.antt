@@ -1,10 +1,13 @@
-pub mod FileLemmas
+pub mod HandleLemmas
 pub mod UnorderedLemmas
-pub mod ListLemmas
 pub mod LoggedLemmas
+mod ServingLemmas
+pub mod RepeatLemmas
+pub mod FileLemmas
+pub mod FileSetLemmas
+pub mod ListLemmas
 pub mod NameLemmas
 mod QuotedWords
-mod ServingLemmas
 pub mod MarkLemmas
 pub mod KindLemmas
 mod KindRows

@@ -3,13 +3,10 @@ use Rattle.std.proofs.Common.{◌≡◌, ◌++◌, ◌∷◌, ◌↔◌, Bool, t
 use Rattle.std.proofs.Common.{subst, ◌∙◌, append-nil, append_assoc, true≢false}
 use Rattle.std.proofs.lemmas.List.{map_push}
 use Rattle.nj_scope.specs.ReadingList.{ReadStatement}
-use Rattle.nj_names.specs.declared.files.FileNo.{FileNo}
-use Rattle.nj_graph.specs.Files.{path_at}
-use Rattle.nj_graph.specs.Graph.{GraphModel, files_of}
+use Rattle.nj_graph.specs.Graph.{GraphModel}
 use Rattle.nj_graph.specs.Undeclared.{InputOfEdge}
 use Rattle.nj_graph.specs.Undeclared.AreThose.{none}
 use Rattle.nj_graph.proofs.FoundLemmas.{those-more, those-same}
-use Rattle.nj_audit.specs.Audit.{path_of}
 use Rattle.nj_audit.specs.Findings.{FindingModel}
 use Rattle.nj_audit.specs.LoggedInputs.{AreFoundIf, IsNamedUnordered, finding_of_input}
 use Rattle.nj_audit.specs.Inside.LoggedFound.{AddsLogged}
@@ -41,14 +38,6 @@ module _ (g : GraphModel) (entries : List ReadStatement) (folder : List ℕ) whe
           ∙ append_assoc base (map (finding_of_input g) adds.others) (finding_of_input g input ∷ [])
           ∙ ap (λ (t : List FindingModel). base ++ t) (sym (map_push (finding_of_input g) adds.others input));
     }
-
--- ---- paths by numbers
-
-pub paths-by-number : (g : GraphModel) (files : List FileNo)
-    → map (path_of g) (map (λ file. file.0) files) ≡ map (path_at (files_of g)) files
-paths-by-number g [] = refl
-paths-by-number g (file ∷ files) = ap (λ (paths : List (List ℕ)). path_of g file.0 ∷ paths)
-    (paths-by-number g files)
 
 -- ---- those that are looked for
 

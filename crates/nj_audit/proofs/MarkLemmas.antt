@@ -1,30 +1,7 @@
 -- Flags that a loop sets, and lists whose items belong together.
-use Rattle.std.proofs.Common.{◌≡◌, ◌<◌, ◌+◌, ℕ, ◌==◌, ◌||◌, Bool, true, false, List, [], ◌∷◌, ◌++◌, length}
-use Rattle.std.proofs.Common.{get_or, set, zero, suc, refl, sym, ap, ◌∙◌, arith}
-use Rattle.std.specs.List.{AllZip, list_any, range_with_len}
-use Rattle.std.proofs.lemmas.List.Folds.{list_any-append}
-use Rattle.std.proofs.lemmas.Grind.{common_steps}
-use Rattle.nj_audit.proofs.ListLemmas.{numbers-more}
-
--- no flag is set yet
-pub none-marked : (used : List Bool) (f : ℕ → ℕ) (k : ℕ) → get_or used k false ≡ false
-    → get_or used k false ≡ list_any (λ n. f n == k) (range_with_len 0 0)
-none-marked used f k is = is
-
--- the flag of one more number
-mark-one : (used : List Bool) (f : ℕ → ℕ) (n k : ℕ) → f n < length used
-    → get_or used k false ≡ list_any (λ m. f m == k) (range_with_len 0 n)
-    → get_or (set used (f n) true) k false
-    ≡ (list_any (λ m. f m == k) (range_with_len 0 n) || (f n == k || false))
-mark-one used f n k below is = grind (arith, common_steps, is)
-
-pub mark-more : (used : List Bool) (f : ℕ → ℕ) (n k : ℕ) → f n < length used
-    → get_or used k false ≡ list_any (λ m. f m == k) (range_with_len 0 n)
-    → get_or (set used (f n) true) k false ≡ list_any (λ m. f m == k) (range_with_len 0 (n + 1))
-mark-more used f n k below is =
-    mark-one used f n k below is
-    ∙ sym (ap (list_any (λ m. f m == k)) (numbers-more n)
-    ∙ list_any-append (λ m. f m == k) (range_with_len 0 n) (n ∷ []))
+use Rattle.std.proofs.Common.{◌≡◌, ◌<◌, ℕ, List, [], ◌∷◌, ◌++◌, length}
+use Rattle.std.proofs.Common.{get_or, zero, suc, refl, ap, arith}
+use Rattle.std.specs.List.{AllZip}
 
 module _ {X Y : Type 0} (R : X → Y → Type 0) where
   pub zip-push : (xs : List X) (ys : List Y) (x : X) (y : Y) → AllZip R xs ys → R x y

@@ -1,6 +1,6 @@
 -- Names in a set.
 use Rattle.std.proofs.Common.{◌≡◌, ℕ, ◌||◌, Bool, true, false, List, [], ◌∷◌, ◌++◌, map, refl, sym, ap, subst}
-use Rattle.std.proofs.Common.{◌∙◌, bytes_eq}
+use Rattle.std.proofs.Common.{◌∙◌, bytes_eq, cond}
 use Rattle.std.specs.List.{list_any}
 use Rattle.std.specs.BTreeSet.{insert_key}
 use Rattle.std.specs.Cmp.Lexicographic.{slice_cmp}
@@ -9,6 +9,8 @@ use Rattle.std.specs.declared.cmp.Ordering.{Ordering}
 use Rattle.std.specs.declared.cmp.Ordering.TheVariants.{Less, Equal, Greater}
 use Rattle.std.proofs.lemmas.Map.Lookups.{exact_bytes}
 use Rattle.std.proofs.lemmas.Map.Text.{is_eq-slice_cmp}
+use Rattle.std.proofs.lemmas.Slice.Eq.{bytes_eq-Decides}
+use Rattle.nj_names.specs.NameTables.{with_name}
 use Rattle.nj_graph.specs.Edges.{is_among}
 
 or-again : (b r : Bool) → (b || r) ≡ (b || (b || r))
@@ -90,3 +92,34 @@ pub all-more : (old new list names : List (List ℕ))
 all-more old new list names adds are other =
     adds other ∙ among-append old names other ∙ ap (λ b. b || is_among names other) (are other)
     ∙ sym (among-append list names other)
+
+-- a name that is added, unless it is there
+pub among-with : (names : List (List ℕ)) (name other : List ℕ)
+    → is_among (with_name names name) other ≡ (bytes_eq other name || is_among names other)
+among-with names name other = by (is_among names name) refl
+  where
+    known : (a : Bool) → (a ≡ true → is_among names other ≡ true)
+        → is_among names other ≡ (a || is_among names other)
+    known true is = is refl
+    known false is = refl
+
+    by : (b : Bool) → is_among names name ≡ b
+        → is_among (cond (is_among names name) names (names ++ name ∷ [])) other
+        ≡ (bytes_eq other name || is_among names other)
+    by true is = rw is (known (bytes_eq other name)
+        (λ same. ap (is_among names) ((bytes_eq-Decides other name).0 same) ∙ is))
+    by false is = rw is (among-append names (name ∷ []) other
+        ∙ sym (or-turned (bytes_eq other name) (is_among names other)))
+
+-- one less is left
+pub one-less : (names : List (List ℕ)) (name other : List ℕ) (left : Bool)
+    → (is_among (with_name names name) other || left)
+    ≡ (is_among names other || (bytes_eq other name || left))
+one-less names name other left =
+    ap (λ b. b || left) (among-with names name other)
+    ∙ or-moved (bytes_eq other name) (is_among names other) left
+  where
+    or-moved : (a b r : Bool) → ((a || b) || r) ≡ (b || (a || r))
+    or-moved true true r = refl
+    or-moved true false r = refl
+    or-moved false b r = refl

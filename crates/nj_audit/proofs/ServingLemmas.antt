@@ -1,27 +1,46 @@
 -- How the edges that serve commands are found.
-use Rattle.std.proofs.Common.{◌≡◌, ◌<◌, ◌≤◌, ◌+◌, ◌↔◌, inl, inr, ℕ, true, false, List, [], ◌∷◌, ◌++◌, map}
-use Rattle.std.proofs.Common.{length, take, get_or, Option, Some, None, refl, sym, ap, subst, ◌∙◌, arith}
+use Rattle.std.proofs.Common.{◌≡◌, ◌<◌, ◌≤◌, ◌+◌, ◌↔◌, inl, inr, ℕ, Bool, true, false, cond, List, [], ◌∷◌}
+use Rattle.std.proofs.Common.{◌++◌}
+use Rattle.std.proofs.Common.{length, Option, Some, None, refl, sym, ap, subst, ◌∙◌, arith}
 use Rattle.std.specs.Prelude.{Contains, slice_index}
 use Rattle.std.proofs.lemmas.Bool.{cases_lt}
-use Rattle.std.proofs.lemmas.List.{map_push, take_more}
 use Rattle.std.proofs.lemmas.List.Elements.{Contains-append_left, Contains-push, Contains-push_cases}
 use Rattle.nj_names.specs.NumberSets.{NumberSetModel}
 use Rattle.nj_cycles.proofs.Places.{contains_at, index_of}
 use Rattle.nj_edges.proofs.ChangeLemmas.{finds-none, finds-then}
 use Rattle.nj_edges.specs.Inside.ChangesHeld.{FindsMore}
-use Rattle.nj_graph.specs.declared.FileNo.{FileNo}
-use Rattle.nj_graph.specs.Edges.{EdgePaths, edge_at, inputs_of, maker_of}
-use Rattle.nj_graph.specs.Files.{path_at}
+use Rattle.nj_graph.specs.Edges.{EdgePaths, edge_at, inputs_of}
 use Rattle.nj_audit.specs.Inside.Served.{FindsServing, HasCommand, MakesOneOf}
 use Rattle.nj_audit.specs.Serving.{ServesCommand}
 use Rattle.nj_audit.specs.Serving.ServesCommand.{by_edge, by_itself}
 
 -- the same edges, said in another way
-pub finds-as : (P R : ℕ → Type 0) (old new : NumberSetModel) → ((e : ℕ) → P e → R e) → ((e : ℕ) → R e → P e)
+finds-as : (P R : ℕ → Type 0) (old new : NumberSetModel) → ((e : ℕ) → P e → R e) → ((e : ℕ) → R e → P e)
     → FindsMore P old new → FindsMore R old new
 finds-as P R old new there back a =
     finds-then P (λ e. ⊥) R old new new there (λ e no. absurd no) (λ e is. inl (back e is)) a
     (finds-none (λ e. ⊥) new (λ e no. absurd no))
+
+same-some : (e f : ℕ) → Some e ≡ Some f → e ≡ f
+same-some e f is = cc
+
+-- one edge
+pub finds-some : (n : ℕ) (old new : NumberSetModel) → FindsMore (λ e. e ≡ n) old new
+    → FindsMore (λ e. Some n ≡ Some e) old new
+finds-some n old new a = finds-as (λ e. e ≡ n) (λ e. Some n ≡ Some e) old new
+    (λ e is. ap Some (sym is)) (λ e is. sym (same-some n e is)) a
+
+-- those of a list, and one more
+pub finds-next : (found : List (Option ℕ)) (edge : Option ℕ) (first old new : NumberSetModel)
+    → FindsMore (λ e. Contains found (Some e)) first old → FindsMore (λ e. edge ≡ Some e) old new
+    → FindsMore (λ e. Contains (found ++ edge ∷ []) (Some e)) first new
+finds-next found edge first old new a b =
+    finds-then (λ e. Contains found (Some e)) (λ e. edge ≡ Some e)
+    (λ e. Contains (found ++ edge ∷ []) (Some e)) first old new
+    (λ e has. Contains-append_left found (edge ∷ []) (Some e) has)
+    (λ e is. subst (Contains (found ++ edge ∷ [])) is (Contains-push found edge))
+    (λ e has. Contains-push_cases found edge (Some e) has)
+    a b
 
 -- ---- edges with commands
 
@@ -29,97 +48,28 @@ finds-as P R old new there back a =
 abbrev pub IsCommandBelow : List EdgePaths → (number edge : ℕ) → Type 0
 IsCommandBelow edges number e = (e < number) × ((edge_at edges e).is_phony ≡ false)
 
-module _ (edges : List EdgePaths) (first old new : NumberSetModel) (number : ℕ)
-    (a : FindsMore (IsCommandBelow edges number) first old) where
-  pub finds-command : (edge_at edges number).is_phony ≡ false → FindsMore (λ e. e ≡ number) old new
-      → FindsMore (IsCommandBelow edges (number + 1)) first new
-  finds-command ordinary b =
-      finds-then (IsCommandBelow edges number) (λ e. e ≡ number) (IsCommandBelow edges (number + 1)) first old
-      new
-      (λ e is. (omega (arith, is.0), is.1))
-      (λ e is. (omega (arith, is), subst (λ n. (edge_at edges n).is_phony ≡ false) (sym is) ordinary))
-      (λ e is. elim (cases_lt e number) [
-        | inl below ↦ inl (below, is.1)
-        | inr past ↦
-            inr (omega (arith, is.0, past))
-      ])
-      a b
+picked : (phony : Bool) (n e : ℕ) → cond phony None (Some n) ≡ Some e → (n ≡ e) × (phony ≡ false)
+picked true n e is = absurd cc
+picked false n e is = (same-some n e is, refl)
 
-  pub finds-phony : (edge_at edges number).is_phony ≡ true
-      → FindsMore (IsCommandBelow edges (number + 1)) first old
-  finds-phony phony =
-      finds-as (IsCommandBelow edges number) (IsCommandBelow edges (number + 1)) first old
-      (λ e is. (omega (arith, is.0), is.1))
-      (λ e is. elim (cases_lt e number) [
-        | inl below ↦ (below, is.1)
-        | inr past ↦
-            let same : e ≡ number = omega (arith, is.0, past) in
-            let both : false ≡ true = sym (subst (λ n. (edge_at edges n).is_phony ≡ false) same is.1) ∙ phony
-            in
-            absurd cc
-      ])
-      a
-
--- ---- makers
-
-push-some : (os : List (Option ℕ)) (e : ℕ) → Contains os (Some e) → (o : Option ℕ)
-    → Contains (os ++ o ∷ []) (Some e)
-push-some os e has o = Contains-append_left os (o ∷ []) (Some e) has
-
-same-some : (e f : ℕ) → Some e ≡ Some f → e ≡ f
-same-some e f is = cc
-
--- some makers, and one more that is an edge, or none
-module _ (os : List (Option ℕ)) (first old new : NumberSetModel)
-    (a : FindsMore (λ e. Contains os (Some e)) first old) where
-  finds-maker : (edge : ℕ) → FindsMore (λ e. e ≡ edge) old new
-      → FindsMore (λ e. Contains (os ++ Some edge ∷ []) (Some e)) first new
-  finds-maker edge b =
-      finds-then (λ e. Contains os (Some e)) (λ e. e ≡ edge) (λ e. Contains (os ++ Some edge ∷ []) (Some e))
-      first old new
-      (λ e has. push-some os e has (Some edge))
-      (λ e is. subst (λ x. Contains (os ++ Some edge ∷ []) (Some x)) (sym is) (Contains-push os (Some edge)))
-      (λ e has. elim (Contains-push_cases os (Some edge) (Some e) has)
-      [ inl was ↦ inl was | inr is ↦ inr (same-some e edge (sym is)) ])
-      a b
-
-finds-source : (os : List (Option ℕ)) (first old : NumberSetModel)
-    → FindsMore (λ e. Contains os (Some e)) first old
-    → FindsMore (λ e. Contains (os ++ None ∷ []) (Some e)) first old
-finds-source os first old a =
-    finds-as (λ e. Contains os (Some e)) (λ e. Contains (os ++ None ∷ []) (Some e)) first old
-    (λ e has. push-some os e has None)
-    (λ e has. elim (Contains-push_cases os None (Some e) has) [ inl was ↦ was | inr is ↦ absurd cc ])
-    a
-
--- the makers of the first files of a list, and of one more
-module _ (edges : List EdgePaths) (files : List (List ℕ)) where
-  abbrev makers : List FileNo → List (Option ℕ)
-  makers ns = map (maker_of edges) (map (path_at files) ns)
-
-  makers-more : (ns : List FileNo) (i : ℕ) (d : FileNo) → i < length ns
-      → makers (take (i + 1) ns) ≡ makers (take i ns) ++ maker_of edges (path_at files (get_or ns i d)) ∷ []
-  makers-more ns i d below =
-      ap makers (take_more ns i d below)
-      ∙ ap (map (maker_of edges)) (map_push (path_at files) (take i ns) (get_or ns i d))
-      ∙ map_push (maker_of edges) (map (path_at files) (take i ns)) (path_at files (get_or ns i d))
-
-  module _ (first old new : NumberSetModel) (ns : List FileNo) (i : ℕ) (d : FileNo) (below : i < length ns)
-      (a : FindsMore (MakesOneOf edges (map (path_at files) (take i ns))) first old) where
-    pub finds-made : (edge : ℕ) → maker_of edges (path_at files (get_or ns i d)) ≡ Some edge
-        → FindsMore (λ e. e ≡ edge) old new
-        → FindsMore (MakesOneOf edges (map (path_at files) (take (i + 1) ns))) first new
-    finds-made edge made b =
-        subst (λ os. FindsMore (λ e. Contains os (Some e)) first new)
-        (sym (makers-more ns i d below ∙ ap (λ o. makers (take i ns) ++ o ∷ []) made))
-        (finds-maker (makers (take i ns)) first old new a edge b)
-
-    pub finds-unmade : maker_of edges (path_at files (get_or ns i d)) ≡ None
-        → FindsMore (MakesOneOf edges (map (path_at files) (take (i + 1) ns))) first old
-    finds-unmade unmade =
-        subst (λ os. FindsMore (λ e. Contains os (Some e)) first old)
-        (sym (makers-more ns i d below ∙ ap (λ o. makers (take i ns) ++ o ∷ []) unmade))
-        (finds-source (makers (take i ns)) first old a)
+pub finds-command : (edges : List EdgePaths) (n : ℕ) (first old new : NumberSetModel)
+    → FindsMore (IsCommandBelow edges n) first old
+    → FindsMore (λ e. cond (edge_at edges n).is_phony None (Some n) ≡ Some e) old new
+    → FindsMore (IsCommandBelow edges (n + 1)) first new
+finds-command edges n first old new a b =
+    finds-then (IsCommandBelow edges n) (λ e. cond (edge_at edges n).is_phony None (Some n) ≡ Some e)
+    (IsCommandBelow edges (n + 1)) first old new
+    (λ e is. (omega (arith, is.0), is.1))
+    (λ e is. let this = picked (edge_at edges n).is_phony n e is in
+    (omega (arith, this.0), subst (λ n. (edge_at edges n).is_phony ≡ false) this.0 this.1))
+    (λ e is. elim (cases_lt e n) [
+      | inl below ↦ inl (below, is.1)
+      | inr past ↦
+          let same : e ≡ n = omega (arith, is.0, past) in
+          inr (ap (λ b. cond b None (Some n)) (sym (ap (λ k. (edge_at edges k).is_phony) same) ∙ is.1)
+          ∙ ap Some (sym same))
+    ])
+    a b
 
 -- ---- turn by turn
 

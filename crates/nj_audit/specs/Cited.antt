@@ -6,22 +6,25 @@ pub use Rattle.nj_audit.specs.Audits.{IsAudit}
 pub use Rattle.nj_audit.specs.Inside.ByKind.{asked_of, findings_of}
 pub use Rattle.nj_audit.specs.Kinds.{all_kinds, AskFor, contains, first_unknown, is_asked_for, is_on_by_default, is_taken, is_unknown}
 pub use Rattle.nj_audit.specs.Kinds.{name_of, texts}
-pub use Rattle.nj_audit.specs.LoggedInputs.{AreFoundIf, AreUndeclaredFindings, IsNamedUnordered, finding_of_input}
+pub use Rattle.nj_graph.specs.Handles.{OfEdge, edge_of, file_of, paths_of}
 pub use Rattle.nj_scope.specs.ReadingList.{ReadStatement}
-pub use Rattle.nj_graph.specs.Edges.{is_among, maker_of}
-pub use Rattle.nj_audit.specs.Audit.{command_of, commands_at, has_command, repeated_commands, has_depfile_without_deps}
-pub use Rattle.nj_audit.specs.Audit.{depfiles_without_deps, repeated_inputs, repeated_inputs_at, path_of, defaults_of, first_output_at}
-pub use Rattle.nj_audit.specs.Audit.{is_unused_output, unused_outputs, unused_outputs_at, pools_of_edges, unused_pool, unused_pools}
-pub use Rattle.nj_audit.specs.Audit.{is_used_rule, unused_rule, unused_rules, is_set, missing_sources, user_of_missing, edge_numbers}
-pub use Rattle.nj_audit.specs.Audit.{is_known, names_in, rule_at, unused_names, unused_variables, unused_variables_at}
+pub use Rattle.nj_graph.specs.Edges.{is_among, inputs_of, maker_of}
+pub use Rattle.nj_audit.specs.Audit.{commands_at, repeated_commands, has_depfile_without_deps, depfiles_without_deps, repeated_inputs}
+pub use Rattle.nj_audit.specs.Audit.{repeated_inputs_at, path_of, unused_outputs, unused_outputs_at, is_unused_output, first_output_at}
+pub use Rattle.nj_audit.specs.Audit.{pools_of_edges, unused_pool, unused_pools, is_used_rule, unused_rule, unused_rules, is_set}
+pub use Rattle.nj_audit.specs.Audit.{missing_sources, edge_numbers, is_known, names_in, rule_at, unused_names, unused_variables}
+pub use Rattle.nj_audit.specs.Audit.{unused_variables_at}
+pub use Rattle.nj_audit.specs.Inside.Handles.{repeated_among, AreIn, input_of, missing_file, HaveNumbers}
+pub use Rattle.nj_names.specs.NameTables.{with_name}
 pub use Rattle.nj_graph.specs.Origins.{place_text}
-pub use Rattle.nj_audit.specs.Findings.{edge_finding, finding_model}
+pub use Rattle.nj_audit.specs.Findings.{finding_model, edge_finding}
 pub use Rattle.nj_audit.specs.Laws.{QuotedPathsAreWords}
-pub use Rattle.nj_graph.specs.Files.{path_at}
 pub use Rattle.nj_audit.specs.UnorderedFiles.{files_named, AreNamedUnordered, IsOther, IsTwin, IsUnordered, response_of}
-pub use Rattle.nj_audit.specs.Inside.FilesNamed.{AreKnown, AddsFiles, paths_of_name}
+pub use Rattle.nj_audit.specs.LoggedInputs.{AreUndeclaredFindings, IsNamedUnordered}
 pub use Rattle.nj_audit.specs.Inside.LoggedFound.{AddsLogged}
 pub use Rattle.nj_audit.specs.NamedPaths.{paths_in, paths_named, after_letter, after_sign, after_slash, path_named, without_folder}
+pub use Rattle.nj_audit.specs.Inside.FilesNamed.{AddsFiles, paths_of_name}
+pub use Rattle.nj_audit.specs.Inside.FileSets.{HasDefaults}
 pub use Rattle.nj_edges.specs.Inside.ChangesHeld.{FindsMore}
 pub use Rattle.nj_audit.specs.Inside.Served.{HasCommand, MakesOneOf}
 pub use Rattle.nj_audit.specs.Serving.{ServesCommand}

@@ -1,5 +1,7 @@
 -- How the code meets the definitions beside this directory.
 pub mod ByKind
+pub mod FileSets
+pub mod Handles
 pub mod FilesNamed
 pub mod UnorderedFound
 pub mod LoggedFound

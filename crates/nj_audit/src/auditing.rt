@@ -1,7 +1,7 @@
 //! The findings of the requested kinds.
 
 ghost use Rattle.std.specs.Prelude.{◌≡◌, ◌<◌, ◌++◌, IfOk, OnOk, length, map, All};
-ghost use Rattle.nj_audit.specs.Cited.{OfStatements, flat_map, edges_of, files_of, input_of_edge, IsAudit, asked_of, findings_of, all_kinds, AreFoundIf};
+ghost use Rattle.nj_audit.specs.Cited.{OfStatements, flat_map, edges_of, files_of, input_of_edge, IsAudit, asked_of, findings_of, all_kinds};
 
 use crate::commands::find_repeated_commands;
 use crate::depfiles::find_depfiles_without_deps;
@@ -42,8 +42,11 @@ pub fn audit<'a>(
         (map (input_of_edge (files_of graph.now)) logged.now) kinds)) }
 {
     let edges = serving_edges(alloc, graph)?;
-    let is_asked = kinds.contains(Kind::UndeclaredInput);
-    let undeclared = undeclared_if(alloc, graph, folder, logged, is_asked)?;
+    let undeclared = if kinds.contains(Kind::UndeclaredInput) {
+        find_undeclared_inputs(alloc, graph, folder, logged)?
+    } else {
+        Findings::new(alloc)
+    };
     find_all(alloc, graph, missing, edges.flags(), &undeclared, kinds)
 }
 
@@ -62,48 +65,31 @@ fn find_all<'a>(
 {
     let mut found = Findings::new(alloc);
     'all: for kind in Kind::ALL {
-        if kinds.contains(kind) {
-            find(alloc, graph, missing, serving, undeclared, kind, &mut found)?;
-        }
+        find(
+            alloc, graph, missing, serving, undeclared, kinds, kind, &mut found,
+        )?;
     }
     Ok(found)
 }
 
-/// The undeclared inputs if they are requested.
-fn undeclared_if<'a>(
-    alloc: Global,
-    graph: &'a Graph,
-    folder: &[u8],
-    logged: &[UndeclaredInput],
-    is_asked: bool,
-) -> Result<Findings<'a>, AllocError>
-    requires edges { All (λ input. input.edge.0 < length (edges_of graph.now)) logged.now }
-    requires files { All (λ input. input.file.0 < length (files_of graph.now)) logged.now }
-    ensures { OfStatements graph.now (λ entries.
-        IfOk result (AreFoundIf is_asked graph.now entries folder.now
-        (map (input_of_edge (files_of graph.now)) logged.now))) }
-{
-    if is_asked {
-        find_undeclared_inputs(alloc, graph, folder, logged)
-    } else {
-        Ok(Findings::new(alloc))
-    }
-}
-
-/// Appends the findings of a kind.
+/// Appends the findings of a kind, if it is one of these.
 fn find<'a>(
     alloc: Global,
     graph: &'a Graph,
     missing: &[bool],
     serving: &[bool],
     undeclared: &Findings<'a>,
+    kinds: Kinds,
     kind: Kind,
     found: &mut Findings<'a>,
 ) -> Result<(), AllocError>
     ensures { OfStatements graph.entry.now (λ entries. OnOk result
-        (found.new ≡ found.old ++ findings_of graph.entry.now entries missing.now serving.now
-        undeclared.entry.now kind)) }
+        (found.new ≡ found.old ++ asked_of kinds (findings_of graph.entry.now entries missing.now
+        serving.now undeclared.entry.now) kind)) }
 {
+    if !kinds.contains(kind) {
+        return Ok(());
+    }
     match kind {
         Kind::UnusedOutput => find_unused_outputs(alloc, graph, found),
         Kind::MissingSource => find_missing_sources(graph, missing, serving, found),

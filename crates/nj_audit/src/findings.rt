@@ -1,10 +1,10 @@
 //! Findings and their places.
 
-ghost use Rattle.std.specs.Prelude.{◌≡◌, [], ◌∷◌, ◌++◌, ◌<◌, OnOk, length, map};
-ghost use Rattle.nj_audit.specs.Cited.{edges_of, place_text, edge_finding, finding_model};
+ghost use Rattle.std.specs.Prelude.{◌≡◌, [], ◌∷◌, ◌++◌, OnOk, map};
+ghost use Rattle.nj_audit.specs.Cited.{edge_of, place_text, finding_model, edge_finding};
 
 use crate::kinds::Kind;
-use nj_graph::{EdgeNo, Graph, PlaceRef};
+use nj_graph::{Edge, PlaceRef};
 use std::alloc::{AllocError, Global};
 use std::marker::Model;
 
@@ -66,18 +66,11 @@ impl<'a> Findings<'a> {
     }
 
     /// Appends a finding at the statement of an edge.
-    pub fn push_at(
-        &mut self,
-        graph: &'a Graph,
-        edge: EdgeNo,
-        kind: Kind,
-        name: &'a [u8],
-    ) -> Result<(), AllocError>
-        requires { edge.0 < length (edges_of graph.now) }
-        ensures { OnOk result (self.new ≡ self.old
-            ++ edge_finding graph.entry.now edge.0 kind name.entry.now ∷ []) }
+    pub fn push_at(&mut self, edge: Edge<'a>, kind: Kind, name: &'a [u8]) -> Result<(), AllocError>
+        ensures { OnOk result (self.new ≡ self.old ++ edge_finding (edge_of edge.entry).graph
+            (edge_of edge.entry).number kind name.entry.now ∷ []) }
     {
-        self.push(graph.edge_place(edge), kind, name)
+        self.push(edge.place(), kind, name)
     }
 
     /// Appends all findings of others.

@@ -1,15 +1,16 @@
 //! Inputs that an edge has more than once.
 
-ghost use Rattle.std.specs.Prelude.{◌≡◌, ◌++◌, ◌<◌, OnOk, length};
-ghost use Rattle.nj_audit.specs.Cited.{edges_of, repeated_inputs, repeated_inputs_at};
+ghost use Rattle.std.specs.Prelude.{◌≡◌, ◌++◌, OnOk};
+ghost use Rattle.nj_audit.specs.Cited.{edge_of, repeated_inputs, repeated_inputs_at};
 
+use crate::file_set::FileSet;
 use crate::findings::Findings;
 use crate::kinds::Kind;
-use crate::names::Names;
-use nj_graph::{EdgeNo, Graph};
+use nj_graph::{Edge, Graph};
 use std::alloc::{AllocError, Global};
 
 /// Appends the inputs that were given to their edge before.
+#[tactic(auto, using(crate::proofs::HandleLemmas::numbers_there))]
 pub fn find_repeated_inputs<'a>(
     alloc: Global,
     graph: &'a Graph,
@@ -17,27 +18,29 @@ pub fn find_repeated_inputs<'a>(
 ) -> Result<(), AllocError>
     ensures { OnOk result (found.new ≡ found.old ++ repeated_inputs graph.entry.now) }
 {
-    'edges: for number in 0..graph.edge_count() {
-        push_repeated_inputs(alloc, graph, EdgeNo(number), found)?;
+    let mut seen = FileSet::new(alloc, graph)?;
+    'edges: for edge in graph.edges() {
+        push_repeated_inputs(edge, &mut seen, found)?;
     }
     Ok(())
 }
 
-/// Appends those of an edge.
+/// Appends those of an edge. The set is for its inputs.
+#[tactic(auto, using(crate::proofs::HandleLemmas::paths_there, crate::proofs::RepeatLemmas::all_repeats))]
 fn push_repeated_inputs<'a>(
-    alloc: Global,
-    graph: &'a Graph,
-    edge: EdgeNo,
+    edge: Edge<'a>,
+    seen: &mut FileSet<'_>,
     found: &mut Findings<'a>,
 ) -> Result<(), AllocError>
-    requires { edge.0 < length (edges_of graph.now) }
-    ensures { OnOk result (found.new ≡ found.old ++ repeated_inputs_at graph.entry.now edge.0) }
+    requires { seen.old.graph ≡ (edge_of edge).graph }
+    ensures found { OnOk result (found.new ≡ found.old
+        ++ repeated_inputs_at (edge_of edge.entry).graph (edge_of edge.entry).number) }
+    ensures seen { OnOk result (seen.new.graph ≡ seen.old.graph) }
 {
-    let mut seen = Names::new(alloc);
-    'inputs: for input in graph.inputs(edge) {
-        let path = graph.path(*input);
-        if !seen.add(path)? {
-            found.push_at(graph, edge, Kind::RepeatedInput, path)?;
+    seen.clear();
+    'inputs: for input in edge.inputs() {
+        if !seen.add(input)? {
+            found.push_at(edge, Kind::RepeatedInput, input.path())?;
         }
     }
     Ok(())

@@ -4,6 +4,7 @@
 mod auditing;
 mod commands;
 mod depfiles;
+mod file_set;
 mod findings;
 mod inputs;
 mod kinds;

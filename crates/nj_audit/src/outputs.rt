@@ -1,16 +1,17 @@
 //! Outputs that nothing uses.
 
-ghost use Rattle.std.specs.Prelude.{◌≡◌, ◌++◌, ◌<◌, ℕ, List, IfOk, OnOk, length};
-ghost use Rattle.nj_audit.specs.Cited.{is_among, path_at, edges_of, files_of, defaults_of, first_output_at, is_unused_output, unused_outputs, unused_outputs_at};
+ghost use Rattle.std.specs.Prelude.{◌≡◌, ◌++◌, IfOk, OnOk};
+ghost use Rattle.nj_audit.specs.Cited.{edge_of, file_of, unused_outputs, unused_outputs_at, is_unused_output, first_output_at, HasDefaults};
 
+use crate::file_set::FileSet;
 use crate::findings::Findings;
 use crate::kinds::Kind;
-use crate::names::Names;
-use nj_graph::{EdgeNo, FileNo, Graph};
+use nj_graph::{Edge, File, Graph};
 use std::alloc::{AllocError, Global};
 
 /// Appends the outputs that no edge has as an input or as a validation, and that are not among the
 /// defaults.
+#[tactic(auto, using(crate::proofs::HandleLemmas::numbers_there))]
 pub fn find_unused_outputs<'a>(
     alloc: Global,
     graph: &'a Graph,
@@ -18,64 +19,58 @@ pub fn find_unused_outputs<'a>(
 ) -> Result<(), AllocError>
     ensures { OnOk result (found.new ≡ found.old ++ unused_outputs graph.entry.now) }
 {
-    let defaults = default_paths(alloc, graph)?;
-    'edges: for number in 0..graph.edge_count() {
-        push_unused_outputs(graph, EdgeNo(number), &defaults, found)?;
+    let defaults = defaults_of(alloc, graph)?;
+    'edges: for edge in graph.edges() {
+        push_unused_outputs(edge, &defaults, found)?;
     }
     Ok(())
 }
 
-/// The paths of the defaults.
-fn default_paths(alloc: Global, graph: &Graph) -> Result<Names, AllocError>
-    ensures { IfOk result (λ paths. (path : List ℕ) →
-        is_among paths path ≡ is_among (defaults_of graph.now) path) }
+/// The defaults.
+#[tactic(auto, using(crate::proofs::HandleLemmas::paths_there))]
+fn defaults_of(alloc: Global, graph: &Graph) -> Result<FileSet<'_>, AllocError>
+    ensures { IfOk result (HasDefaults graph.now) }
 {
-    let mut paths = Names::new(alloc);
-    'files: for file in graph.defaults() {
-        paths.add(graph.path(*file))?;
+    let mut defaults = FileSet::new(alloc, graph)?;
+    'files: for file in graph.default_files() {
+        defaults.add(file)?;
     }
-    Ok(paths)
+    Ok(defaults)
 }
 
 /// Appends those of an edge.
+#[tactic(auto, using(crate::proofs::HandleLemmas::paths_there))]
 fn push_unused_outputs<'a>(
-    graph: &'a Graph,
-    edge: EdgeNo,
-    defaults: &Names,
+    edge: Edge<'a>,
+    defaults: &FileSet<'_>,
     found: &mut Findings<'a>,
 ) -> Result<(), AllocError>
-    requires edge { edge.0 < length (edges_of graph.now) }
-    requires defaults { (path : List ℕ) →
-        is_among defaults.now path ≡ is_among (defaults_of graph.now) path }
-    ensures { OnOk result (found.new ≡ found.old ++ unused_outputs_at graph.entry.now edge.0) }
+    requires { HasDefaults (edge_of edge).graph defaults.now }
+    ensures { OnOk result (found.new ≡ found.old
+        ++ unused_outputs_at (edge_of edge.entry).graph (edge_of edge.entry).number) }
 {
-    'outputs: for output in graph.outputs(edge) {
-        if is_unused(graph, *output, defaults) {
-            found.push_at(graph, edge, Kind::UnusedOutput, graph.path(*output))?;
+    'outputs: for output in edge.outputs() {
+        if is_unused(output, defaults) {
+            found.push_at(edge, Kind::UnusedOutput, output.path())?;
         }
     }
     Ok(())
 }
 
 /// Whether nothing uses an output.
-fn is_unused(graph: &Graph, file: FileNo, defaults: &Names) -> bool
-    requires file { file.0 < length (files_of graph.now) }
-    requires defaults { (path : List ℕ) →
-        is_among defaults.now path ≡ is_among (defaults_of graph.now) path }
-    ensures { result ≡ is_unused_output graph.now (path_at (files_of graph.now) file) }
+fn is_unused(file: File<'_>, defaults: &FileSet<'_>) -> bool
+    requires { HasDefaults (file_of file).graph defaults.now }
+    ensures { result ≡ is_unused_output (file_of file.entry).graph (file_of file.entry).path }
 {
-    graph.users(file).is_empty()
-        && graph.validation_users(file).is_empty()
-        && !defaults.has(graph.path(file))
+    file.users().is_empty() && file.validation_users().is_empty() && !defaults.has(file)
 }
 
 /// The first output of an edge.
-pub fn first_output(graph: &Graph, edge: EdgeNo) -> &[u8]
-    requires { edge.0 < length (edges_of graph.now) }
-    ensures { result.now ≡ first_output_at graph.now edge.0 }
+pub fn first_output<'g>(edge: Edge<'g>) -> &'g [u8]
+    ensures { result.now ≡ first_output_at (edge_of edge.entry).graph (edge_of edge.entry).number }
 {
-    match graph.outputs(edge).first() {
-        Some(file) => graph.path(*file),
+    match edge.outputs().first() {
+        Some(file) => file.path(),
         None => b"",
     }
 }

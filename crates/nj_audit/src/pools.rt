@@ -6,7 +6,7 @@ ghost use Rattle.nj_audit.specs.Cited.{OfStatements, cons_option, ReadStatement,
 use crate::findings::Findings;
 use crate::kinds::Kind;
 use crate::names::Names;
-use nj_graph::{EdgeNo, Graph};
+use nj_graph::Graph;
 use std::alloc::{AllocError, Global};
 
 /// Appends the pools that no edge uses.
@@ -50,14 +50,15 @@ fn push_if_unused<'a>(
 }
 
 /// The names of the pools that edges use.
+#[tactic(auto, using(crate::proofs::HandleLemmas::numbers_there))]
 fn used_pools(alloc: Global, graph: &Graph) -> Result<Names, AllocError>
     ensures { (entries : List ReadStatement) (name : List ℕ) → IsGraphOf graph.now entries
         → IfOk result (λ used.
         is_among used name ≡ is_among (pools_of_edges graph.now entries) name) }
 {
     let mut used = Names::new(alloc);
-    'edges: for number in 0..graph.edge_count() {
-        if let Some(pool) = graph.pool(EdgeNo(number)) {
+    'edges: for edge in graph.edges() {
+        if let Some(pool) = edge.pool() {
             used.add(pool)?;
         }
     }

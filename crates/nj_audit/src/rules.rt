@@ -5,7 +5,7 @@ ghost use Rattle.nj_audit.specs.Cited.{cons_option, is_used_rule, unused_rule, u
 
 use crate::findings::Findings;
 use crate::kinds::Kind;
-use nj_graph::{EdgeNo, Graph, RuleNo};
+use nj_graph::{Graph, RuleNo};
 use std::alloc::{AllocError, Global};
 
 /// Appends the rules that no edge uses.
@@ -39,6 +39,7 @@ fn push_rule<'a>(graph: &'a Graph, rule: RuleNo, found: &mut Findings<'a>) -> Re
 }
 
 /// Of each rule whether an edge uses it.
+#[tactic(auto, using(crate::proofs::HandleLemmas::numbers_there))]
 fn used_rules(alloc: Global, graph: &Graph) -> Result<Vec<bool>, AllocError>
     ensures len { IfOk result (λ used.
         length used.items ≡ length graph.now.declarations.rules) }
@@ -46,8 +47,8 @@ fn used_rules(alloc: Global, graph: &Graph) -> Result<Vec<bool>, AllocError>
         → slice_index_or used.items rule false ≡ is_used_rule graph.now rule) }
 {
     let mut used = vec![in alloc; false; graph.rules().len()]?;
-    'edges: for number in 0..graph.edge_count() {
-        used[graph.edge_rule(EdgeNo(number)).0] = true;
+    'edges: for edge in graph.edges() {
+        used[edge.rule_number().0] = true;
     }
     Ok(used)
 }

@@ -1,11 +1,11 @@
 //! Sources that are missing on the disk.
 
-ghost use Rattle.std.specs.Prelude.{◌≡◌, ◌++◌, ◌<◌, IfSome, OnOk, length, find, map, option_map, Contains};
-ghost use Rattle.nj_audit.specs.Cited.{edges_of, files_of, is_set, missing_sources, user_of_missing};
+ghost use Rattle.std.specs.Prelude.{◌≡◌, ◌++◌, [], OnOk, find, option_map};
+ghost use Rattle.nj_audit.specs.Cited.{cons_option, edge_of, file_of, is_set, missing_file, missing_sources};
 
 use crate::findings::Findings;
 use crate::kinds::Kind;
-use nj_graph::{EdgeNo, FileNo, Graph};
+use nj_graph::{Edge, Edges, File, Graph};
 use std::alloc::AllocError;
 
 /// Appends the sources that are missing, each at the first edge that has it as an input and serves a
@@ -19,44 +19,40 @@ pub fn find_missing_sources<'a>(
     ensures { OnOk result (found.new ≡ found.old
         ++ missing_sources graph.entry.now missing.now serving.now) }
 {
-    'files: for number in 0..graph.file_count() {
-        let file = FileNo(number);
-        if let Some(edge) = user_of_missing(graph, missing, serving, file) {
-            found.push_at(graph, edge, Kind::MissingSource, graph.path(file))?;
-        }
+    'files: for file in graph.files() {
+        push_if_missing(file, missing, serving, found)?;
     }
     Ok(())
 }
 
-/// The first edge that has a file as an input and serves a command, if the file is a source and
-/// missing.
-fn user_of_missing(
-    graph: &Graph,
+/// Appends a file, if it is a source and missing, at the first edge that has it as an input and
+/// serves a command.
+fn push_if_missing<'a>(
+    file: File<'a>,
     missing: &[bool],
     serving: &[bool],
-    file: FileNo,
-) -> Option<EdgeNo>
-    requires { file.0 < length (files_of graph.now) }
-    ensures user { option_map (λ edge. edge.0) result
-        ≡ user_of_missing graph.now missing.now serving.now file.0 }
-    ensures known { IfSome result (λ edge. edge.0 < length (edges_of graph.now)) }
+    found: &mut Findings<'a>,
+) -> Result<(), AllocError>
+    ensures { OnOk result (found.new ≡ found.old
+        ++ cons_option (missing_file missing.now serving.now (file_of file.entry)) []) }
 {
-    if is_set(missing, file.0) && graph.maker(file).is_none() {
-        first_set(graph.users(file), serving)
-    } else {
-        None
+    if !is_set(missing, file.number().0) || file.maker().is_some() {
+        return Ok(());
+    }
+    match first_set(file.users(), serving) {
+        Some(edge) => found.push_at(edge, Kind::MissingSource, file.path()),
+        None => Ok(()),
     }
 }
 
 /// The first of these edges whose flag is set.
-fn first_set(edges: &[EdgeNo], flags: &[bool]) -> Option<EdgeNo>
-    ensures first { option_map (λ edge. edge.0) result
-        ≡ find (is_set flags.now) (map (λ edge. edge.0) edges.now) }
-    ensures one { IfSome result (λ edge. Contains edges.now edge) }
+fn first_set<'g>(edges: Edges<'g>, flags: &[bool]) -> Option<Edge<'g>>
+    ensures { option_map edge_of result
+        ≡ find (λ edge. is_set flags.now edge.number) edges.entry }
 {
     'edges: for edge in edges {
-        if is_set(flags, edge.0) {
-            return Some(*edge);
+        if is_set(flags, edge.number().0) {
+            return Some(edge);
         }
     }
     None
@@ -66,8 +62,5 @@ fn first_set(edges: &[EdgeNo], flags: &[bool]) -> Option<EdgeNo>
 fn is_set(flags: &[bool], index: usize) -> bool
     ensures { result ≡ is_set flags.now index }
 {
-    match flags.get(index) {
-        Some(flag) => *flag,
-        None => false,
-    }
+    matches!(flags.get(index), Some(true))
 }

@@ -1,13 +1,13 @@
 //! Files that the commands of edges name, and that other edges make, unordered with them.
 
-ghost use Rattle.std.specs.Prelude.{◌≡◌, ◌↔◌, ◌<◌, ℕ, Some, IfOk, IfSome, IsTrue, OnOk, length, map, option_map};
-ghost use Rattle.nj_audit.specs.Cited.{OfStatements, maker_of, path_at, edges_of, files_of, edge_numbers, AreNamedUnordered, IsOther, IsTwin, IsUnordered, files_named, response_of, AreKnown, AddsUnordered, AddsOnce};
+ghost use Rattle.std.specs.Prelude.{◌≡◌, ◌↔◌, ℕ, List, [], Some, IfOk, IfSome, IsTrue, OnOk, map, option_map};
+ghost use Rattle.nj_audit.specs.Cited.{OfEdge, OfStatements, edge_of, file_of, inputs_of, maker_of, paths_of, edges_of, edge_numbers, AreNamedUnordered, IsOther, IsTwin, IsUnordered, files_named, response_of, with_name, AreIn, AddsUnordered, AddsOnce, HaveNumbers};
 
+use crate::file_set::FileSet;
 use crate::findings::Findings;
 use crate::kinds::Kind;
 use crate::named_files::add_named_files;
-use crate::names::Names;
-use nj_graph::{EdgeGraph, EdgeNo, FileNo, Graph, NeedsSearch};
+use nj_graph::{Edge, File, Graph, NeedsSearch};
 use std::alloc::{AllocError, Global};
 
 /// The files that the commands of edges and their response files name, and that another edge makes,
@@ -22,201 +22,149 @@ pub fn find_unordered_files<'a>(
         IfOk result (AreNamedUnordered graph.now entries folder.now (edge_numbers graph.now))) }
 {
     let mut found = Findings::new(alloc);
-    let mut makers = NeedsSearch::new(alloc, graph.edge_graph());
-    let mut users = NeedsSearch::new(alloc, graph.edge_graph());
-    'edges: for number in 0..graph.edge_count() {
-        let edge = EdgeNo(number);
-        let files = named_files(alloc, graph, folder, edge)?;
-        push_unordered(
-            alloc,
-            graph,
-            edge,
-            &files,
-            &mut makers,
-            &mut users,
-            &mut found,
-        )?;
+    let mut seen = FileSet::new(alloc, graph)?;
+    let mut makers = NeedsSearch::new(alloc, graph);
+    let mut users = NeedsSearch::new(alloc, graph);
+    'edges: for edge in graph.edges() {
+        let files = named_files(alloc, folder, edge)?;
+        push_unordered(edge, &files, &mut seen, &mut makers, &mut users, &mut found)?;
     }
     Ok(found)
 }
 
 /// The files that the command of an edge and its response file may name.
-pub fn named_files(
+pub fn named_files<'g>(
     alloc: Global,
-    graph: &Graph,
     folder: &[u8],
-    edge: EdgeNo,
-) -> Result<Vec<FileNo>, AllocError>
-    requires { edge.0 < length (edges_of graph.now) }
-    ensures named { OfStatements graph.now (λ entries.
-        IfOk result (λ files. map (λ file. file.0) files.items
-        ≡ files_named graph.now entries folder.now edge.0)) }
-    ensures known { IfOk result (λ files. AreKnown (files_of graph.now) files.items) }
+    edge: Edge<'g>,
+) -> Result<Vec<File<'g>>, AllocError>
+    ensures named { OfEdge (edge_of edge.entry) (λ entries number.
+        IfOk result (λ files. HaveNumbers (edge_of edge.entry).graph (map file_of files.items)
+        (files_named (edge_of edge.entry).graph entries folder.now number))) }
+    ensures graph { IfOk result
+        (λ files. AreIn (edge_of edge.entry).graph (map file_of files.items)) }
 {
     let mut files = Vec::new(alloc);
-    if graph.is_phony(edge) {
+    if edge.is_phony() {
         return Ok(files);
     }
-    let command = graph.command(alloc, edge)?;
-    add_named_files(&mut files, graph.edge_graph(), folder, &command)?;
-    let response = response(alloc, graph, edge)?;
-    add_named_files(&mut files, graph.edge_graph(), folder, &response)?;
+    let graph = edge.graph();
+    let command = edge.command(alloc)?;
+    add_named_files(&mut files, graph, folder, &command)?;
+    let response = response(alloc, edge)?;
+    add_named_files(&mut files, graph, folder, &response)?;
     Ok(files)
 }
 
 /// The contents of an edge's response file, if it has a name.
-fn response(alloc: Global, graph: &Graph, edge: EdgeNo) -> Result<Vec<u8>, AllocError>
-    requires { edge.0 < length (edges_of graph.now) }
-    ensures { OfStatements graph.now (λ entries.
-        IfOk result (λ text. text.items ≡ response_of entries edge.0)) }
+fn response(alloc: Global, edge: Edge<'_>) -> Result<Vec<u8>, AllocError>
+    ensures { OfEdge (edge_of edge.entry) (λ entries number.
+        IfOk result (λ text. text.items ≡ response_of entries number)) }
 {
-    let file = graph.variable(alloc, edge, b"rspfile")?;
+    let file = edge.variable(alloc, b"rspfile")?;
     if file.as_slice().is_empty() {
         return Ok(file);
     }
-    let content = graph.variable(alloc, edge, b"rspfile_content")?;
-    Ok(content)
+    edge.variable(alloc, b"rspfile_content")
 }
 
-/// Appends those of these files that are unordered with an edge.
+/// Appends those of these files that are unordered with an edge. The set is for those.
 fn push_unordered<'a>(
-    alloc: Global,
-    graph: &'a Graph,
-    edge: EdgeNo,
-    files: &[FileNo],
+    edge: Edge<'a>,
+    files: &[File<'a>],
+    seen: &mut FileSet<'_>,
     makers: &mut NeedsSearch<'_>,
     users: &mut NeedsSearch<'_>,
     found: &mut Findings<'a>,
 ) -> Result<(), AllocError>
-    requires edge { edge.0 < length (edges_of graph.now) }
-    requires files { AreKnown (files_of graph.now) files.now }
-    requires makers { makers.old ≡ edges_of graph.now }
-    requires users { users.old ≡ edges_of graph.now }
-    ensures found { OnOk result (AddsUnordered graph.entry.now edge.0 (map (λ file. file.0) files.now)
-        found.old found.new) }
-    ensures makers { OnOk result (makers.new ≡ edges_of graph.entry.now) }
-    ensures users { OnOk result (users.new ≡ edges_of graph.entry.now) }
+    requires files { AreIn (edge_of edge).graph (map file_of files.now) }
+    requires seen { seen.old.graph ≡ (edge_of edge).graph }
+    requires makers { makers.old ≡ edges_of (edge_of edge).graph }
+    requires users { users.old ≡ edges_of (edge_of edge).graph }
+    ensures found { OnOk result ((numbers : List ℕ)
+        → HaveNumbers (edge_of edge.entry).graph (map file_of files.now) numbers
+        → AddsUnordered (edge_of edge.entry) numbers found.old found.new) }
+    ensures seen { OnOk result (seen.new.graph ≡ seen.old.graph) }
+    ensures makers { OnOk result (makers.new ≡ makers.old) }
+    ensures users { OnOk result (users.new ≡ users.old) }
 {
-    let mut seen = Names::new(alloc);
+    seen.clear();
     'files: for file in files {
-        if is_unordered(graph, edge, *file, makers, users)? {
-            push_once(graph, edge, *file, &mut seen, found)?;
+        if is_unordered(edge, *file, makers, users)? {
+            push_once(edge, *file, seen, found)?;
         }
     }
     Ok(())
 }
 
-/// Appends a file of an edge, unless its path was seen.
+/// Appends a file of an edge, unless it was seen.
 fn push_once<'a>(
-    graph: &'a Graph,
-    edge: EdgeNo,
-    file: FileNo,
-    seen: &mut Names,
+    edge: Edge<'a>,
+    file: File<'a>,
+    seen: &mut FileSet<'_>,
     found: &mut Findings<'a>,
 ) -> Result<(), AllocError>
-    requires edge { edge.0 < length (edges_of graph.now) }
-    requires file { file.0 < length (files_of graph.now) }
-    ensures { OnOk result (AddsOnce graph.entry.now edge.0 (path_at (files_of graph.entry.now) file)
+    requires { seen.old.graph ≡ (file_of file).graph }
+    ensures { OnOk result (AddsOnce (edge_of edge.entry) (file_of file.entry).path
         seen.old seen.new found.old found.new) }
 {
-    let path = graph.path(file);
-    if seen.add(path)? {
-        found.push_at(graph, edge, Kind::UndeclaredInput, path)?;
+    if seen.add(file)? {
+        found.push_at(edge, Kind::UndeclaredInput, file.path())?;
     }
     Ok(())
 }
 
 /// Whether a file is unordered with an edge.
 pub fn is_unordered(
-    graph: &Graph,
-    edge: EdgeNo,
-    file: FileNo,
+    edge: Edge<'_>,
+    file: File<'_>,
     makers: &mut NeedsSearch<'_>,
     users: &mut NeedsSearch<'_>,
 ) -> Result<bool, AllocError>
-    requires edge { edge.0 < length (edges_of graph.now) }
-    requires file { file.0 < length (files_of graph.now) }
-    requires makers { makers.old ≡ edges_of graph.now }
-    requires users { users.old ≡ edges_of graph.now }
-    ensures unordered { IfOk result (λ is_unordered. IsTrue is_unordered
-        ↔ IsUnordered graph.now edge.0 (path_at (files_of graph.now) file)) }
-    ensures makers { OnOk result (makers.new ≡ edges_of graph.now) }
-    ensures users { OnOk result (users.new ≡ edges_of graph.now) }
+    requires graph { (file_of file).graph ≡ (edge_of edge).graph }
+    requires makers { makers.old ≡ edges_of (edge_of edge).graph }
+    requires users { users.old ≡ edges_of (edge_of edge).graph }
+    ensures unordered { IfOk result (λ is_unordered. IsTrue is_unordered ↔ IsUnordered
+        (edge_of edge.entry).graph (edge_of edge.entry).number (file_of file.entry).path) }
+    ensures makers { OnOk result (makers.new ≡ makers.old) }
+    ensures users { OnOk result (users.new ≡ users.old) }
 {
-    let Some(maker) = other_maker(graph, edge, file) else {
+    let Some(maker) = other_maker(edge, file) else {
         return Ok(false);
     };
-    if makers.is_or_needs(edge, maker)? {
+    if makers.is_or_needs(edge.number(), maker.number())? {
         return Ok(false);
     }
-    let is_user = users.is_or_needs(maker, edge)?;
+    let is_user = users.is_or_needs(maker.number(), edge.number())?;
     Ok(!is_user)
 }
 
 /// The edge that makes a file, if that has a command and is no twin.
-fn other_maker(graph: &Graph, edge: EdgeNo, file: FileNo) -> Option<EdgeNo>
-    requires edge { edge.0 < length (edges_of graph.now) }
-    requires file { file.0 < length (files_of graph.now) }
-    ensures known { IfSome result (λ maker. maker.0 < length (edges_of graph.now)) }
-    ensures maker { (maker : ℕ) → (option_map (λ maker. maker.0) result ≡ Some maker)
-        ↔ ((maker_of (edges_of graph.now) (path_at (files_of graph.now) file) ≡ Some maker)
-        × IsOther graph.now edge.0 maker) }
+fn other_maker<'g>(edge: Edge<'_>, file: File<'g>) -> Option<Edge<'g>>
+    requires { (file_of file).graph ≡ (edge_of edge).graph }
+    ensures graph { IfSome result (λ maker. (edge_of maker).graph ≡ (edge_of edge.entry).graph) }
+    ensures maker { (maker : ℕ) → (option_map (λ maker. (edge_of maker).number) result ≡ Some maker)
+        ↔ ((maker_of (edges_of (edge_of edge.entry).graph) (file_of file.entry).path ≡ Some maker)
+        × IsOther (edge_of edge.entry).graph (edge_of edge.entry).number maker) }
 {
-    let maker = graph.maker(file)?;
-    if is_other(graph, edge, maker) {
-        Some(maker)
-    } else {
+    let maker = file.maker()?;
+    if maker.is_phony() || is_twin(edge, maker) {
         None
+    } else {
+        Some(maker)
     }
-}
-
-/// Whether an edge has a command and is no twin.
-fn is_other(graph: &Graph, edge: EdgeNo, other: EdgeNo) -> bool
-    requires edge { edge.0 < length (edges_of graph.now) }
-    requires other { other.0 < length (edges_of graph.now) }
-    ensures { IsTrue result ↔ IsOther graph.now edge.0 other.0 }
-{
-    if graph.is_phony(other) {
-        return false;
-    }
-    !is_twin(graph, edge, other)
 }
 
 /// Whether an edge has the rule and the inputs of another one.
-fn is_twin(graph: &Graph, edge: EdgeNo, other: EdgeNo) -> bool
-    requires edge { edge.0 < length (edges_of graph.now) }
-    requires other { other.0 < length (edges_of graph.now) }
-    ensures { IsTrue result ↔ IsTwin graph.now edge.0 other.0 }
+fn is_twin(edge: Edge<'_>, other: Edge<'_>) -> bool
+    requires { (edge_of other).graph ≡ (edge_of edge).graph }
+    ensures { IsTrue result ↔ IsTwin
+        (edge_of edge.entry).graph (edge_of edge.entry).number (edge_of other.entry).number }
 {
-    if graph.edge_rule(edge).0 != graph.edge_rule(other).0 {
+    if edge.rule_number().0 != other.rule_number().0 {
         return false;
     }
-    have_same_paths(graph.edge_graph(), graph.inputs(edge), graph.inputs(other))
-}
-
-/// Whether files have the same paths, in the same order.
-fn have_same_paths(graph: &EdgeGraph, files: &[FileNo], others: &[FileNo]) -> bool
-    requires files { AreKnown graph.now.files files.now }
-    requires others { AreKnown graph.now.files others.now }
-    ensures { IsTrue result ↔ (map (path_at graph.now.files) files.now
-        ≡ map (path_at graph.now.files) others.now) }
-{
-    if files.len() != others.len() {
-        return false;
-    }
-    'files: for (index, file) in files.iter().enumerate() {
-        if !have_same_path(graph, *file, others[index]) {
-            return false;
-        }
-    }
-    true
-}
-
-/// Whether two files have the same path.
-pub fn have_same_path(graph: &EdgeGraph, file: FileNo, other: FileNo) -> bool
-    requires file { file.0 < length graph.now.files }
-    requires other { other.0 < length graph.now.files }
-    ensures { IsTrue result ↔ (path_at graph.now.files file ≡ path_at graph.now.files other) }
-{
-    graph.path(file) == graph.path(other)
+    // so that the paths of the graph are known to be distinct
+    let _count = edge.graph().file_count();
+    edge.inputs().numbers() == other.inputs().numbers()
 }

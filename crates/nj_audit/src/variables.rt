@@ -1,16 +1,17 @@
 //! Variables of edges to which no line of their rules refers.
 
-ghost use Rattle.std.specs.Prelude.{◌≡◌, ◌++◌, ◌<◌, ℕ, List, [], ◌∷◌, IfOk, OnOk, length};
-ghost use Rattle.nj_audit.specs.Cited.{OfStatements, AllZip, is_among, edges_of, is_known, names_in, rule_at, unused_names, unused_variables, unused_variables_at, HasReferences};
+ghost use Rattle.std.specs.Prelude.{◌≡◌, ◌++◌, ℕ, List, [], ◌∷◌, IfOk, OnOk};
+ghost use Rattle.nj_audit.specs.Cited.{OfEdge, OfStatements, AllZip, edge_of, is_among, is_known, names_in, rule_at, unused_names, unused_variables, unused_variables_at, HasReferences};
 
 use crate::findings::Findings;
 use crate::kinds::Kind;
 use crate::names::Names;
-use nj_graph::{EdgeNo, Graph, LateValue, Part, Rule};
+use nj_graph::{Edge, Graph, LateValue, Part, Rule};
 use std::alloc::{AllocError, Global};
 
 /// Appends the names that blocks of edges bind, that no line of the edge's rule refers to, and that
 /// mean nothing to Ninja itself.
+#[tactic(auto, using(crate::proofs::HandleLemmas::numbers_there))]
 pub fn find_unused_variables<'a>(
     alloc: Global,
     graph: &'a Graph,
@@ -20,28 +21,26 @@ pub fn find_unused_variables<'a>(
         OnOk result (found.new ≡ found.old ++ unused_variables graph.entry.now entries)) }
 {
     let references = references_of_rules(alloc, graph.rules())?;
-    'edges: for number in 0..graph.edge_count() {
-        let edge = EdgeNo(number);
-        push_unused_variables(graph, edge, &references[graph.edge_rule(edge).0], found)?;
+    'edges: for edge in graph.edges() {
+        push_unused_variables(edge, &references[edge.rule_number().0], found)?;
     }
     Ok(())
 }
 
 /// Appends those of an edge. The references are those of its rule.
 fn push_unused_variables<'a>(
-    graph: &'a Graph,
-    edge: EdgeNo,
+    edge: Edge<'a>,
     references: &Names,
     found: &mut Findings<'a>,
 ) -> Result<(), AllocError>
-    requires edge { edge.0 < length (edges_of graph.now) }
-    requires references { HasReferences references.now (rule_at graph.now edge.0) }
-    ensures { OfStatements graph.entry.now (λ entries.
-        OnOk result (found.new ≡ found.old ++ unused_variables_at graph.entry.now entries edge.0)) }
+    requires { HasReferences references.now
+        (rule_at (edge_of edge).graph (edge_of edge).number) }
+    ensures { OfEdge (edge_of edge.entry) (λ entries number. OnOk result (found.new
+        ≡ found.old ++ unused_variables_at (edge_of edge.entry).graph entries number)) }
 {
-    'names: for index in 0..graph.block_name_count(edge) {
-        if let Some(name) = graph.block_name(edge, index) {
-            push_if_unused(graph, edge, name, references, found)?;
+    'names: for index in 0..edge.block_name_count() {
+        if let Some(name) = edge.block_name(index) {
+            push_if_unused(edge, name, references, found)?;
         }
     }
     Ok(())
@@ -49,21 +48,20 @@ fn push_unused_variables<'a>(
 
 /// Appends a name that the block of an edge binds, unless it is used.
 fn push_if_unused<'a>(
-    graph: &'a Graph,
-    edge: EdgeNo,
+    edge: Edge<'a>,
     name: &'a [u8],
     references: &Names,
     found: &mut Findings<'a>,
 ) -> Result<(), AllocError>
-    requires edge { edge.0 < length (edges_of graph.now) }
-    requires references { HasReferences references.now (rule_at graph.now edge.0) }
-    ensures { OnOk result (found.new
-        ≡ found.old ++ unused_names graph.entry.now edge.0 (name.entry.now ∷ [])) }
+    requires { HasReferences references.now
+        (rule_at (edge_of edge).graph (edge_of edge).number) }
+    ensures { OnOk result (found.new ≡ found.old ++ unused_names
+        (edge_of edge.entry).graph (edge_of edge.entry).number (name.entry.now ∷ [])) }
 {
     if is_known(name) || references.has(name) {
         return Ok(());
     }
-    found.push_at(graph, edge, Kind::UnusedVariable, name)
+    found.push_at(edge, Kind::UnusedVariable, name)
 }
 
 /// The names to which the lines of each rule refer.

@@ -1,15 +1,16 @@
-use Rattle.std.proofs.Common.{map, subst, ◌∙◌}
+use Rattle.std.proofs.Common.{map, subst, sym, ◌∙◌}
 use Rattle.std.proofs.lemmas.Result.{IfOk-weaker}
 use Rattle.nj_edges.proofs.ChangeLemmas.{flags-are}
 use Rattle.nj_graph.specs.Graph.{edges_of, files_of}
 use Rattle.nj_graph.specs.Undeclared.{input_of_edge}
 use Rattle.nj_audit.specs.Serving.{ServesCommand}
 use Rattle.nj_audit.specs.Kinds.{contains}
-use Rattle.nj_audit.specs.LoggedInputs.{AreFoundIf}
+use Rattle.nj_audit.specs.LoggedInputs.{AreFoundIf, AreUndeclaredFindings}
 use Rattle.nj_audit.specs.declared.kinds.Kind.TheVariants.{UndeclaredInput}
 use Rattle.nj_audit.proofs.KindLemmas.{asked-law}
 use Rattle.nj_audit.proofs.LoggedLemmas.{of-undeclared-if}
 use Rattle.nj_audit.proofs.auditing.audit.Goals as goal
+use Rattle.nj_audit.proofs.auditing.audit.Goals.{then-contains+in_ok-undeclared, else-contains}
 
 pub returns : goal.returns
 returns c entries graph =
@@ -19,9 +20,19 @@ returns c entries graph =
     let logged = map (input_of_edge (files_of g)) c.args.logged.now in
     let kinds = c.args.kinds in
     let serving = c.flags.result.now in
-    let undeclared = c.in_ok-undeclared.undeclared in
-    let are = subst (λ b. AreFoundIf b g entries folder logged undeclared) c.contains-is_asked.ensures
-    (c.in_ok-undeclared.ensures entries graph) in
+    let undeclared = c.if-contains.undeclared in
+    let are : AreFoundIf (contains kinds UndeclaredInput) g entries folder logged undeclared =
+    elim c.if-contains.branch [
+      | then-contains+in_ok-undeclared w ↦
+          subst (λ b. AreFoundIf b g entries folder logged undeclared)
+          (sym w.if-contains.true ∙ c.contains.ensures)
+          (subst (AreUndeclaredFindings g entries folder logged) (sym w.undeclared-is)
+          (w.in_ok-undeclared.ensures entries graph))
+      | else-contains w ↦
+          subst (λ b. AreFoundIf b g entries folder logged undeclared)
+          (sym w.if-contains.false ∙ c.contains.ensures)
+          (w.undeclared-is ∙ w.new-undeclared.ensures)
+    ] in
     IfOk-weaker c.find_all.result _ _
     (λ found is. record {
       serving = serving;

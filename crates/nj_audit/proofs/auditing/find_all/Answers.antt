@@ -1,42 +1,21 @@
-use Rattle.std.proofs.Common.{[], get_or, sym, ap, ◌∙◌}
+use Rattle.std.proofs.Common.{◌≡◌, ◌+◌, ◌<◌, ◌∷◌, ◌++◌, add-one, append_assoc, drop, drop-cons, get_or}
+use Rattle.std.proofs.Common.{length, refl, sym, ap, ◌∙◌}
 use Rattle.std.specs.List.{flat_map}
-use Rattle.std.proofs.lemmas.Grind.{flat_map-append}
-use Rattle.std.proofs.lemmas.List.{take_all}
-use Rattle.nj_audit.specs.Kinds.{all_kinds, contains}
+use Rattle.nj_audit.specs.Kinds.{all_kinds}
 use Rattle.nj_audit.specs.declared.kinds.Kind.TheVariants.{UnusedOutput}
 use Rattle.nj_audit.specs.Inside.ByKind.{asked_of, findings_of}
-use Rattle.nj_audit.proofs.ListLemmas.{more-items}
-use Rattle.nj_audit.proofs.KindLemmas.{none-asked, one-asked}
 use Rattle.nj_audit.proofs.auditing.find_all.Goals as goal
-use Rattle.nj_audit.proofs.auditing.find_all.Goals.{then-contains+in_ok-find, else-contains}
 
 pub all-preserved : goal.all-preserved
 all-preserved c entries graph =
-    let of = findings_of c.args.graph.now entries c.args.missing.now c.args.serving.now c.args.undeclared.now
-    in
-    let each = asked_of c.args.kinds of in
+    let each = asked_of c.args.kinds (findings_of c.args.graph.now entries c.args.missing.now
+    c.args.serving.now
+    c.args.undeclared.now) in
     let i = c.all.kind-index in
-    let kind = get_or all_kinds i UnusedOutput in
-    let old = c.all.found in
-    elim c.if-contains.branch [
-      | then-contains+in_ok-find w ↦
-          w.found-is
-          ∙ more-items (flat_map each) (flat_map-append each) [] old w.find.new.found all_kinds i UnusedOutput
-          c.all-test.true (c.all.invariant entries graph)
-          (w.in_ok-find.ensures entries graph
-          ∙ one-asked (contains c.args.kinds kind) old (of kind)
-          (sym c.contains.ensures ∙ w.if-contains.true))
-      | else-contains w ↦
-          w.found-is
-          ∙ more-items (flat_map each) (flat_map-append each) [] old old all_kinds i UnusedOutput
-          c.all-test.true (c.all.invariant entries graph)
-          (none-asked (contains c.args.kinds kind) old (of kind)
-          (sym c.contains.ensures ∙ w.if-contains.false))
-    ]
-
-pub returns : goal.returns
-returns c entries graph =
-    let of = findings_of c.args.graph.now entries c.args.missing.now c.args.serving.now c.args.undeclared.now
-    in
-    c.all.invariant entries graph ∙ ap (flat_map (asked_of c.args.kinds of))
-    (take_all c.all.kind-index all_kinds c.all-test.false)
+    let below : i < length all_kinds = c.all-test.true in
+    let next : drop i all_kinds ≡ get_or all_kinds i UnusedOutput ∷ drop (i + 1) all_kinds =
+    rw (add-one, drop-cons all_kinds i UnusedOutput) refl in
+    ap (λ t. t ++ flat_map each (drop (i + 1) all_kinds)) (c.in_ok-find.ensures entries graph)
+    ∙ append_assoc c.all.found (each (get_or all_kinds i UnusedOutput))
+    (flat_map each (drop (i + 1) all_kinds))
+    ∙ ap (λ ks. c.all.found ++ flat_map each ks) (sym next) ∙ c.all.invariant entries graph

@@ -1,4 +1,4 @@
-use Rattle.std.proofs.Common.{◌≡◌, List, take}
+use Rattle.std.proofs.Common.{◌≡◌, ◌++◌, List, drop}
 use Rattle.std.specs.List.{flat_map}
 use Rattle.nj_scope.specs.ReadingList.{ReadStatement}
 use Rattle.nj_graph.specs.Graph.{IsGraphOf}
@@ -9,5 +9,6 @@ use Rattle.nj_audit.proofs.auditing.find_all.Given as goal
 abbrev pub invariant-all : goal.invariant-all
 invariant-all l =
     (entries : List ReadStatement) → IsGraphOf l.graph entries
-    → l.found ≡ flat_map (asked_of l.kinds (findings_of l.graph entries l.missing l.serving l.undeclared))
-    (take l.kind-index all_kinds)
+    → l.found ++ flat_map (asked_of l.kinds (findings_of l.graph entries l.missing l.serving l.undeclared))
+    (drop l.kind-index all_kinds)
+    ≡ flat_map (asked_of l.kinds (findings_of l.graph entries l.missing l.serving l.undeclared)) all_kinds

@@ -1,26 +1,23 @@
-use Rattle.std.proofs.Common.{◌≡◌, ◌∷◌, ◌++◌, sym, ap, subst, ◌∙◌, append_assoc}
+use Rattle.std.proofs.Common.{◌≡◌, ◌∷◌, ◌++◌, map, sym, ap, ◌∙◌, append_assoc}
 use Rattle.std.specs.List.{flat_map}
+use Rattle.nj_graph.specs.Handles.{file_of}
 use Rattle.nj_audit.specs.NamedPaths.{paths_in, paths_named}
 use Rattle.nj_audit.specs.ShellWords.{words_of}
-use Rattle.nj_audit.specs.Inside.FilesNamed.{AddsFiles}
-use Rattle.nj_audit.proofs.FileLemmas.{adds-then}
+use Rattle.nj_audit.proofs.FileLemmas.{files_at, files-append}
 use Rattle.nj_audit.proofs.named_files.add_named_files.Goals as goal
 
 pub words-preserved : goal.words-preserved
 words-preserved c =
-    let i = c.words.invariant in
-    let files = c.args.graph.now.files in
+    let g = c.args.graph.now in
     let folder = c.args.folder.now in
     let word = c.take_word.new.word.items in
     let after = c.in-Some.after.now in
+    let old = map file_of c.words.files.items in
     let first : words_of c.words.rest.now ≡ word ∷ words_of after = rw c.in-Some.is at c.in_ok-after.ensures
     in
-    record {
-      done = i.done ++ paths_in folder word;
-      added = adds-then files i.done (paths_in folder word) c.args.files.now.items c.words.files.items
-          c.add_files_in_word.new.files.items i.added
-          (subst (λ w. AddsFiles files (paths_in folder w) c.words.files.items
-          c.add_files_in_word.new.files.items) c.deref.ensures.value c.in_ok-add_files_in_word.ensures);
-      rest = append_assoc i.done (paths_in folder word) (paths_named folder after)
-          ∙ ap (λ ps. i.done ++ ps) (sym (ap (flat_map (paths_in folder)) first)) ∙ i.rest;
-    }
+    ap (λ fs. fs ++ files_at g (paths_named folder after)) c.in_ok-add_files_in_word.ensures
+    ∙ ap (λ w. (old ++ files_at g (paths_in folder w)) ++ files_at g (paths_named folder after))
+    c.deref.ensures.value
+    ∙ append_assoc old (files_at g (paths_in folder word)) (files_at g (paths_named folder after))
+    ∙ ap (λ fs. old ++ fs) (sym (files-append g (paths_in folder word) (paths_named folder after)))
+    ∙ ap (λ ws. old ++ files_at g (flat_map (paths_in folder) ws)) (sym first) ∙ c.words.invariant

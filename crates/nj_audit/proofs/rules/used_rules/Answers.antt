@@ -1,34 +1,27 @@
-use Rattle.std.proofs.Common.{◌≡◌, ◌==◌, true, false, length, get_or, set, ap, ◌∙◌, arith}
+use Rattle.std.proofs.Common.{◌<◌, ◌||◌, ◌==◌, false, get_or, length, ap, rules, sym, ◌∙◌, arith}
 use Rattle.std.specs.List.{list_any}
-use Rattle.std.proofs.lemmas.List.{length-set}
-use Rattle.nj_graph.specs.Graph.{edges_of}
-use Rattle.nj_audit.specs.Audit.{numbers, rule_number}
-use Rattle.nj_audit.proofs.MarkLemmas.{mark-more}
+use Rattle.std.proofs.lemmas.List.{get_or-replicate}
+use Rattle.nj_graph.specs.Handles.{edges_in}
+use Rattle.nj_audit.specs.Audit.{edge_numbers, rule_number}
+use Rattle.nj_audit.proofs.HandleLemmas.{numbers_of, numbers_there}
 use Rattle.nj_audit.proofs.rules.used_rules.Goals as goal
 
-pub edges-preserved : goal.edges-preserved
-edges-preserved c =
+pub edges-init : goal.edges-init
+edges-init c =
     let g = c.args.graph.now in
-    let n = c.edges.number in
-    let used = c.edges.used.items in
-    let held = c.edge_rule.ensures.held in
-    let len = c.edges.invariant.len in
-    let there = c.edge_rule.ensures.there in
+    let are = c.into_iter-edge-iterator.ensures.into_iter_gives ∙ c.edges-edge-items.ensures in
+    let numbers = ap numbers_of are ∙ numbers_there g (edge_numbers g) in
+    let count = ap length c.rules.ensures.held in
     record {
-      len = length-set used c.edge_rule.result.0 true ∙ len;
+      of = are ∙ ap (edges_in g) (sym numbers);
+      len = search rules;
       used = λ rule below.
-          ap (λ r. get_or (set used r true) rule false) held
-          ∙ mark-more used (rule_number g) n rule (omega (arith, held, len, there))
-          (c.edges.invariant.used rule below);
-    }
-
-pub returns : goal.returns
-returns c =
-    let g = c.args.graph.now in
-    let counted = rw c.deref.ensures at c.edge_count-number-end.ensures.count in
-    let all : c.edges.number ≡ length (edges_of g) = omega (arith, counted) in
-    record {
-      len = c.edges.invariant.len;
-      used = λ rule below. c.edges.invariant.used rule below
-          ∙ ap (λ n. list_any (λ edge. rule_number g edge == rule) (numbers n)) all;
+          let within : rule < length c.rules.result.now = omega (arith, below, count) in
+          ap (λ flags. get_or flags rule false
+          || list_any (λ edge. rule_number g edge == rule) (numbers_of c.into_iter-edge-iterator.result))
+          (c.in_ok-used.ensures.items_if_clones_equal (λ y is. is))
+          ∙ ap (λ b. b
+          || list_any (λ edge. rule_number g edge == rule) (numbers_of c.into_iter-edge-iterator.result))
+          (get_or-replicate (length c.rules.result.now) rule false false within)
+          ∙ ap (list_any (λ edge. rule_number g edge == rule)) numbers;
     }

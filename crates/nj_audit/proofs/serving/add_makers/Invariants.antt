@@ -1,10 +1,19 @@
-use Rattle.std.proofs.Common.{map, take}
+use Rattle.std.proofs.Common.{◌≡◌, ◌++◌, ℕ, List}
 use Rattle.nj_edges.specs.Inside.ChangesHeld.{FindsMore}
-use Rattle.nj_graph.specs.Files.{path_at}
-use Rattle.nj_graph.specs.Graph.{edges_of, files_of}
+use Rattle.nj_graph.specs.Edges.{inputs_of}
+use Rattle.nj_graph.specs.Graph.{edges_of}
+use Rattle.nj_graph.specs.Handles.{edge_of, paths_of}
+use Rattle.nj_audit.specs.Inside.Handles.{AreIn}
 use Rattle.nj_audit.specs.Inside.Served.{MakesOneOf}
+use Rattle.nj_audit.proofs.HandleLemmas.{paths_in}
 use Rattle.nj_audit.proofs.serving.add_makers.Given as goal
 
-abbrev pub invariant-files : goal.invariant-files
-invariant-files l = FindsMore (MakesOneOf (edges_of l.graph)
-    (map (path_at (files_of l.graph)) (take l.file-index l.files))) l.fn.found l.found
+abbrev pub invariant-inputs : goal.invariant-inputs
+invariant-inputs l =
+    let edge = edge_of l.edge in
+    record {
+      of : AreIn edge.graph l.input-iterator;
+      done : List (List ℕ);
+      whole : done ++ paths_in l.input-iterator ≡ inputs_of (paths_of edge);
+      finds : FindsMore (MakesOneOf (edges_of edge.graph) done) l.fn.found l.found;
+    }

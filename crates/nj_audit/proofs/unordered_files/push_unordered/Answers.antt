@@ -1,53 +1,66 @@
-use Rattle.std.proofs.Common.{[], ◌∷◌, ◌++◌, get_or, map, take, true≢false, refl, sym, subst, ◌∙◌}
-use Rattle.nj_graph.specs.Edges.{is_among}
-use Rattle.nj_audit.specs.Audit.{path_of}
-use Rattle.nj_audit.specs.Inside.UnorderedFound.{KnowsUnordered}
+use Rattle.std.proofs.Common.{[], get_or, rules, take, true≢false, sym, ap, subst, ◌∙◌}
+use Rattle.std.proofs.lemmas.List.{take_more}
+use Rattle.nj_graph.specs.Handles.{edge_of}
+use Rattle.nj_audit.specs.UnorderedFiles.{IsUnordered}
+use Rattle.nj_audit.specs.Inside.FileSets.{FileSetModel}
+use Rattle.nj_audit.specs.Inside.UnorderedFound.{AddsOnce, KnowsUnordered}
+use Rattle.nj_audit.proofs.HandleLemmas.{graph-at, path-at}
 use Rattle.nj_audit.proofs.UnorderedLemmas.{unordered-begins, unordered-more, unordered-none}
-use Rattle.nj_audit.proofs.ListLemmas.{mapped-more}
 use Rattle.nj_audit.proofs.unordered_files.push_unordered.Goals as goal
 use Rattle.nj_audit.proofs.unordered_files.push_unordered.Goals.{then-branch+in_ok-push_once, else-branch}
 
 pub files-init : goal.files-init
 files-init c = record {
-  knows = subst (λ seen. KnowsUnordered c.args.graph.now c.args.edge.0 [] seen c.args.found.now
-      c.args.found.now) (sym c.new-seen.ensures)
-      (unordered-begins c.args.graph.now c.args.edge.0 c.args.found.now);
-  makers = c.requires.makers;
-  users = c.requires.users;
+  graph = ap (λ (s : FileSetModel). s.graph) c.clear.ensures ∙ c.requires.seen;
+  makers = search rules;
+  users = search rules;
+  knows = λ numbers are. subst (λ (s : FileSetModel). KnowsUnordered (edge_of c.args.edge) [] s.paths
+      c.args.found.now c.args.found.now) (sym c.clear.ensures)
+      (unordered-begins (edge_of c.args.edge) c.args.found.now);
 }
+
+pub is_unordered-requires-clause-graph : goal.is_unordered-requires-clause-graph
+is_unordered-requires-clause-graph c = graph-at c.args.edge.graph.now c.args.files.now c.files.file-index
+    c.file-item.result c.file-item.is c.files-test.true c.requires.files
+
+pub push_once-requires : goal.push_once-requires
+push_once-requires c = c.files.invariant.graph
+    ∙ sym (graph-at c.args.edge.graph.now c.args.files.now c.files.file-index c.file-item.result
+    c.file-item.is
+    c.files-test.true c.requires.files)
 
 pub files-preserved : goal.files-preserved
 files-preserved c =
-    let g = c.args.graph.now in
-    let edge = c.args.edge.0 in
+    let edge = edge_of c.args.edge in
     let i = c.files.file-index in
-    let file = get_or c.args.files.now i (record { 0 = 0 }) in
-    let before = map (λ file. file.0) (take i c.args.files.now) in
+    let file = c.file-item.result in
     let base = c.args.found.now in
     record {
-      makers = c.in_ok-is_unordered.ensures.makers;
-      users = c.in_ok-is_unordered.ensures.users;
-      knows =
-          subst (λ ns. KnowsUnordered g edge ns c.if-branch.seen base c.if-branch.found)
-          (mapped-more (λ file. file.0) c.args.files.now i (record { 0 = 0 }) c.files-test.true)
-          (elim c.if-branch.branch [
+      graph = elim c.if-branch.branch [
+        | then-branch+in_ok-push_once w ↦
+            ap (λ (s : FileSetModel). s.graph) (w.seen-is ∙ w.in_ok-push_once.ensures.seen_now)
+            ∙ c.files.invariant.graph
+        | else-branch w ↦ ap (λ (s : FileSetModel). s.graph) w.seen-is ∙ c.files.invariant.graph
+      ];
+      makers = c.in_ok-is_unordered.ensures.makers ∙ c.files.invariant.makers;
+      users = c.in_ok-is_unordered.ensures.users ∙ c.files.invariant.users;
+      knows = λ numbers are.
+          let at = path-at edge.graph c.args.files.now i file c.file-item.is c.files-test.true numbers are in
+          let number = get_or numbers i 0 in
+          let knows = c.files.invariant.knows numbers are in
+          elim c.if-branch.branch [
             | then-branch+in_ok-push_once w ↦
-                subst (λ seen. KnowsUnordered g edge (before ++ file.0 ∷ []) seen base c.if-branch.found)
-                (sym w.seen-is)
-                (subst (λ found. KnowsUnordered g edge (before ++ file.0 ∷ []) w.push_once.new.seen base
-                found) (sym w.found-is)
-                (unordered-more g edge before file.0 c.files.seen w.push_once.new.seen base c.files.found
-                w.push_once.new.found c.files.invariant.knows
-                (c.in_ok-is_unordered.ensures.unordered.0 w.if-branch.true) w.in_ok-push_once.ensures
-                (is_among c.files.seen (path_of g file.0)) refl))
+                rw (take_more numbers i 0 at.0, w.seen-is, w.found-is)
+                (unordered-more edge (take i numbers) number c.files.seen base c.files.found knows
+                w.push_once.new.seen w.push_once.new.found
+                (subst (IsUnordered edge.graph edge.number) at.1
+                (c.in_ok-is_unordered.ensures.unordered.0 w.if-branch.true))
+                (subst (λ p. AddsOnce edge p c.files.seen w.push_once.new.seen c.files.found
+                w.push_once.new.found) at.1 w.in_ok-push_once.ensures))
             | else-branch w ↦
-                subst (λ seen. KnowsUnordered g edge (before ++ file.0 ∷ []) seen base c.if-branch.found)
-                (sym w.seen-is)
-                (subst (λ found. KnowsUnordered g edge (before ++ file.0 ∷ []) c.files.seen base found)
-                (sym w.found-is)
-                (unordered-none g edge before file.0 c.files.seen c.files.seen base c.files.found
-                c.files.found c.files.invariant.knows
-                (λ unordered. true≢false (sym (c.in_ok-is_unordered.ensures.unordered.1 unordered)
-                ∙ w.if-branch.false))))
-          ]);
+                rw (take_more numbers i 0 at.0, w.seen-is, w.found-is)
+                (unordered-none edge (take i numbers) number c.files.seen base c.files.found knows
+                (λ unordered. true≢false (sym (c.in_ok-is_unordered.ensures.unordered.1
+                (subst (IsUnordered edge.graph edge.number) (sym at.1) unordered)) ∙ w.if-branch.false)))
+          ];
     }
