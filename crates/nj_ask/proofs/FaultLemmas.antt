@@ -1,36 +1,54 @@
--- The edges whose depfiles have a fault, and the first one that a question needs.
+-- The edges that discoveries are doubtful or faulty for, and the first fault that a question needs.
 use Rattle.std.proofs.Common.{◌≡◌, ◌<◌, ◌≤◌, ◌+◌, ℕ, Bool, true, false, cond, Some, List, [], ◌∷◌}
 use Rattle.std.proofs.Common.{◌++◌}
-use Rattle.std.proofs.Common.{inl, inr, length, map, take, refl, sym, ap, ◌∙◌, arith}
-use Rattle.std.specs.Prelude.{All, find, slice_index_or}
-use Rattle.std.proofs.lemmas.Bool.{cases_lt}
-use Rattle.std.proofs.lemmas.List.{get_or_past}
+use Rattle.std.proofs.Common.{inl, inr, length, map, take, get_or, refl, sym, ap, subst, ◌∙◌, arith}
+use Rattle.std.specs.Prelude.{All, Contains, find, slice_index_or}
+use Rattle.std.proofs.lemmas.Bool.{both_ways, cases_lt}
+use Rattle.std.proofs.lemmas.List.{get_or-map, get_or_past, length-map}
 use Rattle.std.proofs.lemmas.List.Elements.{All-contains, All-map}
 use Rattle.nj_graph.specs.declared.EdgeNo.{EdgeNo}
 use Rattle.nj_graph.specs.declared.Verdict.{Verdict}
 use Rattle.nj_graph.specs.declared.Verdict.TheVariants.{Known}
 use Rattle.nj_graph.specs.Edges.{edges_from}
 use Rattle.nj_discovered.specs.Discoveries.{DiscoveriesModel, FoundModel, found_at}
-use Rattle.nj_edges.proofs.Passing.{from-more}
-use Rattle.nj_ask.specs.DiscoveredGraphs.{is_faulty}
+use Rattle.nj_edges.proofs.Passing.{from-more, from-passes}
 use Rattle.nj_ask.specs.Manifest.{is_one_of}
-use Rattle.nj_ask.specs.Inside.Findings.{if_faulty}
 use Rattle.nj_ask.specs.Inside.Flags.{AreFlags}
 use Rattle.nj_ask.proofs.FlagLemmas.{one-there}
 
-module _ (found : DiscoveriesModel) (n : ℕ) (old new : List ℕ) (verdict : Verdict)
-    (is : verdict ≡ (found_at found n).verdict) (more : new ≡ old ++ if_faulty verdict n) where
-  abbrev test : FoundModel → Bool
-  test edge = is_faulty edge.verdict
+module _ (test : Verdict → Bool) (found : DiscoveriesModel) where
+  abbrev passes : FoundModel → Bool
+  passes edge = test edge.verdict
 
   abbrev none-found : FoundModel
   none-found = record { verdict = Known; inputs = [] }
 
-  pub faults-more : n < length found.edges → old ≡ edges_from 0 test (take n found.edges)
-      → new ≡ edges_from 0 test (take (n + 1) found.edges)
-  faults-more below held =
-      more ∙ ap (λ ns. ns ++ if_faulty verdict n) held
-      ∙ sym (from-more test found.edges n none-found (is_faulty verdict) below (ap is_faulty (sym is)))
+  -- the numbers of the edges whose verdicts pass a test, with one more edge
+  pub verdicts-more : (n : ℕ) (old new : List ℕ) (verdict : Verdict) → verdict ≡ (found_at found n).verdict
+      → new ≡ old ++ cond (test verdict) (n ∷ []) [] → n < length found.edges
+      → old ≡ edges_from 0 passes (take n found.edges) → new ≡ edges_from 0 passes (take (n + 1) found.edges)
+  verdicts-more n old new verdict is more below held =
+      more ∙ ap (λ ns. ns ++ cond (test verdict) (n ∷ []) []) held
+      ∙ sym (from-more passes found.edges n none-found (test verdict) below (ap test (sym is)))
+
+  -- they are numbers of edges
+  pub verdicts-below : test Known ≡ false → (edges : List EdgeNo)
+      → map (λ (edge : EdgeNo). edge.0) edges ≡ edges_from 0 passes found.edges
+      → All (λ (edge : EdgeNo). edge.0 < length found.edges) edges
+  verdicts-below none edges are i d below =
+      let number = (get_or edges i d).0 in
+      let has : Contains (map (λ (edge : EdgeNo). edge.0) edges) number = (
+        i,
+        omega (arith, below, length-map edges (λ (edge : EdgeNo). edge.0)),
+        get_or-map (λ (edge : EdgeNo). edge.0) edges i d number below,
+      ) in
+      let found-there = from-passes passes none-found none found.edges 0 number
+      (subst (λ ns. Contains ns number) are has) in
+      elim (cases_lt found-there.0 (length found.edges)) [
+        | inl within ↦ omega (arith, within, found-there.1)
+        | inr past ↦ absurd (both_ways (passes (get_or found.edges found-there.0 none-found))
+            (ap passes (get_or_past found.edges found-there.0 none-found past) ∙ none) found-there.2)
+      ]
 
 -- a test in place of another that says the same
 pub find-same : {X : Type 0} (p q : X → Bool) (xs : List X) → ((x : X) → p x ≡ q x) → find p xs ≡ find q xs

@@ -1,8 +1,8 @@
 -- Flags of numbers.
 use Rattle.std.proofs.Common.{◌≡◌, ◌≢◌, ◌<◌, ℕ, ◌==◌, ◌||◌, ◌&&◌, ◌⊎◌, inl, inr, Bool, true, false, cond}
-use Rattle.std.proofs.Common.{Option, Some, None, option_map, List, [], ◌∷◌, ◌++◌, map, length, get_or, set}
+use Rattle.std.proofs.Common.{List, [], ◌∷◌, ◌++◌, map, length, get_or, set}
 use Rattle.std.proofs.Common.{refl, sym, ap, ◌∙◌, arith, eq-eqb}
-use Rattle.std.specs.Prelude.{Contains, find}
+use Rattle.std.specs.Prelude.{Contains}
 use Rattle.std.specs.List.{filter, list_any}
 use Rattle.std.proofs.lemmas.Bool.{eqb-true}
 use Rattle.std.proofs.lemmas.Bool.Decides.{eqb_tells}
@@ -34,28 +34,6 @@ pub any-map : {X Y : Type 0} (p : Y → Bool) (f : X → Y) (xs : List X)
     → list_any (λ x. p (f x)) xs ≡ list_any p (map f xs)
 any-map p f [] = refl
 any-map p f (x ∷ xs) = ap (λ b. p (f x) || b) (any-map p f xs)
-
-found-here : {X Y : Type 0} (f : X → Y) (b : Bool) (x : X) (o : Option X) (rest : Option Y)
-    → option_map f o ≡ rest
-    → option_map f (cond b (Some x) o) ≡ cond b (Some (f x)) rest
-found-here f true x o rest is = refl
-found-here f false x o rest is = is
-
-find-map : {X Y : Type 0} (f : X → Y) (p : Y → Bool) (xs : List X)
-    → option_map f (find (λ x. p (f x)) xs) ≡ find p (map f xs)
-find-map f p [] = refl
-find-map f p (x ∷ xs) = found-here f (p (f x)) x (find (λ x. p (f x)) xs) (find p (map f xs))
-    (find-map f p xs)
-
-plain-option : {X : Type 0} (o : Option X) → option_map (λ x. x) o ≡ o
-plain-option None = refl
-plain-option (Some x) = refl
-
--- the first item whose value passes a test
-pub found-map : {X Y : Type 0} (f : X → Y) (p : Y → Bool) (o : Option X) (xs : List X)
-    → option_map (λ x. x) o ≡ find (λ x. p (f x)) xs
-    → option_map f o ≡ find p (map f xs)
-found-map f p o xs is = ap (option_map f) (sym (plain-option o) ∙ is) ∙ find-map f p xs
 
 -- a number that is there is one of them
 pub is-there : (numbers : List ℕ) (n : ℕ) → Contains numbers n → is_one_of numbers n ≡ true

@@ -1,5 +1,5 @@
 mod LineLemmas
-mod DoubtLemmas
+mod ChainLemmas
 mod FaultLemmas
 mod OpenedLemmas
 mod FlagLemmas

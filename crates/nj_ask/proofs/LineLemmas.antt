@@ -1,29 +1,14 @@
 -- Lists that a loop makes longer, item by item.
-use Rattle.std.proofs.Common.{◌≡◌, ◌<◌, ◌≤◌, ◌+◌, ℕ, zero, suc, Option, Some, None, List, [], ◌∷◌, ◌++◌, map}
+use Rattle.std.proofs.Common.{◌≡◌, ◌<◌, ◌+◌, ℕ, zero, suc, Option, Some, None, List, [], ◌∷◌, ◌++◌, map}
 use Rattle.std.proofs.Common.{length, take, slice_get, option_map, get_or, unwrap_or, refl, sym, ap, ◌∙◌}
 use Rattle.std.proofs.Common.{append-nil, arith}
 use Rattle.std.specs.List.{cons_option, filter_map, flat_map, range_with_len}
-use Rattle.std.proofs.lemmas.List.{flat_map_more, map_push, take_all, take_more}
+use Rattle.std.proofs.lemmas.List.{flat_map_more, map_push, take_more}
 use Rattle.std.proofs.lemmas.List.Elements.{filter_map-append}
 use Rattle.std.proofs.lemmas.List.FromFn.{map-range_with_len_more}
 use Rattle.nj_graph.specs.declared.FileNo.{FileNo}
 use Rattle.nj_graph.specs.EdgeList.{Pending}
 use Rattle.nj_ask.specs.Affected.{changed_file}
-
--- the text of one more item
-pub flat-more : {X : Type 0} (f : X → List ℕ) (before text after : List ℕ) (items : List X) (i : ℕ) (d : X)
-    → i < length items
-    → text ≡ before ++ flat_map f (take i items) → after ≡ text ++ f (get_or items i d)
-    → after ≡ before ++ flat_map f (take (i + 1) items)
-flat-more f before text after items i d below is more =
-    more ∙ ap (λ t. t ++ f (get_or items i d)) is ∙ flat_map_more f before (take i items) (get_or items i d)
-    ∙ ap (λ xs. before ++ flat_map f xs) (sym (take_more items i d below))
-
--- the byte strings of all items
-pub flat-all : {X : Type 0} (f : X → List ℕ) (before text : List ℕ) (items : List X) (i : ℕ)
-    → length items ≤ i
-    → text ≡ before ++ flat_map f (take i items) → text ≡ before ++ flat_map f items
-flat-all f before text items i past is = is ∙ ap (λ xs. before ++ flat_map f xs) (take_all i items past)
 
 -- the values found of one more item
 pub filter-more : {X Y : Type 0} (h : X → Option Y) (items : List X) (i : ℕ) (d : X) → i < length items

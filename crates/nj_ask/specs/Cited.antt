@@ -1,7 +1,10 @@
 -- What the contracts of this crate cite: each name comes from the module in its line.
+pub use Rattle.nj_graph.specs.declared.FileNo.{FileNo}
+pub use Rattle.nj_graph.specs.Handles.{edge_of, file_of, detail_of_edge, OfEdge}
 pub use Rattle.nj_graph.specs.Chains.{PathIs}
-pub use Rattle.nj_graph.specs.Graph.{edges_of, files_of, IsGraphOf, OfStatements}
-pub use Rattle.nj_ask.specs.Chains.{chain_line, chain_lines, kind_end, kind_word, place_text, WritesChain}
+pub use Rattle.nj_graph.specs.Graph.{files_of, IsGraphOf, edges_of, rule_name, OfStatements}
+pub use Rattle.nj_ask.specs.Chains.{chain_lines, kind_end, kind_word, place_text, WritesChain}
+pub use Rattle.nj_ask.specs.Inside.ChainTexts.{step_line, IsChainText}
 pub use Rattle.std.specs.List.{filter_map, flat_map, filter, list_any, range_with_len}
 pub use Rattle.nj_ask.specs.Affected.{changed_file, clean_name, path_in, asked_of, is_asked_for, is_of_rules, line, line_of_output}
 pub use Rattle.nj_ask.specs.Affected.{lines_of_outputs, rule_names, texts, unknown_rule, number_at}
@@ -14,6 +17,7 @@ pub use Rattle.nj_ask.specs.DiscoveredGraphs.{JoinsDiscovered, doubtful_edges, f
 pub use Rattle.nj_ask.specs.Joined.{Follows, HasDoubtfulEdges, HasEdges}
 pub use Rattle.nj_ask.specs.Inside.Findings.{AreFindingsOf, if_doubtful, if_faulty}
 pub use Rattle.nj_ask.specs.Inside.Quotes.{escaped, escapes, quoted}
+pub use Rattle.nj_ask.specs.Inside.FileLines.{output_lines, path_lines}
 pub use Rattle.nj_graph.specs.Edges.{edge_at, is_among, outputs_of, inputs_of, maker_of}
 pub use Rattle.nj_ask.specs.MadeFrom.{TellMadeFrom}
 pub use Rattle.nj_graph.specs.Files.{path_at}

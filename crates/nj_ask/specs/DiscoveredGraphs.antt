@@ -1,6 +1,5 @@
 -- A graph with the inputs that builds discovered, and the edges that a change of files touches.
 use Rattle.std.specs.Prelude.{◌≡◌, ℕ, Bool, true, false, Result, Ok, Err, List, map}
-use Rattle.nj_graph.specs.declared.EdgeNo.{EdgeNo}
 use Rattle.nj_graph.specs.declared.GraphFault.{GraphFault}
 use Rattle.nj_graph.specs.declared.Verdict.{Verdict}
 use Rattle.nj_graph.specs.declared.Verdict.TheVariants.{Known, Unknown, Faulty}
@@ -10,7 +9,7 @@ use Rattle.nj_graph.specs.Dirty.{IsDirty}
 use Rattle.nj_graph.specs.Discovering.{AreDiscovered}
 use Rattle.nj_graph.specs.Edges.{EdgePaths, edges_from}
 use Rattle.nj_faults.specs.Faults.{no_memory}
-use Rattle.nj_graph.specs.Graph.{GraphModel, edges_of, files_of}
+use Rattle.nj_graph.specs.Graph.{edges_of}
 use Rattle.nj_graph.specs.ReadingList.{ReadStatement}
 use Rattle.nj_deps.specs.Logs.{LogModel}
 use Rattle.nj_discovered.specs.Discoveries.{DiscoveriesModel, discovery_at}

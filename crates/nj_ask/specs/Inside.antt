@@ -1,4 +1,6 @@
 -- How the code meets the definitions beside this directory.
+pub mod ChainTexts
+pub mod FileLines
 pub mod Findings
 pub mod Flags
 pub mod Quotes

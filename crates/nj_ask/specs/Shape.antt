@@ -1,5 +1,5 @@
 -- The files that shape the graph, where they may change: dyndep files ("Dynamic Dependencies" in the manual) and manifests.
-use Rattle.std.specs.Prelude.{ℕ, Bool, true, false, ◌&&◌, ◌||◌, if◌then◌else◌, Option, Some, None, option_and_then, List, [], ◌++◌, codes, bytes_eq, length, position}
+use Rattle.std.specs.Prelude.{ℕ, Bool, false, ◌&&◌, ◌||◌, if◌then◌else◌, Option, Some, None, option_and_then, List, [], ◌++◌, codes, bytes_eq, length, position}
 use Rattle.std.specs.List.{filter_map, flat_map, range_with_len}
 use Rattle.nj_graph.specs.EdgeList.{assigned_at, assigned_read, pending_read}
 use Rattle.nj_graph.specs.Edges.{maker_of}

@@ -1,10 +1,11 @@
 //! The lines of chains of inputs.
 
-ghost use Rattle.std.specs.Prelude.{◌≡◌, ◌++◌, ◌<◌, All, IfOk, OnOk, length};
-ghost use Rattle.nj_ask.specs.Cited.{PathIs, edges_of, files_of, chain_line, chain_lines, kind_end, kind_word, place_text, WritesChain};
+ghost use Rattle.std.specs.Prelude.{◌≡◌, ◌++◌, Some, IfOk, OnOk, slice_get};
+ghost use Rattle.nj_ask.specs.Cited.{FileNo, edge_of, file_of, PathIs, files_of, chain_lines, kind_end, kind_word, place_text, WritesChain, step_line, IsChainText};
 
+use crate::listing::rule_of;
 use crate::status::Status;
-use nj_graph::{FileNo, Graph, Kind, PlaceRef, Step};
+use nj_graph::{Edge, File, Kind, PlaceRef};
 use nj_tools::{Error, Sink, write_whole};
 use std::alloc::{AllocError, Global};
 
@@ -17,67 +18,78 @@ use std::alloc::{AllocError, Global};
 /// `Write` if the sink failed, and `OutOfMemory` if an allocation failed; then nothing was written.
 pub fn write_chain<O: Sink>(
     alloc: Global,
-    graph: &Graph,
-    from: FileNo,
-    to: FileNo,
+    from: File<'_>,
+    to: File<'_>,
     with_validations: bool,
     out: &mut O,
 ) -> Result<Status, Error>
-    requires from { from.0 < length (files_of graph.now) }
-    requires to { to.0 < length (files_of graph.now) }
-    ensures { WritesChain (PathIs graph.now.built.graph with_validations from to)
-        (chain_lines graph.now from) (O.state out.old) (O.state out.new) result }
+    requires { (file_of to).graph ≡ (file_of from).graph }
+    ensures { (one : FileNo) × (other : FileNo)
+        × (slice_get (files_of (file_of from.entry).graph) one.0
+        ≡ Some (file_of from.entry).path)
+        × (slice_get (files_of (file_of to.entry).graph) other.0
+        ≡ Some (file_of to.entry).path)
+        × WritesChain (PathIs (file_of from.entry).graph.built.graph with_validations one other)
+        (chain_lines (file_of from.entry).graph one) (O.state out.old) (O.state out.new) result }
 {
-    let Some(steps) = graph.path_between(alloc, from, to, with_validations)? else {
+    let Some(lines) = chain_of(alloc, from, to, with_validations)? else {
         return Ok(Status::Look);
     };
-    let lines = lines_of(alloc, graph, from, &steps)?;
     write_whole(out, &lines)?;
     Ok(Status::Done)
 }
 
-/// The lines of steps from a file on.
-fn lines_of(
+/// The lines of a shortest chain from a file to another, if there is one.
+fn chain_of(
     alloc: Global,
-    graph: &Graph,
-    from: FileNo,
-    steps: &[Step],
-) -> Result<Vec<u8>, AllocError>
-    requires from { from.0 < length (files_of graph.now) }
-    requires edges { All (λ step. step.edge.0 < length (edges_of graph.now)) steps.now }
-    requires files { All (λ step. step.file.0 < length (files_of graph.now)) steps.now }
-    ensures { IfOk result (λ lines. lines.items ≡ chain_lines graph.now from steps.now) }
+    from: File<'_>,
+    to: File<'_>,
+    with_validations: bool,
+) -> Result<Option<Vec<u8>>, AllocError>
+    requires { (file_of to).graph ≡ (file_of from).graph }
+    ensures { IfOk result (IsChainText (file_of from.entry) (file_of to.entry) with_validations) }
 {
+    let graph = from.graph();
+    let Some(steps) = graph.path_between(alloc, from.number(), to.number(), with_validations)?
+    else {
+        return Ok(None);
+    };
     let mut lines = Vec::new(alloc);
     let mut user = from;
-    'steps: for step in steps {
-        push_step(alloc, &mut lines, graph, user, *step)?;
-        user = step.file;
+    'steps: for step in &steps {
+        let input = graph.file_at(step.file);
+        push_step(
+            alloc,
+            &mut lines,
+            user,
+            graph.edge_at(step.edge),
+            input,
+            step.kind,
+        )?;
+        user = input;
     }
-    Ok(lines)
+    Ok(Some(lines))
 }
 
-/// Appends the line of a step from a file.
+/// Appends the line of a step from a file: to an input of this kind of the edge that makes it.
 fn push_step(
     alloc: Global,
     lines: &mut Vec<u8>,
-    graph: &Graph,
-    from: FileNo,
-    step: Step,
+    from: File<'_>,
+    edge: Edge<'_>,
+    input: File<'_>,
+    kind: Option<Kind>,
 ) -> Result<(), AllocError>
-    requires from { from.0 < length (files_of graph.now) }
-    requires edge { step.edge.0 < length (edges_of graph.now) }
-    requires file { step.file.0 < length (files_of graph.now) }
-    ensures { OnOk result (lines.new.items
-        ≡ lines.old.items ++ chain_line graph.now from step) }
+    ensures { OnOk result (lines.new.items ≡ lines.old.items ++ step_line
+        (edge_of edge.entry) (file_of from.entry).path (file_of input.entry).path kind) }
 {
-    push_place(alloc, lines, graph.edge_place(step.edge))?;
-    lines.extend_from_slice(graph.rule_name(step.edge))?;
+    push_place(alloc, lines, edge.place())?;
+    lines.extend_from_slice(rule_of(edge))?;
     lines.extend_from_slice(b": ")?;
-    lines.extend_from_slice(graph.path(from))?;
+    lines.extend_from_slice(from.path())?;
     lines.extend_from_slice(b" needs ")?;
-    lines.extend_from_slice(graph.path(step.file))?;
-    push_kind(lines, step.kind)
+    lines.extend_from_slice(input.path())?;
+    push_kind(lines, kind)
 }
 
 /// Appends a place.

@@ -1,10 +1,10 @@
 //! What is not known of the inputs that builds discovered.
 
 ghost use Rattle.std.specs.Prelude.{◌≡◌, ◌++◌, ◌<◌, All, IfOk, OnOk, length, map};
-ghost use Rattle.nj_ask.specs.Cited.{edges_of, doubtful_edges, faulty_edges, if_doubtful, if_faulty};
+ghost use Rattle.nj_ask.specs.Cited.{edge_of, edges_of, doubtful_edges, faulty_edges, if_doubtful, if_faulty};
 
 use crate::listing::push_line;
-use nj_graph::{DepfileError, Discoveries, EdgeNo, Graph, Unknown, Verdict};
+use nj_graph::{DepfileError, Discoveries, Edge, EdgeNo, Graph, Unknown, Verdict};
 use std::alloc::{AllocError, Global};
 
 /// The fault of the depfile of an edge.
@@ -39,14 +39,8 @@ pub fn doubts_of(alloc: Global, graph: &Graph, found: &Discoveries) -> Result<Do
     let mut edges = Vec::new(alloc);
     let mut lines = Vec::new(alloc);
     'edges: for number in 0..graph.edge_count() {
-        push_edge(
-            alloc,
-            &mut edges,
-            graph,
-            EdgeNo(number),
-            found.verdict(number),
-            &mut lines,
-        )?;
+        let edge = graph.edge_at(EdgeNo(number));
+        push_edge(alloc, &mut edges, edge, found.verdict(number), &mut lines)?;
     }
     let faults = faults_of(alloc, graph, found)?;
     Ok(Doubts {
@@ -61,30 +55,27 @@ pub fn doubts_of(alloc: Global, graph: &Graph, found: &Discoveries) -> Result<Do
 fn push_edge(
     alloc: Global,
     edges: &mut Vec<EdgeNo>,
-    graph: &Graph,
-    edge: EdgeNo,
+    edge: Edge<'_>,
     verdict: &Verdict,
     lines: &mut Vec<u8>,
 ) -> Result<(), AllocError>
-    requires { edge.0 < length (edges_of graph.now) }
-    ensures { OnOk result (edges.new.items ≡ edges.old.items ++ if_doubtful verdict.now edge) }
+    ensures { OnOk result (map (λ edge. edge.0) edges.new.items ≡ map (λ edge. edge.0)
+        edges.old.items ++ if_doubtful verdict.now (edge_of edge.entry).number) }
 {
     match verdict {
         Verdict::Known => return Ok(()),
-        Verdict::Unknown(Unknown::NoTime) => push_no_time(graph, edge, lines)?,
+        Verdict::Unknown(Unknown::NoTime) => push_no_time(edge, lines)?,
         Verdict::Unknown(_) => {}
-        Verdict::Faulty(fault) => push_fault(alloc, graph, edge, fault, lines)?,
+        Verdict::Faulty(fault) => push_fault(alloc, edge, fault, lines)?,
     }
-    edges.push(edge)?;
+    edges.push(edge.number())?;
     Ok(())
 }
 
 /// Appends the line that says that the time of the first output of an edge cannot be read.
-fn push_no_time(graph: &Graph, edge: EdgeNo, lines: &mut Vec<u8>) -> Result<(), AllocError>
-    requires { edge.0 < length (edges_of graph.now) }
-{
-    if let Some(output) = graph.outputs(edge).first() {
-        lines.extend_from_slice(graph.path(*output))?;
+fn push_no_time(edge: Edge<'_>, lines: &mut Vec<u8>) -> Result<(), AllocError> {
+    if let Some(output) = edge.outputs().first() {
+        lines.extend_from_slice(output.path())?;
         push_line(lines, b": its time cannot be read")?;
     }
     Ok(())
@@ -102,13 +93,8 @@ fn faults_of(
 {
     let mut faults = Vec::new(alloc);
     'edges: for number in 0..graph.edge_count() {
-        push_faulty(
-            alloc,
-            &mut faults,
-            graph,
-            EdgeNo(number),
-            found.verdict(number),
-        )?;
+        let edge = graph.edge_at(EdgeNo(number));
+        push_faulty(alloc, &mut faults, edge, found.verdict(number))?;
     }
     Ok(faults)
 }
@@ -117,18 +103,20 @@ fn faults_of(
 fn push_faulty(
     alloc: Global,
     faults: &mut Vec<EdgeFault>,
-    graph: &Graph,
-    edge: EdgeNo,
+    edge: Edge<'_>,
     verdict: &Verdict,
 ) -> Result<(), AllocError>
-    requires { edge.0 < length (edges_of graph.now) }
     ensures { OnOk result (map (λ fault. fault.edge.0) faults.new.items
-        ≡ map (λ fault. fault.edge.0) faults.old.items ++ if_faulty verdict.now edge.0) }
+        ≡ map (λ fault. fault.edge.0) faults.old.items
+        ++ if_faulty verdict.now (edge_of edge.entry).number) }
 {
     match verdict {
         Verdict::Faulty(fault) => {
-            let text = fault_text(alloc, graph, edge, fault)?;
-            faults.push(EdgeFault { edge, text })?;
+            let text = fault_text(alloc, edge, fault)?;
+            faults.push(EdgeFault {
+                edge: edge.number(),
+                text,
+            })?;
         }
         _ => {}
     }
@@ -136,15 +124,8 @@ fn push_faulty(
 }
 
 /// The path of the depfile of an edge, and its fault.
-fn fault_text(
-    alloc: Global,
-    graph: &Graph,
-    edge: EdgeNo,
-    fault: &DepfileError,
-) -> Result<Vec<u8>, AllocError>
-    requires { edge.0 < length (edges_of graph.now) }
-{
-    let mut text = graph.variable(alloc, edge, b"depfile")?;
+fn fault_text(alloc: Global, edge: Edge<'_>, fault: &DepfileError) -> Result<Vec<u8>, AllocError> {
+    let mut text = edge.variable(alloc, b"depfile")?;
     text.extend_from_slice(b": ")?;
     fault.append_text(&mut text)?;
     Ok(text)
@@ -153,12 +134,9 @@ fn fault_text(
 /// Appends the line with the fault of the depfile of an edge.
 fn push_fault(
     alloc: Global,
-    graph: &Graph,
-    edge: EdgeNo,
+    edge: Edge<'_>,
     fault: &DepfileError,
     lines: &mut Vec<u8>,
-) -> Result<(), AllocError>
-    requires { edge.0 < length (edges_of graph.now) }
-{
-    push_line(lines, &fault_text(alloc, graph, edge, fault)?)
+) -> Result<(), AllocError> {
+    push_line(lines, &fault_text(alloc, edge, fault)?)
 }

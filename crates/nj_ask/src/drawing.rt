@@ -1,12 +1,12 @@
 //! Drawings in the language of Graphviz.
 
-ghost use Rattle.std.specs.Prelude.{◌≡◌, ◌++◌, ◌<◌, All, OnOk, length};
+ghost use Rattle.std.specs.Prelude.{◌≡◌, ◌++◌, OnOk};
 ghost use Rattle.nj_ask.specs.Cited.{edges_of, files_of, HasEdges, escaped, escapes, quoted};
 
 use crate::discovered::DiscoveredGraph;
 use crate::manifest::is_set;
 use crate::report::touched_by;
-use nj_graph::{EdgeNo, FileNo, Graph, Kind};
+use nj_graph::{Edge, EdgeNo, File, FileList, FileNo, Files, Graph};
 use std::alloc::{AllocError, Global};
 use std::fmt;
 use std::io::{self, Write};
@@ -23,44 +23,38 @@ pub struct Extent {
 }
 
 /// The drawing of the edges that files need, nearest first: of those whose outputs are drawn.
-pub fn draw_needed(
-    alloc: Global,
-    graph: &Graph,
-    files: &[FileNo],
-    extent: Extent,
-) -> io::Result<Vec<u8>>
-    requires { All (λ file. file.0 < length (files_of graph.now)) files.now }
-{
-    let edges = graph.needed_by(alloc, files)?;
-    let mut drawing = Drawing::new(alloc, graph, extent)?;
-    drawing.add_files(graph, files)?;
-    for edge in &edges {
-        if drawing.has_output(graph, *edge) {
-            drawing.add_edge(graph, *edge)?;
+pub fn draw_needed(alloc: Global, files: &FileList<'_>, extent: Extent) -> io::Result<Vec<u8>> {
+    let needed = files.needed_edges(alloc)?;
+    let mut drawing = Drawing::new(alloc, files.graph(), extent)?;
+    drawing.add_files(files.files())?;
+    for edge in needed.edges() {
+        if drawing.has_output(edge) {
+            drawing.add_edge(edge)?;
         }
     }
-    drawing.end(edges.as_slice().len())
+    drawing.end(needed.edges().len())
 }
 
-/// The drawing of the edges that a change of files touches, in reading order.
+/// The drawing of the edges that a change of files of this graph touches, in reading order.
 pub fn draw_affected(
     alloc: Global,
     known: &DiscoveredGraph,
-    files: &[FileNo],
+    files: &FileList<'_>,
     extent: Extent,
 ) -> io::Result<Vec<u8>>
     requires edges { HasEdges known.now }
-    requires files { All (λ file. file.0 < length (files_of known.now.graph)) files.now }
+    requires files { files.now.graph ≡ known.now.graph }
 {
     let graph = &known.graph;
-    let affected = graph.affected_by(alloc, files)?;
-    let edges = touched_by(alloc, known, files, affected)?;
+    let numbers = files.numbers();
+    let affected = graph.affected_by(alloc, numbers)?;
+    let touched = touched_by(alloc, known, numbers, affected)?;
     let mut drawing = Drawing::new(alloc, graph, extent)?;
-    drawing.add_files(graph, files)?;
-    for edge in &edges {
-        drawing.add_edge(graph, *edge)?;
+    drawing.add_files(files.files())?;
+    for edge in graph.edges_at(&touched) {
+        drawing.add_edge(edge)?;
     }
-    drawing.end(edges.as_slice().len())
+    drawing.end(touched.as_slice().len())
 }
 
 /// A node of the drawing.
@@ -124,43 +118,37 @@ impl Drawing {
     }
 
     /// Draws files.
-    fn add_files(&mut self, graph: &Graph, files: &[FileNo]) -> io::Result<()>
-        requires { All (λ file. file.0 < length (files_of graph.now)) files.now }
-    {
+    fn add_files(&mut self, files: Files<'_>) -> io::Result<()> {
         for file in files {
-            self.add_file(graph, *file)?;
+            self.add_file(file)?;
         }
         Ok(())
     }
 
     /// Draws an edge with arrows from its inputs and to its outputs, if there is room for it.
-    fn add_edge(&mut self, graph: &Graph, edge: EdgeNo) -> io::Result<()>
-        requires { edge.0 < length (edges_of graph.now) }
-    {
-        if self.is_folded(graph, edge) {
-            return self.add_point(graph, edge);
+    fn add_edge(&mut self, edge: Edge<'_>) -> io::Result<()> {
+        if self.is_folded(edge) {
+            return self.add_point(edge);
         }
-        if !self.takes(Node::Edge(edge)) {
+        if !self.takes(Node::Edge(edge.number())) {
             return Ok(());
         }
         self.count = self.count.saturating_add(1);
-        self.add_outputs(graph, edge)?;
-        let more = self.add_inputs(graph, edge)?;
-        self.end_edge(graph, edge, more)
+        self.add_outputs(edge)?;
+        let more = self.add_inputs(edge)?;
+        self.end_edge(edge, more)
     }
 
     /// Draws an edge with its outputs as a point, with arrows from its inputs.
-    fn add_point(&mut self, graph: &Graph, edge: EdgeNo) -> io::Result<()>
-        requires { edge.0 < length (edges_of graph.now) }
-    {
-        let Some(output) = graph.outputs(edge).first() else {
+    fn add_point(&mut self, edge: Edge<'_>) -> io::Result<()> {
+        let Some(output) = edge.outputs().first() else {
             return Ok(());
         };
-        let Some(node) = self.add_file(graph, *output)? else {
+        let Some(node) = self.add_file(output)? else {
             return Ok(());
         };
         self.count = self.count.saturating_add(1);
-        let more = self.add_inputs(graph, edge)?;
+        let more = self.add_inputs(edge)?;
         if more > 0 {
             writeln!(self.text, "  {node} [xlabel=\"and {more} more\"];")?;
         }
@@ -168,12 +156,10 @@ impl Drawing {
     }
 
     /// Draws the outputs of an edge, with arrows to them.
-    fn add_outputs(&mut self, graph: &Graph, edge: EdgeNo) -> io::Result<()>
-        requires { edge.0 < length (edges_of graph.now) }
-    {
-        for output in graph.outputs(edge) {
-            if let Some(node) = self.add_file(graph, *output)? {
-                writeln!(self.text, "  {} -> {node};", Node::Edge(edge))?;
+    fn add_outputs(&mut self, edge: Edge<'_>) -> io::Result<()> {
+        for output in edge.outputs() {
+            if let Some(node) = self.add_file(output)? {
+                writeln!(self.text, "  {} -> {node};", Node::Edge(edge.number()))?;
             }
         }
         Ok(())
@@ -181,42 +167,51 @@ impl Drawing {
 
     /// Draws the inputs of an edge, with arrows from them; order-only inputs have dashed arrows.
     /// Returns how many are left out.
-    fn add_inputs(&mut self, graph: &Graph, edge: EdgeNo) -> io::Result<usize>
-        requires { edge.0 < length (edges_of graph.now) }
-    {
-        let inputs = graph.inputs(edge);
-        let mut shown: usize = 0;
-        for (index, input) in inputs.iter().enumerate() {
-            if let Some(node) = self.input_node(graph, *input, shown)? {
-                let style = match graph.input_kind(edge, index) {
-                    Kind::OrderOnly => " [style=dashed]",
-                    _ => "",
-                };
-                writeln!(self.text, "  {node} -> {}{style};", Node::Edge(edge))?;
+    fn add_inputs(&mut self, edge: Edge<'_>) -> io::Result<usize> {
+        let shown = self.add_arrows(edge, edge.explicit_inputs(), "", 0)?;
+        let shown = self.add_arrows(edge, edge.implicit_inputs(), "", shown)?;
+        let shown = self.add_arrows(edge, edge.order_only_inputs(), " [style=dashed]", shown)?;
+        Ok(edge.inputs().len().saturating_sub(shown))
+    }
+
+    /// Draws inputs of an edge after some others, with arrows of this style. Returns how many were
+    /// drawn by then.
+    fn add_arrows(
+        &mut self,
+        edge: Edge<'_>,
+        inputs: Files<'_>,
+        style: &str,
+        others: usize,
+    ) -> io::Result<usize> {
+        let mut shown = others;
+        for input in inputs {
+            if let Some(node) = self.input_node(input, shown)? {
+                writeln!(
+                    self.text,
+                    "  {node} -> {}{style};",
+                    Node::Edge(edge.number())
+                )?;
                 shown = shown.saturating_add(1);
             }
         }
-        Ok(inputs.len().saturating_sub(shown))
+        Ok(shown)
     }
 
     /// The node of an input after some others: one that is drawn anyway, or a new one as long as an
     /// edge may have more inputs.
-    fn input_node(&mut self, graph: &Graph, input: FileNo, shown: usize) -> io::Result<Option<Node>>
-        requires { input.0 < length (files_of graph.now) }
-    {
-        let node = self.node_of(graph, input);
+    fn input_node(&mut self, input: File<'_>, shown: usize) -> io::Result<Option<Node>> {
+        let node = self.node_of(input);
         if shown < self.extent.inputs || self.has_node(node) {
-            return self.add_file(graph, input);
+            return self.add_file(input);
         }
         Ok(None)
     }
 
     /// Writes the node of an edge, with how many inputs were left out.
-    fn end_edge(&mut self, graph: &Graph, edge: EdgeNo, more: usize) -> io::Result<()>
-        requires { edge.0 < length (edges_of graph.now) }
-    {
-        write!(self.text, "  {} [shape=ellipse, label=\"", Node::Edge(edge))?;
-        push_escapes(&mut self.text, graph.rule_name(edge))?;
+    fn end_edge(&mut self, edge: Edge<'_>, more: usize) -> io::Result<()> {
+        let node = Node::Edge(edge.number());
+        write!(self.text, "  {node} [shape=ellipse, label=\"")?;
+        push_escapes(&mut self.text, edge.rule_name())?;
         if more > 0 {
             write!(self.text, "\\nand {more} more")?;
         }
@@ -224,10 +219,8 @@ impl Drawing {
     }
 
     /// Draws a file, unless it was drawn before, and returns its node; `None` if there is no room.
-    fn add_file(&mut self, graph: &Graph, file: FileNo) -> io::Result<Option<Node>>
-        requires { file.0 < length (files_of graph.now) }
-    {
-        let node = self.node_of(graph, file);
+    fn add_file(&mut self, file: File<'_>) -> io::Result<Option<Node>> {
+        let node = self.node_of(file);
         if self.has_node(node) {
             return Ok(Some(node));
         }
@@ -239,37 +232,35 @@ impl Drawing {
         } else {
             write!(self.text, "  {node} [label=")?;
         }
-        push_quoted(&mut self.text, graph.path(file))?;
+        push_quoted(&mut self.text, file.path())?;
         writeln!(self.text, "];")?;
         Ok(Some(node))
     }
 
     /// The node of a file: its own, or that of the edge with which it is folded.
-    fn node_of(&self, graph: &Graph, file: FileNo) -> Node
-        requires { file.0 < length (files_of graph.now) }
-    {
-        match graph.maker(file) {
-            Some(edge) if self.is_folded(graph, edge) => Node::Edge(edge),
-            _ => Node::File(file),
+    fn node_of(&self, file: File<'_>) -> Node {
+        match file.maker() {
+            Some(edge) if self.is_folded(edge) => Node::Edge(edge.number()),
+            _ => Node::File(file.number()),
         }
     }
 
     /// Whether an output of an edge is drawn.
-    fn has_output(&self, graph: &Graph, edge: EdgeNo) -> bool
-        requires { edge.0 < length (edges_of graph.now) }
-    {
-        let outputs = graph.outputs(edge);
-        self.has_node(Node::Edge(edge))
-            || outputs
-                .iter()
-                .any(|output| self.has_node(Node::File(*output)))
+    fn has_output(&self, edge: Edge<'_>) -> bool {
+        if self.has_node(Node::Edge(edge.number())) {
+            return true;
+        }
+        for output in edge.outputs() {
+            if self.has_node(Node::File(output.number())) {
+                return true;
+            }
+        }
+        false
     }
 
     /// Whether an edge is drawn with its outputs as a point.
-    fn is_folded(&self, graph: &Graph, edge: EdgeNo) -> bool
-        requires { edge.0 < length (edges_of graph.now) }
-    {
-        self.extent.folds && graph.is_phony(edge)
+    fn is_folded(&self, edge: Edge<'_>) -> bool {
+        self.extent.folds && edge.is_phony()
     }
 
     /// Whether a node is drawn.

@@ -1,9 +1,9 @@
 //! The requested outputs of edges.
 
 ghost use Rattle.std.specs.Prelude.{◌≡◌, ◌++◌, ◌<◌, All, IfOk, OnOk, length, map, option_map};
-ghost use Rattle.nj_ask.specs.Cited.{flat_map, edge_at, is_among, outputs_of, edges_of, asked_of, is_asked_for, is_of_rules, line, line_of_output, lines_of_outputs, rule_names, texts, unknown_rule};
+ghost use Rattle.nj_ask.specs.Cited.{rule_name, detail_of_edge, edge_of, output_lines, path_lines, flat_map, edge_at, is_among, outputs_of, edges_of, asked_of, is_asked_for, is_of_rules, line, line_of_output, lines_of_outputs, rule_names, texts, unknown_rule};
 
-use nj_graph::{EdgeNo, Graph};
+use nj_graph::{Edge, Edges, Files, Graph};
 use std::alloc::{AllocError, Global};
 
 /// Which outputs are listed.
@@ -39,51 +39,37 @@ fn is_rule(graph: &Graph, name: &[u8]) -> bool
 /// The requested outputs of these edges, a line each, in the order of the edges.
 pub fn list_outputs(
     alloc: Global,
-    graph: &Graph,
-    edges: &[EdgeNo],
+    edges: Edges<'_>,
     listed: Listed<'_>,
 ) -> Result<Vec<u8>, AllocError>
-    requires { All (λ edge. edge.0 < length (edges_of graph.now)) edges.now }
-    ensures { IfOk result (λ lines. lines.items ≡ flat_map (lines_of_outputs graph.now
-        (asked_of listed.entry)) (map (λ edge. edge.0) edges.now)) }
+    ensures { IfOk result (λ lines. lines.items
+        ≡ output_lines (asked_of listed.entry) edges.entry) }
 {
     let mut lines = Vec::new(alloc);
     'edges: for edge in edges {
-        push_outputs(&mut lines, graph, *edge, listed)?;
+        push_outputs(&mut lines, edge, listed)?;
     }
     Ok(lines)
 }
 
 /// Appends the requested outputs of an edge.
-fn push_outputs(
-    lines: &mut Vec<u8>,
-    graph: &Graph,
-    edge: EdgeNo,
-    listed: Listed<'_>,
-) -> Result<(), AllocError>
-    requires { edge.0 < length (edges_of graph.now) }
-    ensures { OnOk result (lines.new.items ≡ lines.old.items
-        ++ lines_of_outputs graph.now (asked_of listed.entry) edge.0) }
+fn push_outputs(lines: &mut Vec<u8>, edge: Edge<'_>, listed: Listed<'_>) -> Result<(), AllocError>
+    ensures { OnOk result (lines.new.items ≡ lines.old.items ++ lines_of_outputs
+        (edge_of edge.entry).graph (asked_of listed.entry) (edge_of edge.entry).number) }
 {
-    if is_asked_for(graph, edge, listed) {
-        push_paths(lines, graph, edge, listed.prefix)?;
+    if is_asked_for(edge, listed) {
+        push_paths(lines, edge.outputs(), listed.prefix)?;
     }
     Ok(())
 }
 
-/// Appends the outputs of an edge whose paths begin in this way.
-fn push_paths(
-    lines: &mut Vec<u8>,
-    graph: &Graph,
-    edge: EdgeNo,
-    prefix: &str,
-) -> Result<(), AllocError>
-    requires { edge.0 < length (edges_of graph.now) }
-    ensures { OnOk result (lines.new.items ≡ lines.old.items ++ flat_map
-        (line_of_output prefix.now) (outputs_of (edge_at (edges_of graph.now) edge.0))) }
+/// Appends the paths of files that begin in this way.
+fn push_paths(lines: &mut Vec<u8>, files: Files<'_>, prefix: &str) -> Result<(), AllocError>
+    ensures { OnOk result (lines.new.items ≡ lines.old.items
+        ++ path_lines prefix.now files.entry) }
 {
-    'paths: for output in graph.outputs(edge) {
-        push_path(lines, graph.path(*output), prefix)?;
+    'files: for file in files {
+        push_path(lines, file.path(), prefix)?;
     }
     Ok(())
 }
@@ -100,11 +86,19 @@ fn push_path(lines: &mut Vec<u8>, path: &[u8], prefix: &str) -> Result<(), Alloc
 }
 
 /// Whether outputs of an edge are requested.
-fn is_asked_for(graph: &Graph, edge: EdgeNo, listed: Listed<'_>) -> bool
-    requires { edge.0 < length (edges_of graph.now) }
-    ensures { result ≡ is_asked_for graph.now (asked_of listed.entry) edge.0 }
+fn is_asked_for(edge: Edge<'_>, listed: Listed<'_>) -> bool
+    ensures { result ≡ is_asked_for (edge_of edge.entry).graph (asked_of listed.entry)
+        (edge_of edge.entry).number }
 {
-    is_of_rules(listed.rules, graph.rule_name(edge)) && !(listed.no_phony && graph.is_phony(edge))
+    is_of_rules(listed.rules, rule_of(edge)) && !(listed.no_phony && edge.is_phony())
+}
+
+/// The name of the rule of an edge.
+pub fn rule_of(edge: Edge<'_>) -> &[u8]
+    ensures { result.now ≡ rule_name (edge_of edge.entry).graph.declarations.rules
+        (detail_of_edge (edge_of edge.entry)).rule }
+{
+    edge.graph().rule_name(edge.number())
 }
 
 /// Whether a rule is one of these, or there are none.

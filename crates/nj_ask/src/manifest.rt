@@ -1,11 +1,11 @@
 //! From which changed files the manifest itself is made.
 
 ghost use Rattle.std.specs.Prelude.{◌≡◌, ◌↔◌, ◌<◌, All, IfOk, IfSome, false, length, map, true, option_copied, option_map, option_and_then, slice_get, slice_index_or};
-ghost use Rattle.nj_ask.specs.Cited.{OfStatements, filter, filter_map, flat_map, list_any, edge_at, inputs_of, maker_of, path_at, edges_of, files_of, clean_name, number_at, path_in, has_generator, is_named_in, makers_of_opened, makes_manifest, opened_files, IsMadeFrom, AreFeeds, AreFlags};
+ghost use Rattle.nj_ask.specs.Cited.{OfEdge, edge_of, OfStatements, filter, filter_map, flat_map, list_any, edge_at, inputs_of, maker_of, path_at, edges_of, files_of, clean_name, number_at, path_in, has_generator, is_named_in, makers_of_opened, makes_manifest, opened_files, IsMadeFrom, AreFeeds, AreFlags};
 
 use crate::changes::{clean_in, find_file};
 use crate::opened::opened_paths;
-use nj_graph::{EdgeNo, FileNo, Graph, HashKeys};
+use nj_graph::{Edge, EdgeNo, FileNo, Graph, HashKeys};
 use nj_names::Files;
 use std::alloc::{AllocError, Global};
 
@@ -157,7 +157,7 @@ fn makers_among(
 {
     let mut makers = Vec::new(alloc);
     'edges: for edge in edges {
-        if makes_manifest(alloc, graph, flags, *edge)? {
+        if makes_manifest(alloc, flags, graph.edge_at(*edge))? {
             makers.push(*edge)?;
         }
     }
@@ -166,30 +166,24 @@ fn makers_among(
 
 /// Whether an edge makes the manifest, where the flags tell which edges make a file that was
 /// opened.
-fn makes_manifest(
-    alloc: Global,
-    graph: &Graph,
-    flags: &[bool],
-    edge: EdgeNo,
-) -> Result<bool, AllocError>
-    requires edge { edge.0 < length (edges_of graph.now) }
-    requires flags { AreFlags (length (edges_of graph.now)) (makers_of_opened graph.now) flags.now }
-    ensures { OfStatements graph.now (λ entries.
-        IfOk result (λ makes. makes ≡ makes_manifest graph.now entries edge.0)) }
+fn makes_manifest(alloc: Global, flags: &[bool], edge: Edge<'_>) -> Result<bool, AllocError>
+    requires { AreFlags (length (edges_of (edge_of edge).graph))
+        (makers_of_opened (edge_of edge).graph) flags.now }
+    ensures { OfEdge (edge_of edge.entry) (λ entries number. IfOk result (λ makes.
+        makes ≡ makes_manifest (edge_of edge.entry).graph entries number)) }
 {
-    if is_set(flags, edge.0) {
+    if is_set(flags, edge.number().0) {
         return Ok(true);
     }
-    has_generator(alloc, graph, edge)
+    has_generator(alloc, edge)
 }
 
 /// Whether the `generator` of an edge is not empty.
-fn has_generator(alloc: Global, graph: &Graph, edge: EdgeNo) -> Result<bool, AllocError>
-    requires { edge.0 < length (edges_of graph.now) }
-    ensures { OfStatements graph.now (λ entries.
-        IfOk result (λ has. has ≡ has_generator entries edge.0)) }
+fn has_generator(alloc: Global, edge: Edge<'_>) -> Result<bool, AllocError>
+    ensures { OfEdge (edge_of edge.entry) (λ entries number.
+        IfOk result (λ has. has ≡ has_generator entries number)) }
 {
-    let generator = graph.variable(alloc, edge, b"generator")?;
+    let generator = edge.variable(alloc, b"generator")?;
     Ok(!generator.is_empty())
 }
 

@@ -108,7 +108,7 @@ fn report_of(
     let affected = graph.affected_by(alloc, &changed)?;
     let about = warnings_of(alloc, known, change, &affected)?;
     let touched = touched_by(alloc, known, &changed, affected)?;
-    let outputs = list_outputs(alloc, graph, &touched, listed)?;
+    let outputs = list_outputs(alloc, graph.edges_at(&touched), listed)?;
     let shape = shape_lines(alloc, known, &changed, &touched)?;
     let warnings = joined(alloc, &known.caveats, &about, &shape)?;
     Ok(Report { outputs, warnings })

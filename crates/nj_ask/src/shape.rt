@@ -1,12 +1,12 @@
 //! The files that shape the graph, where they may change.
 
 ghost use Rattle.std.specs.Prelude.{◌≡◌, ◌++◌, ◌<◌, ℕ, List, All, IfOk, IfSome, OnOk, length, map, option_map};
-ghost use Rattle.nj_ask.specs.Cited.{OfStatements, flat_map, range_with_len, edges_of, files_of, line, caveat_text, dyndep_files, dyndep_of, dyndep_text, line_if_changes, lines_of_changing, may_change, remade_text, shape_text, unjoined_files, is_made_flag, AreMarks};
+ghost use Rattle.nj_ask.specs.Cited.{OfEdge, edge_of, OfStatements, flat_map, range_with_len, edges_of, files_of, line, caveat_text, dyndep_files, dyndep_of, dyndep_text, line_if_changes, lines_of_changing, may_change, remade_text, shape_text, unjoined_files, is_made_flag, AreMarks};
 
 use crate::discovered::DiscoveredGraph;
 use crate::listing::push_line;
 use crate::manifest::{edge_flags, file_flags, is_set, opened_files};
-use nj_graph::{EdgeNo, FileNo, Graph};
+use nj_graph::{Edge, EdgeNo, FileNo, Graph};
 use std::alloc::{AllocError, Global};
 
 /// Of files and edges, what may change.
@@ -126,7 +126,7 @@ fn dyndep_files(alloc: Global, graph: &Graph) -> Result<Vec<FileNo>, AllocError>
 {
     let mut files = Vec::new(alloc);
     'edges: for number in 0..graph.edge_count() {
-        let found = dyndep_file(graph, EdgeNo(number));
+        let found = dyndep_file(graph.edge_at(EdgeNo(number)));
         match found {
             Some(file) => files.push(file)?,
             None => {}
@@ -164,7 +164,7 @@ fn unjoined_files(alloc: Global, graph: &Graph) -> Result<Vec<FileNo>, AllocErro
 {
     let mut files = Vec::new(alloc);
     'pending: for index in 0..graph.pending_count() {
-        let found = dyndep_file(graph, graph.pending_edge(index));
+        let found = dyndep_file(graph.edge_at(graph.pending_edge(index)));
         match found {
             Some(file) => files.push(file)?,
             None => {}
@@ -174,14 +174,15 @@ fn unjoined_files(alloc: Global, graph: &Graph) -> Result<Vec<FileNo>, AllocErro
 }
 
 /// The dyndep file of an edge, if it has one.
-fn dyndep_file(graph: &Graph, edge: EdgeNo) -> Option<FileNo>
-    requires { edge.0 < length (edges_of graph.now) }
-    ensures file { OfStatements graph.now (λ entries.
-        option_map (λ file. file.0) result ≡ dyndep_of graph.now entries edge.0) }
-    ensures known { IfSome result (λ file. file.0 < length (files_of graph.now)) }
+fn dyndep_file(edge: Edge<'_>) -> Option<FileNo>
+    ensures file { OfEdge (edge_of edge.entry) (λ entries number.
+        option_map (λ file. file.0) result
+        ≡ dyndep_of (edge_of edge.entry).graph entries number) }
+    ensures known { IfSome result (λ file.
+        file.0 < length (files_of (edge_of edge.entry).graph)) }
 {
-    match graph.dyndep(edge) {
-        Some(path) => graph.file_named(path),
+    match edge.dyndep() {
+        Some(path) => edge.graph().file_named(path),
         None => None,
     }
 }

@@ -1,6 +1,5 @@
 -- What was found for a graph, before it is joined.
 use Rattle.std.specs.Prelude.{◌≡◌, ℕ, if◌then◌else◌, List, [], ◌∷◌, length, map}
-use Rattle.nj_graph.specs.declared.EdgeNo.{EdgeNo}
 use Rattle.nj_graph.specs.declared.Verdict.{Verdict}
 use Rattle.nj_graph.specs.Graph.{GraphModel, edges_of}
 use Rattle.nj_ask.specs.declared.discovered.Findings.{Findings}
@@ -14,8 +13,8 @@ pub record AreFindingsOf (g : GraphModel) (findings : Findings) : Type 0 where
   pub known : AreEdgesOf g findings.doubts.edges.items
   pub faulty : map (λ fault. fault.edge.0) findings.doubts.faults.items ≡ faulty_edges findings.found
 
--- an edge, where its discovered inputs are not known
-abbrev pub if_doubtful : Verdict → EdgeNo → List EdgeNo
+-- the number of an edge, where its discovered inputs are not known
+abbrev pub if_doubtful : Verdict → (edge : ℕ) → List ℕ
 if_doubtful verdict edge = if is_doubtful verdict then edge ∷ [] else []
 
 -- the number of an edge, where its depfile has a fault

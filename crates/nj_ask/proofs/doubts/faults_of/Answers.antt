@@ -1,16 +1,17 @@
-use Rattle.std.proofs.Common.{◌<◌, map, length, arith}
-use Rattle.nj_graph.specs.Graph.{edges_of}
-use Rattle.nj_ask.proofs.FaultLemmas.{faults-more}
+use Rattle.std.proofs.Common.{◌++◌, map, ap, ◌∙◌, arith}
+use Rattle.nj_graph.specs.Handles.{GraphEdge}
+use Rattle.nj_ask.specs.DiscoveredGraphs.{is_faulty}
+use Rattle.nj_ask.specs.Inside.Findings.{if_faulty}
+use Rattle.nj_ask.proofs.FaultLemmas.{verdicts-more}
 use Rattle.nj_ask.proofs.doubts.faults_of.Goals as goal
 
 pub edges-preserved : goal.edges-preserved
 edges-preserved c =
-    let found = c.args.found.now in
-    let n = c.edges.number in
-    let counted = c.edge_count-number-end.ensures.count in
-    let same = c.requires in
-    let test = c.edges-test.true in
-    let below : n < length (edges_of c.args.graph.now) = omega (arith, test, rw c.deref.ensures at counted) in
-    faults-more found n (map (λ fault. fault.edge.0) c.edges.faults.items)
+    let counted = rw c.deref.ensures at c.edge_count-number-end.ensures.count in
+    let before = map (λ fault. fault.edge.0) c.edges.faults.items in
+    verdicts-more is_faulty c.args.found.now c.edges.number before
     (map (λ fault. fault.edge.0) c.push_faulty.new.faults.items) c.verdict.result.now c.verdict.ensures
-    c.in_ok-push_faulty.ensures (omega (arith, below, same)) c.edges.invariant
+    (c.in_ok-push_faulty.ensures ∙ ap (λ (edge : GraphEdge). before
+    ++ if_faulty c.verdict.result.now edge.number)
+    c.edge_at-edge.ensures)
+    (omega (arith, c.edges-test.true, counted, c.requires)) c.edges.invariant

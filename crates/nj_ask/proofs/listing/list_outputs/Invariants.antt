@@ -1,8 +1,9 @@
-use Rattle.std.proofs.Common.{◌≡◌, take}
-use Rattle.std.specs.List.{flat_map}
-use Rattle.nj_ask.specs.Affected.{asked_of, lines_of_outputs}
+use Rattle.std.proofs.Common.{◌≡◌, ◌++◌}
+use Rattle.nj_ask.specs.Affected.{asked_of}
+use Rattle.nj_ask.specs.Inside.FileLines.{output_lines}
 use Rattle.nj_ask.proofs.listing.list_outputs.Given as goal
 
 abbrev pub invariant-edges : goal.invariant-edges
-invariant-edges l = l.lines.items ≡ flat_map (λ edge. lines_of_outputs l.graph (asked_of l.listed) edge.0)
-    (take l.edge-index l.edges)
+invariant-edges l =
+    l.lines.items ++ output_lines (asked_of l.listed) l.edge-iterator
+    ≡ output_lines (asked_of l.listed) l.fn.edges

@@ -5,6 +5,7 @@ use Rattle.std.proofs.lemmas.List.{map_push, take_all}
 use Rattle.std.proofs.lemmas.List.Elements.{All-push, filter-append}
 use Rattle.nj_graph.specs.declared.EdgeNo.{EdgeNo}
 use Rattle.nj_graph.specs.Graph.{edges_of}
+use Rattle.nj_graph.specs.Handles.{GraphEdge, OfEdge}
 use Rattle.nj_ask.specs.Manifest.{makes_manifest}
 use Rattle.nj_ask.proofs.LineLemmas.{mapped-more}
 use Rattle.nj_ask.proofs.manifest.makers_among.Goals as goal
@@ -18,6 +19,9 @@ edges-preserved c =
     let none : EdgeNo = record { 0 = 0 } in
     let edge = get_or edges i none in
     let before = map (λ (e : EdgeNo). e.0) (take i edges) in
+    let makes = subst (λ (e : GraphEdge). OfEdge e (λ entries number.
+    c.in_ok-makes_manifest.field-0 ≡ makes_manifest e.graph entries number)) c.edge_at.ensures
+    c.in_ok-makes_manifest.ensures in
     let all = mapped-more (λ (e : EdgeNo). e.0) edges i none c.edges-test.true in
     elim c.if-branch.branch [
       | then-branch+in_ok-push w ↦
@@ -25,7 +29,7 @@ edges-preserved c =
           record {
             makers = λ entries graph.
                 let p = makes_manifest g entries in
-                let passes : p edge.0 ≡ true = sym (c.in_ok-makes_manifest.ensures entries graph)
+                let passes : p edge.0 ≡ true = sym (makes entries graph)
                 ∙ w.if-branch.true in
                 ap (map (λ (e : EdgeNo). e.0)) new ∙ map_push (λ (e : EdgeNo). e.0) c.edges.makers.items edge
                 ∙ ap (λ ns. ns ++ edge.0 ∷ []) (c.edges.invariant.makers entries graph)
@@ -38,7 +42,7 @@ edges-preserved c =
       | else-branch w ↦ record {
         makers = λ entries graph.
             let p = makes_manifest g entries in
-            let fails : p edge.0 ≡ false = sym (c.in_ok-makes_manifest.ensures entries graph)
+            let fails : p edge.0 ≡ false = sym (makes entries graph)
             ∙ w.if-branch.false in
             ap (λ v. map (λ (e : EdgeNo). e.0) v.items) w.makers-is ∙ c.edges.invariant.makers entries graph
             ∙ sym (ap (filter p) (sym all) ∙ filter-append p before (edge.0 ∷ [])

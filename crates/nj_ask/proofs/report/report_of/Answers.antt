@@ -6,6 +6,9 @@ use Rattle.nj_graph.specs.declared.FileNo.{FileNo}
 use Rattle.nj_graph.specs.Changes.{IsAffected}
 use Rattle.nj_graph.specs.Files.{path_at}
 use Rattle.nj_graph.specs.Graph.{edges_of, files_of}
+use Rattle.nj_graph.specs.Handles.{GraphEdge, edge_in}
+use Rattle.std.proofs.lemmas.List.Folds.{flat_map-map}
+use Rattle.nj_ask.specs.Inside.FileLines.{output_lines}
 use Rattle.nj_ask.specs.Affected.{asked_of, changed_file, lines_of_outputs}
 use Rattle.nj_ask.specs.DiscoveredGraphs.{IsTouched}
 use Rattle.nj_ask.specs.Reports.{changed_numbers, question_of}
@@ -69,8 +72,11 @@ returns c entries graph =
         touched = λ edge. subst (λ paths. Contains (numbers touched) edge ↔ IsTouched known paths edge) paths
             (c.in_ok-touched.ensures.touched edge);
         rises = c.in_ok-touched.ensures.rises;
-        lines = c.in_ok-outputs.ensures ∙ ap (λ edges. flat_map lines (numbers edges))
-            c.deref-5.ensures.value;
+        lines = c.in_ok-outputs.ensures ∙ ap (output_lines (asked_of c.args.listed)) c.edges_at.ensures
+            ∙ flat_map-map (λ (edge : GraphEdge). lines_of_outputs edge.graph (asked_of c.args.listed)
+            edge.number)
+            (edge_in g) (numbers c.deref-5.result.now)
+            ∙ ap (λ edges. flat_map lines (numbers edges)) c.deref-5.ensures.value;
       };
       about = c.in_ok-about.about.items;
       warns = c.in_ok-about.ensures entries graph;

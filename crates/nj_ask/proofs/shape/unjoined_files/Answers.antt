@@ -1,4 +1,4 @@
-use Rattle.std.proofs.Common.{◌<◌, ◌≤◌, All, length, map, slice_get, option_map, sym, ap, subst}
+use Rattle.std.proofs.Common.{◌≡◌, ◌<◌, ◌≤◌, All, length, map, slice_get, option_map, sym, ap, subst}
 use Rattle.std.proofs.Common.{◌∙◌}
 use Rattle.std.specs.Prelude.{IfSome}
 use Rattle.std.specs.List.{filter_map}
@@ -6,6 +6,7 @@ use Rattle.std.proofs.lemmas.List.{take_all}
 use Rattle.std.proofs.lemmas.List.Elements.{All-push}
 use Rattle.nj_graph.specs.declared.FileNo.{FileNo}
 use Rattle.nj_graph.specs.Graph.{files_of}
+use Rattle.nj_graph.specs.Handles.{GraphEdge, OfEdge}
 use Rattle.nj_ask.specs.Shape.{dyndep_of}
 use Rattle.nj_ask.proofs.LineLemmas.{edge-at, thing-found, thing-none}
 use Rattle.nj_ask.proofs.shape.unjoined_files.Goals as goal
@@ -17,11 +18,17 @@ pending-preserved c =
     let i = c.pending.index in
     let found = c.pending.files.items in
     let Below = λ (f : FileNo). f.0 < length (files_of g) in
+    let result = c.dyndep_file-found.result in
+    let file = subst (λ (edge : GraphEdge). OfEdge edge (λ entries number.
+    option_map (λ f. f.0) result ≡ dyndep_of edge.graph entries number)) c.edge_at.ensures
+    c.dyndep_file-found.ensures.file in
+    let known = subst (λ (edge : GraphEdge). IfSome result (λ f. f.0 < length (files_of edge.graph)))
+    c.edge_at.ensures c.dyndep_file-found.ensures.known in
     let at = edge-at (slice_get g.built.pending i) c.pending_edge.result.0 c.pending_edge.ensures.edge in
     elim c.match-found.branch [
       | in-Some+in_ok-push-in-Some w ↦ record {
         files = λ entries graph.
-            let is = ap (dyndep_of g entries) at.2 ∙ sym (c.dyndep_file-found.ensures.file entries graph)
+            let is = ap (dyndep_of g entries) at.2 ∙ sym (file entries graph)
             ∙ ap (option_map (λ f. f.0)) w.in-Some.is in
             thing-found (λ p. dyndep_of g entries p.edge) g.built.pending i at.0 at.1 found
             (c.pending.invariant.files entries graph)
@@ -29,11 +36,11 @@ pending-preserved c =
             (ap (λ v. v.items) w.files-is ∙ w.in_ok-push-in-Some.ensures.items);
         known = subst (All Below) (sym (ap (λ v. v.items) w.files-is ∙ w.in_ok-push-in-Some.ensures.items))
             (All-push Below found w.in-Some.file c.pending.invariant.known
-            (subst (λ o. IfSome o Below) w.in-Some.is c.dyndep_file-found.ensures.known));
+            (subst (λ o. IfSome o Below) w.in-Some.is known));
       }
       | in-None w ↦ record {
         files = λ entries graph.
-            let is = ap (dyndep_of g entries) at.2 ∙ sym (c.dyndep_file-found.ensures.file entries graph)
+            let is = ap (dyndep_of g entries) at.2 ∙ sym (file entries graph)
             ∙ ap (option_map (λ f. f.0)) w.in-None.is in
             ap (λ v. map (λ (f : FileNo). f.0) v.items) w.files-is
             ∙ thing-none (λ p. dyndep_of g entries p.edge) g.built.pending i at.0 at.1 found
