@@ -1,11 +1,10 @@
 //! What may be missing from an answer.
 
-ghost use Rattle.std.specs.Prelude.{◌<◌, All, length};
-ghost use Rattle.ninja_graph.specs.Cited.{files_of};
+ghost use Rattle.std.specs.Prelude.{◌≡◌, IfOk};
 
 use crate::failure::Failure;
-use nj_ask::{DiscoveredGraph, Status, caveat_lines, needed_fault};
-use nj_graph::FileNo;
+use nj_ask::{DiscoveredGraph, EdgeFault, Status, caveat_lines, needed_fault};
+use nj_graph::FileList;
 use nj_tools::{WriteSink, write_whole};
 use std::alloc::Global;
 
@@ -29,19 +28,26 @@ pub fn with_caveats(
     }
 }
 
-/// Refuses a request about files that need an edge whose depfile has a fault: Ninja stops there.
+/// The files that words mean, as Ninja takes targets, unless they need an edge whose depfile has a
+/// fault: Ninja stops there.
 #[inline(never)]
-pub fn check_depfiles(
+pub fn checked_targets<'k>(
     alloc: Global,
-    known: &DiscoveredGraph,
-    files: &[FileNo],
-) -> Result<(), Failure>
-    requires { All (λ file. file.0 < length (files_of known.now.graph)) files.now }
+    known: &'k DiscoveredGraph,
+    words: &[&str],
+) -> Result<FileList<'k>, Failure>
+    ensures { IfOk result (λ files. files.graph ≡ known.entry.now.graph) }
 {
-    if known.faults.is_empty() {
-        return Ok(());
+    let files = known.graph.targets(alloc, words)?;
+    if !known.faults.is_empty() {
+        refuse(alloc, needed_fault(alloc, known, files.numbers())?)?;
     }
-    match needed_fault(alloc, known, files)? {
+    Ok(files)
+}
+
+/// Refuses a request that needs an edge whose depfile has this fault.
+pub fn refuse(alloc: Global, fault: Option<&EdgeFault>) -> Result<(), Failure> {
+    match fault {
         Some(fault) => Err(Failure::Depfile(Vec::from_slice(alloc, &fault.text)?)),
         None => Ok(()),
     }

@@ -1,15 +1,13 @@
 //! The subcommand `draw`: a drawing of the edges that files need, or of those that a change of them
 //! affects.
 
-ghost use Rattle.std.specs.Prelude.{◌<◌, All, length};
-ghost use Rattle.ninja_graph.specs.Cited.{files_of, HasEdges};
+ghost use Rattle.ninja_graph.specs.Cited.{HasEdges};
 
-use crate::caveats::check_depfiles;
+use crate::caveats::checked_targets;
 use crate::failure::Failure;
 use crate::words::{count, flag};
 use clap::{Arg, ArgAction, ArgMatches, Command};
 use nj_ask::{DiscoveredGraph, Extent, Status, draw_affected, draw_needed};
-use nj_graph::FileNo;
 use nj_tools::{Error, WriteSink, write_whole};
 use std::alloc::{AllocError, Global};
 
@@ -69,12 +67,7 @@ pub fn answer(
 ) -> Result<Status, Failure>
     requires { HasEdges known.now }
 {
-    let words = options.get_strs("targets").unwrap_or(&[]);
-    let files = known.graph.pick_targets(rt.alloc(), words)?;
-    if !options.get_flag("affected") {
-        check_depfiles(rt.alloc(), known, &files)?;
-    }
-    let drawing = drawing_of(rt.alloc(), known, &files, options)?;
+    let drawing = drawing_of(rt.alloc(), known, options)?;
     let mut out = WriteSink::new(rt.stdout());
     match write_whole(&mut out, &drawing) {
         Ok(()) => Ok(Status::Done),
@@ -82,25 +75,26 @@ pub fn answer(
     }
 }
 
-/// The drawing of the edges that these files need or affect.
+/// The drawing of the edges that the files need or affect.
 fn drawing_of(
     alloc: Global,
     known: &DiscoveredGraph,
-    files: &[FileNo],
     options: &ArgMatches<'_>,
 ) -> Result<Vec<u8>, Failure>
-    requires edges { HasEdges known.now }
-    requires files { All (λ file. file.0 < length (files_of known.now.graph)) files.now }
+    requires { HasEdges known.now }
 {
+    let words = options.get_strs("targets").unwrap_or(&[]);
     let extent = Extent {
         nodes: options.get_one::<usize>("limit").unwrap_or(usize::MAX),
         inputs: options.get_one::<usize>("inputs").unwrap_or(MOST_INPUTS),
         folds: options.get_flag("fold"),
     };
     let drawing = if options.get_flag("affected") {
-        draw_affected(alloc, known, files, extent)
+        let files = known.graph.targets(alloc, words)?;
+        draw_affected(alloc, known, &files, extent)
     } else {
-        draw_needed(alloc, &known.graph, files, extent)
+        let files = checked_targets(alloc, known, words)?;
+        draw_needed(alloc, &files, extent)
     };
     match drawing {
         Ok(drawing) => Ok(drawing),

@@ -1,6 +1,6 @@
 //! The subcommand `keys`: a key for each command that targets need.
 
-use crate::caveats::{check_depfiles, with_caveats};
+use crate::caveats::{checked_targets, with_caveats};
 use crate::failure::Failure;
 use crate::reading::read_graph;
 use crate::words::{number, option, repeated, targets};
@@ -82,11 +82,10 @@ fn page_of(
     mark: &Mark,
     options: &ArgMatches<'_>,
 ) -> Result<Page, Failure> {
-    let graph = &known.graph;
-    let targets = graph.pick_targets(alloc, options.get_strs("targets").unwrap_or(&[]))?;
-    check_depfiles(alloc, known, &targets)?;
+    let words = options.get_strs("targets").unwrap_or(&[]);
+    let targets = checked_targets(alloc, known, words)?;
     let take = options.get_one::<u64>("take");
-    match page_from(alloc, graph, bases, &targets, mark, take) {
+    match page_from(alloc, &known.graph, bases, targets.numbers(), mark, take) {
         Ok(page) => Ok(page),
         Err(fault) => Err(Failure::Graph(fault.into())),
     }

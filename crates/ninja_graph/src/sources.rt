@@ -1,6 +1,6 @@
 //! The sources on the disk.
 
-use nj_graph::{FileNo, Graph};
+use nj_graph::Graph;
 use std::alloc::{AllocError, Global};
 use std::fs;
 use std::io::ErrorKind;
@@ -35,11 +35,10 @@ impl Sources {
     /// Looks up each source of a graph.
     pub fn look_up(rt: HostRuntime, graph: &Graph) -> Result<Sources, AllocError> {
         let mut sources = Sources::new(rt.alloc());
-        for number in 0..graph.file_count() {
-            let file = FileNo(number);
-            let found = match graph.maker(file) {
+        for file in graph.files() {
+            let found = match file.maker() {
                 Some(_) => Found::Something,
-                None => look_at(rt, graph.path(file))?,
+                None => look_at(rt, file.path())?,
             };
             sources.push(found)?;
         }

@@ -1,14 +1,14 @@
 //! The subcommand `why`: the chain by which a file needs another.
 
-ghost use Rattle.std.specs.Prelude.{◌<◌, IfOk, length};
-ghost use Rattle.ninja_graph.specs.Cited.{files_of};
+ghost use Rattle.std.specs.Prelude.{◌≡◌};
+ghost use Rattle.ninja_graph.specs.Cited.{file_of};
 
-use crate::caveats::check_depfiles;
+use crate::caveats::refuse;
 use crate::failure::Failure;
 use crate::words::flag;
 use clap::{Arg, ArgMatches, Command};
-use nj_ask::{DiscoveredGraph, Status, write_chain};
-use nj_graph::{FileNo, Graph, GraphFault, pick_target};
+use nj_ask::{DiscoveredGraph, Status, needed_fault, write_chain};
+use nj_graph::File;
 use nj_needs::grow_targets;
 use nj_tools::WriteSink;
 use std::alloc::{AllocError, Global};
@@ -49,20 +49,13 @@ pub fn answer(
     options: &ArgMatches<'_>,
 ) -> Result<Status, Failure> {
     let graph = &known.graph;
-    let from = file_at(rt.alloc(), graph, options.get_str("A").unwrap_or(""))?;
-    let to = file_at(rt.alloc(), graph, options.get_str("B").unwrap_or(""))?;
+    let from = graph.target(rt.alloc(), options.get_str("A").unwrap_or("").as_bytes())?;
+    let to = graph.target(rt.alloc(), options.get_str("B").unwrap_or("").as_bytes())?;
     let with_validations = options.get_flag("validations");
     check_depfiles_of(rt.alloc(), known, from, with_validations)?;
     let mut out = WriteSink::new(rt.stdout());
-    let status = write_chain(rt.alloc(), graph, from, to, with_validations, &mut out)?;
+    let status = write_chain(rt.alloc(), from, to, with_validations, &mut out)?;
     Ok(status)
-}
-
-/// The file that a word means.
-fn file_at(alloc: Global, graph: &Graph, word: &str) -> Result<FileNo, GraphFault>
-    ensures { IfOk result (λ file. file.0 < length (files_of graph.now)) }
-{
-    pick_target(alloc, graph, word.as_bytes())
 }
 
 /// Refuses a file that needs an edge whose depfile has a fault. With `with_validations` what the
@@ -70,14 +63,17 @@ fn file_at(alloc: Global, graph: &Graph, word: &str) -> Result<FileNo, GraphFaul
 fn check_depfiles_of(
     alloc: Global,
     known: &DiscoveredGraph,
-    file: FileNo,
+    file: File<'_>,
     with_validations: bool,
 ) -> Result<(), Failure>
-    requires { file.0 < length (files_of known.now.graph) }
+    requires { (file_of file).graph ≡ known.now.graph }
 {
-    if with_validations {
-        let grown = grow_targets(alloc, known.graph.edge_graph(), &[file])?;
-        return check_depfiles(alloc, known, &grown);
+    if known.faults.is_empty() {
+        return Ok(());
     }
-    check_depfiles(alloc, known, &[file])
+    if with_validations {
+        let grown = grow_targets(alloc, &known.graph, &[file.number()])?;
+        return refuse(alloc, needed_fault(alloc, known, &grown)?);
+    }
+    refuse(alloc, needed_fault(alloc, known, &[file.number()])?)
 }

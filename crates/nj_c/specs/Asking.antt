@@ -19,8 +19,8 @@ abbrev pub IfLoaded : Option GraphModel → ℤ → (GraphModel → Type 0) → 
 IfLoaded graph result does = MatchOption graph (result ≡ code_of NotLoaded) does
 
 -- of the graph of an open session
-abbrev pub OfGraph : Option Kept → ℤ → (GraphModel → Type 0) → Type 0
-OfGraph session result does = IfOpen session result (λ kept. IfLoaded kept.graph result does)
+abbrev pub AtGraph : Option Kept → ℤ → (GraphModel → Type 0) → Type 0
+AtGraph session result does = IfOpen session result (λ kept. IfLoaded kept.graph result does)
 
 -- a number below the count does this, and any other is refused
 pub record IfNumber (number count : ℕ) (result : ℤ) (does : Type 0) : Type 0 where
@@ -28,12 +28,12 @@ pub record IfNumber (number count : ℕ) (result : ℤ) (does : Type 0) : Type 0
   pub is_not : count ≤ number → result ≡ code_of BadNumber
 
 -- of an edge of the graph of an open session
-abbrev pub OfEdge : Option Kept → ℕ → ℤ → (GraphModel → Type 0) → Type 0
-OfEdge session edge result does = OfGraph session result (λ g. IfNumber edge (length (edges_of g)) result (does g))
+abbrev pub AtEdge : Option Kept → ℕ → ℤ → (GraphModel → Type 0) → Type 0
+AtEdge session edge result does = AtGraph session result (λ g. IfNumber edge (length (edges_of g)) result (does g))
 
 -- of a file of the graph of an open session
-abbrev pub OfFile : Option Kept → ℕ → ℤ → (GraphModel → Type 0) → Type 0
-OfFile session file result does = OfGraph session result (λ g. IfNumber file (length (files_of g)) result (does g))
+abbrev pub AtFile : Option Kept → ℕ → ℤ → (GraphModel → Type 0) → Type 0
+AtFile session file result does = AtGraph session result (λ g. IfNumber file (length (files_of g)) result (does g))
 
 -- the item of a list at an index was returned, or there is none
 abbrev pub GivesItem : {A : Type 0} → Option A → ℤ → (A → Type 0) → Type 0

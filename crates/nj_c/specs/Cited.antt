@@ -1,5 +1,5 @@
 -- What the contracts of this crate cite: each name comes from the module in its line.
-pub use Rattle.nj_c.specs.Asking.{GivesText, KeptUnlessDone, OfEdge, OfFile, OfGraph, bool_code, GivesItem, IfLoaded, IfOpen, IfNumber}
+pub use Rattle.nj_c.specs.Asking.{GivesText, KeptUnlessDone, AtEdge, AtFile, AtGraph, bool_code, GivesItem, IfLoaded, IfOpen, IfNumber}
 pub use Rattle.nj_c.specs.Asking.{GivesFile, kind_code, GivesTextOrNot, OfFault, OfPlace, step_kind_code, GivesTextAt, GivesMark}
 pub use Rattle.nj_c.specs.Asking.{GivesValue}
 pub use Rattle.nj_c.specs.Statuses.{code_of}

@@ -1,7 +1,7 @@
 //! Lists that are returned many items at a time.
 
 ghost use Rattle.std.specs.Prelude.{◌≡◌, ◌≢◌, ◌<◌, ◌-◌, ℕ, List, length, map, min, drop};
-ghost use Rattle.nj_c.specs.Cited.{edge_at, inputs_of, outputs_of, users_of, path_at, AreFiles, edges_of, files_of, Done, KeptUnlessDone, OfEdge, OfFile, filled, kinds_of, GivesFiles, GivesNumbers, code_of};
+ghost use Rattle.nj_c.specs.Cited.{edge_at, inputs_of, outputs_of, users_of, path_at, AreFiles, edges_of, files_of, Done, KeptUnlessDone, AtEdge, AtFile, filled, kinds_of, GivesFiles, GivesNumbers, code_of};
 
 use crate::asking::{ask_edge, ask_file};
 use crate::items::kind_number;
@@ -22,7 +22,7 @@ pub extern "C" fn nx_outputs(
     count: &mut usize,
 ) -> i32
     ensures kept { session.new.kept ≡ session.old.kept }
-    ensures files { OfEdge session.old.kept edge result (λ g.
+    ensures files { AtEdge session.old.kept edge result (λ g.
         GivesFiles (files_of g) (outputs_of (edge_at (edges_of g) edge)) from
         files.old files.new count.new result) }
     ensures buffer { KeptUnlessDone files.old files.new result }
@@ -43,7 +43,7 @@ pub extern "C" fn nx_inputs(
     count: &mut usize,
 ) -> i32
     ensures kept { session.new.kept ≡ session.old.kept }
-    ensures files { OfEdge session.old.kept edge result (λ g.
+    ensures files { AtEdge session.old.kept edge result (λ g.
         (GivesFiles (files_of g) (inputs_of (edge_at (edges_of g) edge)) from
         files.old files.new count.new result)
         × (kinds.new ≡ filled (drop from (kinds_of (edge_at (edges_of g) edge))) kinds.old)) }
@@ -51,7 +51,7 @@ pub extern "C" fn nx_inputs(
     ensures kind_buffer { result ≢ code_of Done → kinds.new ≡ kinds.old }
 {
     ask_edge!(session, alloc, edge, graph => {
-        write_kinds(graph.edge_graph(), edge, from, kinds);
+        write_kinds(graph, edge, from, kinds);
         give_files(graph.inputs(edge), from, files, count)
     })
 }
@@ -68,7 +68,7 @@ pub extern "C" fn nx_users(
     count: &mut usize,
 ) -> i32
     ensures kept { session.new.kept ≡ session.old.kept }
-    ensures edges { OfFile session.old.kept file result (λ g.
+    ensures edges { AtFile session.old.kept file result (λ g.
         GivesNumbers (users_of (edges_of g) (path_at (files_of g) (record { 0 = file }))) from
         edges.old edges.new count.new result) }
     ensures buffer { KeptUnlessDone edges.old edges.new result }

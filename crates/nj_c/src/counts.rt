@@ -1,7 +1,7 @@
 //! How many edges, files and rules there are.
 
 ghost use Rattle.std.specs.Prelude.{◌≡◌, length};
-ghost use Rattle.nj_c.specs.Cited.{edges_of, files_of, main_rules, Done, OfGraph, code_of};
+ghost use Rattle.nj_c.specs.Cited.{edges_of, files_of, main_rules, Done, AtGraph, code_of};
 
 use crate::asking::ask_graph;
 use crate::session::Session;
@@ -13,7 +13,7 @@ use std::alloc::Global;
 #[unsafe(no_mangle)]
 pub extern "C" fn nx_edge_count(alloc: Global, session: &mut Session, count: &mut usize) -> i32
     ensures kept { session.new.kept ≡ session.old.kept }
-    ensures count { OfGraph session.old.kept result (λ g.
+    ensures count { AtGraph session.old.kept result (λ g.
         (result ≡ code_of Done) × (count.new ≡ length (edges_of g))) }
 {
     ask_graph!(session, alloc, graph => {
@@ -27,7 +27,7 @@ pub extern "C" fn nx_edge_count(alloc: Global, session: &mut Session, count: &mu
 #[unsafe(no_mangle)]
 pub extern "C" fn nx_file_count(alloc: Global, session: &mut Session, count: &mut usize) -> i32
     ensures kept { session.new.kept ≡ session.old.kept }
-    ensures count { OfGraph session.old.kept result (λ g.
+    ensures count { AtGraph session.old.kept result (λ g.
         (result ≡ code_of Done) × (count.new ≡ length (files_of g))) }
 {
     ask_graph!(session, alloc, graph => {
@@ -40,7 +40,7 @@ pub extern "C" fn nx_file_count(alloc: Global, session: &mut Session, count: &mu
 #[unsafe(no_mangle)]
 pub extern "C" fn nx_rule_count(alloc: Global, session: &mut Session, count: &mut usize) -> i32
     ensures kept { session.new.kept ≡ session.old.kept }
-    ensures count { OfGraph session.old.kept result (λ g.
+    ensures count { AtGraph session.old.kept result (λ g.
         (result ≡ code_of Done) × (count.new ≡ length (main_rules g))) }
 {
     ask_graph!(session, alloc, graph => {

@@ -9,7 +9,7 @@ use crate::session::Session;
 use crate::session_state::Kept;
 use crate::status::Status;
 use nj_ask::is_set;
-use nj_graph::EdgeNo;
+use nj_graph::{EdgeGraph, EdgeNo};
 use std::alloc::{AllocError, Global};
 
 /// Lists the edges that are to be built again where these files changed, phony edges among them,
@@ -32,7 +32,7 @@ fn dirtied(alloc: Global, kept: &Kept, numbers: &[usize]) -> Result<Page, Status
         (AreRefused kept.now.graph numbers.now) result }
 {
     let (graph, files) = graph_and_files(alloc, kept, numbers)?;
-    let graph = graph.edge_graph();
+    let graph: &EdgeGraph = graph;
     let unknown = flagged(alloc, &kept.unknown, graph.edge_count())?;
     let edges = graph.dirtied_by(alloc, &files, &unknown)?;
     let mark = Vec::new(alloc);

@@ -1,7 +1,7 @@
 //! The files and rules that build statements name.
 
 ghost use Rattle.std.specs.Prelude.{◌≡◌, List, length, slice_get};
-ghost use Rattle.nj_c.specs.Cited.{edge_at, inputs_of, kind_at, outputs_of, ReadStatement, detail_at, edges_of, files_of, rule_name_at, IsGraphOf, Done, GivesFile, GivesText, KeptUnlessDone, OfEdge, bool_code, kind_code, code_of};
+ghost use Rattle.nj_c.specs.Cited.{edge_at, inputs_of, kind_at, outputs_of, ReadStatement, detail_at, edges_of, files_of, rule_name_at, IsGraphOf, Done, GivesFile, GivesText, KeptUnlessDone, AtEdge, bool_code, kind_code, code_of};
 
 use crate::asking::ask_edge;
 use crate::buffers::copy_text;
@@ -20,7 +20,7 @@ pub extern "C" fn nx_output(
     file: &mut usize,
 ) -> i32
     ensures kept { session.new.kept ≡ session.old.kept }
-    ensures file { OfEdge session.old.kept edge result (λ g.
+    ensures file { AtEdge session.old.kept edge result (λ g.
         GivesFile (files_of g)
         (slice_get (outputs_of (edge_at (edges_of g) edge)) index) result file.new) }
 {
@@ -39,7 +39,7 @@ pub extern "C" fn nx_input(
     kind: &mut i32,
 ) -> i32
     ensures kept { session.new.kept ≡ session.old.kept }
-    ensures file { OfEdge session.old.kept edge result (λ g.
+    ensures file { AtEdge session.old.kept edge result (λ g.
         (GivesFile (files_of g)
         (slice_get (inputs_of (edge_at (edges_of g) edge)) index) result file.new)
         × (kind.new ≡ kind_code (kind_at (edge_at (edges_of g) edge) index))) }
@@ -60,7 +60,7 @@ pub extern "C" fn nx_validation(
     file: &mut usize,
 ) -> i32
     ensures kept { session.new.kept ≡ session.old.kept }
-    ensures file { OfEdge session.old.kept edge result (λ g.
+    ensures file { AtEdge session.old.kept edge result (λ g.
         GivesFile (files_of g)
         (slice_get (edge_at (edges_of g) edge).validations index) result file.new) }
 {
@@ -76,7 +76,7 @@ pub extern "C" fn nx_explicit_outputs(
     count: &mut usize,
 ) -> i32
     ensures kept { session.new.kept ≡ session.old.kept }
-    ensures count { OfEdge session.old.kept edge result (λ g.
+    ensures count { AtEdge session.old.kept edge result (λ g.
         (result ≡ code_of Done) ×
         (count.new ≡ length (edge_at (edges_of g) edge).explicit_outputs)) }
 {
@@ -95,7 +95,7 @@ pub extern "C" fn nx_explicit_inputs(
     count: &mut usize,
 ) -> i32
     ensures kept { session.new.kept ≡ session.old.kept }
-    ensures count { OfEdge session.old.kept edge result (λ g.
+    ensures count { AtEdge session.old.kept edge result (λ g.
         (result ≡ code_of Done) ×
         (count.new ≡ length (edge_at (edges_of g) edge).explicit_inputs)) }
 {
@@ -114,7 +114,7 @@ pub extern "C" fn nx_is_phony(
     phony: &mut i32,
 ) -> i32
     ensures kept { session.new.kept ≡ session.old.kept }
-    ensures phony { OfEdge session.old.kept edge result (λ g.
+    ensures phony { AtEdge session.old.kept edge result (λ g.
         (result ≡ code_of Done) ×
         (phony.new ≡ bool_code (edge_at (edges_of g) edge).is_phony)) }
 {
@@ -134,7 +134,7 @@ pub extern "C" fn nx_rule_name(
     needed: &mut usize,
 ) -> i32
     ensures kept { session.new.kept ≡ session.old.kept }
-    ensures name { OfEdge session.old.kept edge result (λ g.
+    ensures name { AtEdge session.old.kept edge result (λ g.
         (entries : List ReadStatement) → IsGraphOf g entries
         → GivesText (rule_name_at entries edge) buffer.old buffer.new needed.new result) }
     ensures buffer { KeptUnlessDone buffer.old buffer.new result }
@@ -152,7 +152,7 @@ pub extern "C" fn nx_edge_place(
     column: &mut usize,
 ) -> i32
     ensures kept { session.new.kept ≡ session.old.kept }
-    ensures place { OfEdge session.old.kept edge result (λ g.
+    ensures place { AtEdge session.old.kept edge result (λ g.
         (result ≡ code_of Done) ×
         (record { line = line.new; column = column.new }
         ≡ (detail_at g.built.details edge).spot)) }
@@ -175,7 +175,7 @@ pub extern "C" fn nx_edge_file(
     needed: &mut usize,
 ) -> i32
     ensures kept { session.new.kept ≡ session.old.kept }
-    ensures file { OfEdge session.old.kept edge result (λ g.
+    ensures file { AtEdge session.old.kept edge result (λ g.
         GivesText
         (detail_at g.built.details edge).file buffer.old buffer.new needed.new result) }
     ensures buffer { KeptUnlessDone buffer.old buffer.new result }

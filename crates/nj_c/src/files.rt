@@ -1,7 +1,7 @@
 //! Paths, and the edges that make or use files.
 
 ghost use Rattle.std.specs.Prelude.{◌≡◌, ℕ, List, Some, position, slice_get, bytes_eq};
-ghost use Rattle.nj_c.specs.Cited.{maker_of, users_of, validation_users_of, path_at, edges_of, files_of, GivesItem, GivesText, KeptUnlessDone, OfFile, OfGraph};
+ghost use Rattle.nj_c.specs.Cited.{maker_of, users_of, validation_users_of, path_at, edges_of, files_of, GivesItem, GivesText, KeptUnlessDone, AtFile, AtGraph};
 
 use crate::asking::{ask_file, ask_graph};
 use crate::buffers::copy_text;
@@ -20,7 +20,7 @@ pub extern "C" fn nx_path(
     needed: &mut usize,
 ) -> i32
     ensures kept { session.new.kept ≡ session.old.kept }
-    ensures path { OfFile session.old.kept file result (λ g.
+    ensures path { AtFile session.old.kept file result (λ g.
         (path : List ℕ)
         → slice_get (files_of g) file ≡ Some path
         → GivesText path buffer.old buffer.new needed.new result) }
@@ -38,7 +38,7 @@ pub extern "C" fn nx_file_named(
     file: &mut usize,
 ) -> i32
     ensures kept { session.new.kept ≡ session.old.kept }
-    ensures file { OfGraph session.old.kept result (λ g.
+    ensures file { AtGraph session.old.kept result (λ g.
         GivesItem
         (position (bytes_eq path.now) (files_of g)) result (λ number. file.new ≡ number)) }
 {
@@ -60,7 +60,7 @@ pub extern "C" fn nx_maker(
     edge: &mut usize,
 ) -> i32
     ensures kept { session.new.kept ≡ session.old.kept }
-    ensures edge { OfFile session.old.kept file result (λ g.
+    ensures edge { AtFile session.old.kept file result (λ g.
         GivesItem
         (maker_of (edges_of g) (path_at (files_of g) (record { 0 = file }))) result
         (λ number. edge.new ≡ number)) }
@@ -84,7 +84,7 @@ pub extern "C" fn nx_user(
     edge: &mut usize,
 ) -> i32
     ensures kept { session.new.kept ≡ session.old.kept }
-    ensures edge { OfFile session.old.kept file result (λ g.
+    ensures edge { AtFile session.old.kept file result (λ g.
         GivesItem
         (slice_get (users_of (edges_of g) (path_at (files_of g) (record { 0 = file }))) index)
         result (λ number. edge.new ≡ number)) }
@@ -103,7 +103,7 @@ pub extern "C" fn nx_validation_user(
     edge: &mut usize,
 ) -> i32
     ensures kept { session.new.kept ≡ session.old.kept }
-    ensures edge { OfFile session.old.kept file result (λ g.
+    ensures edge { AtFile session.old.kept file result (λ g.
         GivesItem
         (slice_get (validation_users_of (edges_of g)
         (path_at (files_of g) (record { 0 = file }))) index) result (λ number. edge.new ≡ number)) }

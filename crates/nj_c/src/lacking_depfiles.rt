@@ -50,8 +50,9 @@ fn depfile_at(alloc: Global, graph: &Graph, edge: EdgeNo) -> Result<Option<Vec<u
     ensures { (stated : List ReadStatement) → IsGraphOf graph.now stated
         → IfOk result (λ path. option_map (λ p. p.items) path ≡ depfile_at stated edge.0) }
 {
-    let deps = graph.variable(alloc, edge, b"deps")?;
-    let depfile = graph.variable(alloc, edge, b"depfile")?;
+    let edge = graph.edge_at(edge);
+    let deps = edge.variable(alloc, b"deps")?;
+    let depfile = edge.variable(alloc, b"depfile")?;
     if deps.is_empty() && !depfile.is_empty() {
         return Ok(Some(depfile));
     }

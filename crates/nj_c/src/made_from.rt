@@ -1,7 +1,7 @@
 //! From which files the manifest is made.
 
 ghost use Rattle.std.specs.Prelude.{◌≡◌, map, IfErr, IfOk, Some};
-ghost use Rattle.nj_c.specs.Cited.{AreRefused, bool_code, OfGraph, filled, TellMadeFrom, FlagsKeptUnlessDone, GivesMadeFrom, AreKnown, code_of};
+ghost use Rattle.nj_c.specs.Cited.{AreRefused, bool_code, AtGraph, filled, TellMadeFrom, FlagsKeptUnlessDone, GivesMadeFrom, AreKnown, code_of};
 
 use crate::asking::ask;
 use crate::pages::known_files;
@@ -25,7 +25,7 @@ pub extern "C" fn nx_made_from(
     flags: &mut [i32],
 ) -> i32
     ensures kept { session.new.kept ≡ session.old.kept }
-    ensures flags { OfGraph session.old.kept result (λ g.
+    ensures flags { AtGraph session.old.kept result (λ g.
         GivesMadeFrom g files.now flags.old flags.new result) }
     ensures buffer { FlagsKeptUnlessDone flags.old flags.new result }
 {

@@ -1,7 +1,7 @@
 //! The files that were opened.
 
 ghost use Rattle.std.specs.Prelude.{◌≡◌, map};
-ghost use Rattle.nj_c.specs.Cited.{GivesTextAt, KeptUnlessDone, OfGraph, code_of};
+ghost use Rattle.nj_c.specs.Cited.{GivesTextAt, KeptUnlessDone, AtGraph, code_of};
 
 use crate::asking::ask_graph;
 use crate::buffers::copy_text;
@@ -22,7 +22,7 @@ pub extern "C" fn nx_opened(
     needed: &mut usize,
 ) -> i32
     ensures kept { session.new.kept ≡ session.old.kept }
-    ensures path { OfGraph session.old.kept result (λ g. GivesTextAt
+    ensures path { AtGraph session.old.kept result (λ g. GivesTextAt
         (map (λ o. o.path) g.origins.openings) index buffer.old buffer.new needed.new result) }
     ensures buffer { KeptUnlessDone buffer.old buffer.new result }
 {

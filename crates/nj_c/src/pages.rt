@@ -127,7 +127,7 @@ fn affected(alloc: Global, kept: &Kept, numbers: &[usize]) -> Result<Page, Statu
         (AreRefused kept.now.graph numbers.now) result }
 {
     let (graph, files) = graph_and_files(alloc, kept, numbers)?;
-    let edges = graph.edge_graph().affected_by(alloc, &files)?;
+    let edges = graph.affected_by(alloc, &files)?;
     let mark = Vec::new(alloc);
     Ok(Page { edges, mark })
 }
@@ -138,7 +138,7 @@ fn needed(alloc: Global, kept: &Kept, numbers: &[usize]) -> Result<Page, Status>
         (AreRefused kept.now.graph numbers.now) result }
 {
     let (graph, files) = graph_and_files(alloc, kept, numbers)?;
-    let edges = graph.edge_graph().needed_by(alloc, &files)?;
+    let edges = graph.needed_by(alloc, &files)?;
     let mark = Vec::new(alloc);
     Ok(Page { edges, mark })
 }
@@ -197,7 +197,7 @@ fn page_of(
 {
     let (graph, targets) = graph_and_files(alloc, kept, numbers)?;
     let mark = read_mark(alloc, text)?;
-    page_after(alloc, graph.edge_graph(), &targets, &mark, take)
+    page_after(alloc, graph, &targets, &mark, take)
 }
 
 // The mark that a text gives; the empty text is the start.

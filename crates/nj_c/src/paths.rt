@@ -1,7 +1,7 @@
 //! Chains of inputs by which files need others.
 
 ghost use Rattle.std.specs.Prelude.{◌≡◌, ◌<◌, length, map, min, nat_eq, not};
-ghost use Rattle.nj_c.specs.Cited.{files_of, IfNumber, OfGraph, filled, numbered_step, GivesPath, StepsKeptUnlessDone, code_of};
+ghost use Rattle.nj_c.specs.Cited.{files_of, IfNumber, AtGraph, filled, numbered_step, GivesPath, StepsKeptUnlessDone, code_of};
 
 use crate::asking::ask_graph;
 use crate::items::step_kind_number;
@@ -39,14 +39,13 @@ pub extern "C" fn nx_path_between(
     count: &mut usize,
 ) -> i32
     ensures kept { session.new.kept ≡ session.old.kept }
-    ensures path { OfGraph session.old.kept result (λ g.
+    ensures path { AtGraph session.old.kept result (λ g.
         IfNumber from (length (files_of g)) result (IfNumber to (length (files_of g)) result
         (GivesPath g.built.graph (not (nat_eq with_validations 0)) from to
         steps.old steps.new count.new result))) }
     ensures buffer { StepsKeptUnlessDone steps.old steps.new result }
 {
     ask_graph!(session, alloc, graph => if from < graph.file_count() && to < graph.file_count() {
-        let graph = graph.edge_graph();
         let (from, to) = (FileNo(from), FileNo(to));
         give_path(alloc, graph, from, to, with_validations != 0, steps, count)
     } else {

@@ -1,7 +1,7 @@
 //! The defaults, the roots, and the names of rules.
 
 ghost use Rattle.std.specs.Prelude.{◌≡◌, map, slice_get};
-ghost use Rattle.nj_c.specs.Cited.{roots_of, defaults_in_force, edges_of, files_of, main_rules, GivesFile, GivesTextAt, KeptUnlessDone, OfGraph, code_of};
+ghost use Rattle.nj_c.specs.Cited.{roots_of, defaults_in_force, edges_of, files_of, main_rules, GivesFile, GivesTextAt, KeptUnlessDone, AtGraph, code_of};
 
 use crate::asking::ask_graph;
 use crate::buffers::copy_text;
@@ -21,7 +21,7 @@ pub extern "C" fn nx_default(
     file: &mut usize,
 ) -> i32
     ensures kept { session.new.kept ≡ session.old.kept }
-    ensures file { OfGraph session.old.kept result (λ g.
+    ensures file { AtGraph session.old.kept result (λ g.
         GivesFile (files_of g)
         (slice_get (defaults_in_force g.built.defaults (edges_of g)) index) result file.new) }
 {
@@ -37,7 +37,7 @@ pub extern "C" fn nx_root(
     file: &mut usize,
 ) -> i32
     ensures kept { session.new.kept ≡ session.old.kept }
-    ensures file { OfGraph session.old.kept result (λ g.
+    ensures file { AtGraph session.old.kept result (λ g.
         GivesFile (files_of g)
         (slice_get (roots_of (edges_of g)) index) result file.new) }
 {
@@ -55,7 +55,7 @@ pub extern "C" fn nx_rule_name_at(
     needed: &mut usize,
 ) -> i32
     ensures kept { session.new.kept ≡ session.old.kept }
-    ensures name { OfGraph session.old.kept result (λ g.
+    ensures name { AtGraph session.old.kept result (λ g.
         GivesTextAt (map (λ r. r.name) (main_rules g)) index
         buffer.old buffer.new needed.new result) }
     ensures buffer { KeptUnlessDone buffer.old buffer.new result }

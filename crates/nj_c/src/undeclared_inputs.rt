@@ -1,7 +1,7 @@
 //! Inputs that deps logs name for edges, and that these do not declare.
 
 ghost use Rattle.std.specs.Prelude.{◌≡◌, ◌⊎◌, map};
-ghost use Rattle.nj_c.specs.Cited.{OfGraph, OutOfMemory, code_of, filled, numbered_input, GivesInputs, GivesUndeclared, InputsKeptUnlessDone};
+ghost use Rattle.nj_c.specs.Cited.{AtGraph, OutOfMemory, code_of, filled, numbered_input, GivesInputs, GivesUndeclared, InputsKeptUnlessDone};
 
 use crate::asking::ask;
 use crate::session::Session;
@@ -37,7 +37,7 @@ pub extern "C" fn nx_undeclared(
     count: &mut usize,
 ) -> i32
     ensures kept { session.new.kept ≡ session.old.kept }
-    ensures inputs { OfGraph session.old.kept result (λ g.
+    ensures inputs { AtGraph session.old.kept result (λ g.
         GivesUndeclared g log.now inputs.old inputs.new count.new result) }
     ensures buffer { InputsKeptUnlessDone inputs.old inputs.new result }
 {

@@ -1,7 +1,7 @@
 //! The values of variables for edges.
 
 ghost use Rattle.std.specs.Prelude.{◌≡◌, ◌<◌, length, codes};
-ghost use Rattle.nj_c.specs.Cited.{edges_of, OutOfMemory, GivesValue, KeptUnlessDone, OfEdge, code_of};
+ghost use Rattle.nj_c.specs.Cited.{edges_of, OutOfMemory, GivesValue, KeptUnlessDone, AtEdge, code_of};
 
 use crate::asking::ask_edge;
 use crate::buffers::copy_text;
@@ -23,7 +23,7 @@ pub extern "C" fn nx_variable(
     needed: &mut usize,
 ) -> i32
     ensures kept { session.new.kept ≡ session.old.kept }
-    ensures value { OfEdge session.old.kept edge result (λ g.
+    ensures value { AtEdge session.old.kept edge result (λ g.
         GivesValue g edge name.now buffer.old buffer.new needed.old needed.new result) }
     ensures buffer { KeptUnlessDone buffer.old buffer.new result }
 {
@@ -41,7 +41,7 @@ pub extern "C" fn nx_command(
     needed: &mut usize,
 ) -> i32
     ensures kept { session.new.kept ≡ session.old.kept }
-    ensures value { OfEdge session.old.kept edge result (λ g.
+    ensures value { AtEdge session.old.kept edge result (λ g.
         GivesValue g edge (codes "command") buffer.old buffer.new needed.old needed.new result) }
     ensures buffer { KeptUnlessDone buffer.old buffer.new result }
 {
@@ -61,7 +61,7 @@ fn value(
         needed.old needed.new (code_of result) }
     ensures buffer { KeptUnlessDone buffer.old buffer.new (code_of result) }
 {
-    match graph.variable(alloc, edge, name) {
+    match graph.edge_at(edge).variable(alloc, name) {
         Ok(text) => copy_text(&text, buffer, needed),
         Err(_) => Status::OutOfMemory,
     }

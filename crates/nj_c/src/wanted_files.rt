@@ -87,7 +87,7 @@ fn lacking_dyndeps(alloc: Global, files: &SuppliedFiles, graph: &Graph) -> Resul
 {
     let mut lacking = Files::new(alloc, files.hash_keys());
     'edges: for number in 0..graph.edge_count() {
-        if let Some(path) = graph.dyndep(EdgeNo(number)) {
+        if let Some(path) = graph.edge_at(EdgeNo(number)).dyndep() {
             name_if_lacking(files, path, &mut lacking)?;
         }
     }

@@ -35,7 +35,7 @@ use Rattle.nj_requests.specs.Actions as ask
 use Rattle.nj_args.specs.RunMarks.{run_mark_text}
 use Rattle.nj_needs.specs.PageWalks.{written, left_after, StopsAt}
 use Rattle.nj_tools.specs.CommandStrings.{command_lines, own_commands_in, own_commands}
-use Rattle.nj_tools.specs.Inside.Collections.{single}
+use Rattle.nj_tools.specs.Inside.Seen.{single}
 use Rattle.nj_tools.specs.Sinks.{SinkState, Takes}
 use Rattle.nj_tools.specs.Compdb.{compdb_text, text_fault, unheld_edge, WritesCompdb}
 use Rattle.nj_tools.specs.Listings.{inputs_text}

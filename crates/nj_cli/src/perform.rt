@@ -74,7 +74,7 @@ fn run_commands<O: Sink>(
         (O.state out.old) (O.state out.new) result) }
 {
     let targets = targets_of(alloc, graph, words, validations)?;
-    let mut needs = Needs::resume(alloc, graph.edge_graph(), &targets, start)?;
+    let mut needs = Needs::resume(alloc, graph, &targets, start)?;
     let mark = write_commands(alloc, graph, &mut needs, take, out)?;
     Ok(mark)
 }

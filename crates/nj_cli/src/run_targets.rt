@@ -27,7 +27,7 @@ pub(crate) fn targets_of(
 {
     let targets = graph.pick_targets(alloc, words)?;
     if validations {
-        return Ok(grow_targets(alloc, graph.edge_graph(), &targets)?);
+        return Ok(grow_targets(alloc, graph, &targets)?);
     }
     Ok(targets)
 }

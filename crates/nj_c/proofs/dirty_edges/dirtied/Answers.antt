@@ -17,7 +17,7 @@ returns c =
     let unknown : given ≡ unknown_edges c.args.kept.now g = search rules in
     let dirty = same-files (λ e fs. (edge : ℕ)
     → Contains edges edge ↔ IsDirty e.edges (map (path_at e.files) fs) given edge)
-    c.edge_graph-graph.ensures are found.ensures.dirty in (
+    c.deref-graph.ensures are found.ensures.dirty in (
       g,
       c.in_ok-graph.ensures.found.0,
       known,

@@ -11,10 +11,10 @@ returns c =
     let numbers = c.args.numbers.now in let found = c.in_ok-edges in
     let edges = numbers_of found.edges.items in
     let known : AreKnown c.in_ok-graph.graph.now numbers = search rules in
-    let are : c.deref.result.now ≡ numbered numbers = search rules in
+    let are : c.deref-2.result.now ≡ numbered numbers = search rules in
     let reached = same-files (λ e fs. (edge : ℕ)
     → Contains edges edge ↔ IsAffected e.edges (map (path_at e.files) fs) edge)
-    c.edge_graph.ensures are found.ensures.affected in (
+    c.deref.ensures are found.ensures.affected in (
       c.in_ok-graph.graph.now,
       c.in_ok-graph.ensures.found.0,
       known,

@@ -9,9 +9,9 @@ pub returns : goal.returns
 returns c =
     let numbers = c.args.numbers.now in let found = c.in_ok-edges in
     let known : AreKnown c.in_ok-graph.graph.now numbers = search rules in
-    let are : c.deref.result.now ≡ numbered numbers = search rules in
+    let are : c.deref-2.result.now ≡ numbered numbers = search rules in
     let list = same-files (λ e fs. IsNeededList e.edges (map (path_at e.files) fs)
-    (numbers_of found.edges.items)) c.edge_graph.ensures are record {
+    (numbers_of found.edges.items)) c.deref.ensures are record {
       are = found.ensures.needed;
       each_once = found.ensures.each_once;
       nearest_first = found.ensures.nearest_first;

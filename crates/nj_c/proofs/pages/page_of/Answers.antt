@@ -19,8 +19,8 @@ pub returns : goal.returns
 returns c =
     let g = c.in_ok-graph.graph.now in let targets = c.args.numbers.now in
     let known : AreKnown g targets = search rules in
-    let are : c.deref.result.now ≡ numbered targets = search rules in
-    page-found c.args.kept.now g c.edge_graph.result.now targets c.args.text.now _ c.in_ok-mark.mark
+    let are : c.deref-2.result.now ≡ numbered targets = search rules in
+    page-found c.args.kept.now g c.deref.result.now targets c.args.text.now _ c.in_ok-mark.mark
     c.args.take
     c.page_after.result (search rules) (search rules) known are c.in_ok-mark.ensures.mark
     c.page_after.ensures.page c.page_after.ensures.refused

@@ -15,10 +15,11 @@ returns-then-validations-clause-picks c = λ entries is.
     let picked = c.in_ok-targets.ensures.picks in
     let items = c.in_ok-grow_targets.field-0.items in
     let of_graph = subst (λ (h : EdgeGraph). AreFiles h.files items
-    (grown_targets h.edges (map (path_at h.files) c.deref.result.now))) c.edge_graph.ensures
+    (grown_targets h.edges (map (path_at h.files) c.deref-then-validations.result.now))) c.deref.ensures
     c.in_ok-grow_targets.ensures.grown in
     let grown = subst (λ (ns : List FileNo). AreFiles (files_of g) items
-    (grown_targets (edges_of g) (map (path_at (files_of g)) ns))) c.deref.ensures.value of_graph in
+    (grown_targets (edges_of g) (map (path_at (files_of g)) ns))) c.deref-then-validations.ensures.value
+    of_graph in
     let all = grown-are entries g is picked.0 c.in_ok-targets.targets.items items picked.2 grown in
     targets-picked entries g is c.args.validations (map string_bytes c.args.words.now) picked.0 items picked.1
     (subst (λ (b : Bool). AreFiles (files_of g) items (with_validations b (edges_by_path entries) picked.0))
