@@ -1,6 +1,7 @@
 #!/usr/bin/env python3
 """Writes docs/REFERENCE.md: each public call of the libraries with its documentation, its signature,
-its proved clauses, and the edits and tests that show that these say something.
+its proved clauses, and the edits and tests that show that these say something. The calls that the
+crate for clients re-exports come first, and each call once.
 
     reference.py            writes the page
     reference.py --check    ends with status 1 if the page is out of date
@@ -30,6 +31,9 @@ HEAD = re.compile(r'^( *)pub (?:extern "C" |unsafe |const )*fn (\w+)', re.M)
 IMPL = re.compile(r"^impl\b(?:<[^{]*?>)? (?:[\w:<>, ']+ for )?(\w+)[^{]*\{", re.M)
 TYPE = re.compile(r"^pub (struct|enum|trait) (\w+)", re.M)
 CLAUSE = re.compile(r"^ *(requires|ensures)(?: (\w+))? \{", re.M)
+# The crate that clients name, and the crates whose calls it re-exports, in the order of the page.
+CLIENTS = "ninja"
+REEXPORTED = ("nj_graph", "nj_needs", "nj_tools", "nj_disk", "nj_deps")
 IMPORT = re.compile(r"ghost use Rattle\.((?:nj_|affected|audit|cache)\w*)\.[\w.]+\.\{([^}]*)\}")
 
 
@@ -87,6 +91,27 @@ def end_of(text, start, indent):
     """Where the function ends that begins here."""
     closing = re.compile(rf"^{indent}}}$|^{indent}\{{\}}$", re.M).search(text, start)
     return closing.end() if closing else len(text)
+
+
+def reexported():
+    """The names that the crate for clients re-exports."""
+    uses = re.findall(r"^pub use nj_\w+::\{(.*?)\};", root_of(CLIENTS).read_text(), re.M | re.S)
+    return set(filter(None, re.split(r"[,\s]+", " ".join(uses))))
+
+
+def for_clients(found):
+    """What clients name of these calls and types, which no other crate has then, and first the crate
+    that re-exports them."""
+    names, calls, types = reexported(), [], {}
+    for crate in (*REEXPORTED, *(it for it in found if it not in REEXPORTED)):
+        own_calls, own_types = found[crate]
+        calls += [call for call in own_calls if (call.owner or call.name) in names]
+        types |= {name: text for name, text in own_types.items() if name in names}
+        found[crate] = (
+            [call for call in own_calls if (call.owner or call.name) not in names],
+            {name: text for name, text in own_types.items() if name not in names},
+        )
+    return {CLIENTS: (calls, types)} | {it: had for it, had in found.items() if it != CLIENTS}
 
 
 def calls_in(crate, file, public):
@@ -178,6 +203,7 @@ def section(call, makers):
 
 def library(crate, calls, types, texts, counts):
     about = f" [README.md](../crates/{crate}/README.md) names the definition to read first."
+    about = " [LIBRARY.md](LIBRARY.md) shows how they are used." if crate == CLIENTS else about
     has_page = (CRATES / crate / "README.md").is_file()
     yield from [f"## `{crate}`", "", f"{first_sentence(root_of(crate), '//!')}.{about * has_page}", ""]
     for owner in dict.fromkeys(["", *types, *(call.owner for call in calls)]):
@@ -200,14 +226,16 @@ def page():
             types = dict(it for file in files for it in types_in(file, public))
             add_edits(crate, calls)
             found[crate] = calls, types
+    found = for_clients(found)
     counts = Counter(call.name for calls, _ in found.values() for call in calls)
     texts = callers()
     rows = [
         "# Reference",
         "",
-        "The public calls of the libraries, from the top down, as `scripts/reference.py` reads them from",
-        "the sources: do not edit this page. [ARCHITECTURE.md](ARCHITECTURE.md#how-to-read-a-contract)",
-        "shows how to read a contract. *Proved* names the clauses of a call's contract, each with the",
+        "The public calls of the libraries, as `scripts/reference.py` reads them from the sources: do not",
+        "edit this page. Those that a client names by the crate `ninja` come first, then the others, from",
+        "the top down. [ARCHITECTURE.md](ARCHITECTURE.md#how-to-read-a-contract) shows how to read a",
+        "contract. *Proved* names the clauses of a call's contract, each with the",
         "definitions that it cites (in `specs/`); *Requires* names the caller's duties; *Must fail* names",
         "the wrong bodies that the gate tries, and that the proof refuses.",
         "",

@@ -2,8 +2,8 @@
 
 Each block has to be consecutive lines of one of its files, indented or not, without the lines that
 are marked as hidden. The blocks of README.md are from its `main.rt`, and the first one of
-docs/LIBRARY.md is the whole of it. The crates that docs/LIBRARY.md copies have to be those that the
-client's calls need, by crates.txt.
+docs/LIBRARY.md is the whole of it. The line that docs/LIBRARY.md adds to crates.txt has to name what
+library_example names.
 """
 
 import re
@@ -14,8 +14,6 @@ from lib.programs import CRATES, ROOT
 
 PAGE = ROOT / "docs/LIBRARY.md"
 SOURCES = CRATES / "library_example/src"
-# the libraries that a client may name in its own crates.txt
-NAMED = ["nj_graph", "nj_needs", "nj_tools", "nj_disk"]
 HIDDEN = "// not in README.md"
 
 
@@ -39,21 +37,6 @@ def has(source, block):
     return any(
         plain("\n".join(lines[at : at + count])) == block for at in range(len(lines) - count + 1)
     )
-
-
-def needed(names):
-    """These crates of the repository and the crates below them."""
-    uses = {}
-    for line in (ROOT / "crates.txt").read_text().splitlines():
-        name, _, rest = line.partition(":")
-        uses[name] = rest.split()
-    found, left = set(), list(names)
-    while left:
-        name = left.pop()
-        if name in uses and name not in found:
-            found.add(name)
-            left += uses[name]
-    return found
 
 
 @check
@@ -80,6 +63,7 @@ def blocks_of_library():
 
 
 @check
-def crates_to_copy():
-    copied = re.search(r"^for name in ([^;]*);", PAGE.read_text().replace("\\\n", ""), re.M)
-    yield from expect("the crates that a client has to copy", set(copied[1].split()), needed(NAMED))
+def crates_to_name():
+    named = re.search(r"^library_example: (.*)$", (ROOT / "crates.txt").read_text(), re.M)
+    added = re.search(r"^echo 'my_program: (.*)' >>", PAGE.read_text(), re.M)
+    yield from expect("the crates that a client has to name", added[1], named[1])

@@ -1,11 +1,9 @@
-//! Writes which edge makes `greet.c`, and the outputs made from it.
+//! Writes the outputs that are made from `greet.c`.
 #![tactic(auto)]
 
 mod snippets; // not in README.md
 
-use nj_disk::DiskFiles;
-use nj_graph::{Graph, load, pick_target};
-use nj_tools::{Error, WriteSink, write_query};
+use ninja::{DiskFiles, Error, Graph, WriteSink, load, write_whole};
 use std::io;
 use std::process::ExitCode;
 
@@ -26,8 +24,14 @@ fn run(rt: HostRuntime) -> Result<(), Error> {
 }
 
 fn describe(rt: HostRuntime, graph: &Graph) -> Result<(), Error> {
-    let file = pick_target(rt.alloc(), graph, b"greet.c")?;
-    let mut out = WriteSink::new(rt.stdout());
-    write_query(rt.alloc(), graph, &[file], &mut out)?;
+    let mut text = Vec::new(rt.alloc());
+    let file = graph.target(rt.alloc(), b"greet.c")?;
+    for user in file.users() {
+        for output in user.outputs() {
+            text.extend_from_slice(output.path())?;
+            text.push(b'\n')?;
+        }
+    }
+    write_whole(&mut WriteSink::new(rt.stdout()), &text)?;
     Ok(())
 }

@@ -4,10 +4,7 @@
 
 mod snippets;
 
-use nj_disk::DiskFiles;
-use nj_graph::{FileNo, Graph, Loaded, pick_target};
-use nj_needs::Mark;
-use nj_tools::{Error, WriteSink, write_whole};
+use ninja::{DiskFiles, Error, FileList, Graph, Loaded, Mark, WriteSink, write_whole};
 use snippets::changes::append_affected;
 use snippets::declared::{append_build_folders, append_pools, append_rules};
 use snippets::dyndeps::load_joined;
@@ -56,7 +53,7 @@ fn show_files(rt: HostRuntime) -> Result<(), Error> {
 /// Shows a graph.
 fn show_graph(rt: HostRuntime, graph: &Graph) -> Result<(), Error> {
     show_facts(rt, graph)?;
-    show_target(rt, graph, pick_target(rt.alloc(), graph, b"hello")?)
+    show_targets(rt, &graph.targets(rt.alloc(), &["hello"])?)
 }
 
 /// Writes the contents of a graph, and the declarations of its files.
@@ -67,7 +64,7 @@ fn show_facts(rt: HostRuntime, graph: &Graph) -> Result<(), Error> {
 }
 
 /// Appends this.
-fn append_facts(alloc: Global, text: &mut Vec<u8>, graph: &Graph) -> Result<(), nj_graph::Error> {
+fn append_facts(alloc: Global, text: &mut Vec<u8>, graph: &Graph) -> Result<(), Error> {
     append_edges_and_targets(alloc, text, graph)?;
     append_variables(alloc, text, graph)?;
     append_declared(alloc, text, graph)?;
@@ -75,11 +72,7 @@ fn append_facts(alloc: Global, text: &mut Vec<u8>, graph: &Graph) -> Result<(), 
 }
 
 /// Appends the edges, files and targets of a graph.
-fn append_edges_and_targets(
-    alloc: Global,
-    text: &mut Vec<u8>,
-    graph: &Graph,
-) -> Result<(), nj_graph::Error> {
+fn append_edges_and_targets(alloc: Global, text: &mut Vec<u8>, graph: &Graph) -> Result<(), Error> {
     append_line(text, &[b"== edges and files"])?;
     append_sources(text, graph)?;
     append_edges(alloc, text, graph)?;
@@ -106,34 +99,28 @@ fn append_declared(alloc: Global, text: &mut Vec<u8>, graph: &Graph) -> Result<(
     append_build_folders(text, graph)
 }
 
-/// Writes the order of the edges that a target needs, its commands page by page, and lists.
-fn show_target(rt: HostRuntime, graph: &Graph, target: FileNo) -> Result<(), Error> {
-    show_order(rt, graph, target)?;
-    show_page(rt, graph, target, "start")?;
-    show_page(rt, graph, target, "0.1")?;
+/// Writes the order of the edges that targets need, their commands page by page, and lists.
+fn show_targets(rt: HostRuntime, targets: &FileList<'_>) -> Result<(), Error> {
+    show_order(rt, targets)?;
+    show_page(rt, targets, "start")?;
+    show_page(rt, targets, "0.1")?;
     write_text(rt, b"== lists\n")?;
-    write_lists(rt.alloc(), graph, target, &mut WriteSink::new(rt.stdout()))?;
+    write_lists(rt.alloc(), targets, &mut WriteSink::new(rt.stdout()))?;
     Ok(())
 }
 
-/// Writes the order of the edges that a target needs.
-fn show_order(rt: HostRuntime, graph: &Graph, target: FileNo) -> Result<(), Error> {
+/// Writes the order of the edges that targets need.
+fn show_order(rt: HostRuntime, targets: &FileList<'_>) -> Result<(), Error> {
     write_text(rt, b"== a walk\n")?;
     let mut text = Vec::new(rt.alloc());
-    append_order(rt.alloc(), &mut text, graph, target)?;
+    append_order(rt.alloc(), &mut text, targets)?;
     write_text(rt, &text)
 }
 
 /// Writes a page of commands, and the mark of the next one.
-fn show_page(rt: HostRuntime, graph: &Graph, target: FileNo, mark: &str) -> Result<(), Error> {
+fn show_page(rt: HostRuntime, targets: &FileList<'_>, mark: &str) -> Result<(), Error> {
     let mark = Mark::read(rt.alloc(), mark)?;
-    let next = write_page(
-        rt.alloc(),
-        graph,
-        target,
-        &mark,
-        &mut WriteSink::new(rt.stdout()),
-    )?;
+    let next = write_page(rt.alloc(), targets, &mark, &mut WriteSink::new(rt.stdout()))?;
     show_mark(rt, next.as_ref())
 }
 
@@ -151,7 +138,7 @@ fn show_joined_files(rt: HostRuntime) -> Result<(), Error> {
 }
 
 /// The files of the working directory alone, and the discoveries of their dyndep files.
-fn load_joined_folder(rt: HostRuntime) -> Result<Loaded, nj_graph::Error> {
+fn load_joined_folder(rt: HostRuntime) -> Result<Loaded, Error> {
     let source = DiskFiles::new(rt, rt.alloc(), None)?;
     let mut files = FolderFiles { source };
     load_joined(rt.alloc(), &mut files, "build.ninja")
@@ -217,6 +204,6 @@ fn ask(alloc: Global, manifest: &[u8], word: &[u8]) -> Result<(), Error> {
 
 /// Picks it in a graph.
 fn ask_graph(alloc: Global, graph: &Graph, word: &[u8]) -> Result<(), Error> {
-    pick_target(alloc, graph, word)?;
+    graph.target(alloc, word)?;
     Ok(())
 }

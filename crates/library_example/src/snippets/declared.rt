@@ -1,7 +1,7 @@
 //! The declarations of files: rules, pools and variables.
 
 use crate::snippets::lines::append_line;
-use nj_graph::{Graph, Rule, ScopeNo};
+use ninja::{Graph, Rule, ScopeNo};
 use std::alloc::{AllocError, Global};
 
 /// Appends the rules of all scopes, with their lines as they are written.

@@ -1,6 +1,6 @@
 //! The discoveries of dyndep files.
 
-use nj_graph::{Error, FileSource, Loaded, join_dyndeps, load};
+use ninja::{Error, FileSource, Loaded, join_dyndeps, load};
 use std::alloc::Global;
 
 /// A main file with all that it includes, and the discoveries of its dyndep files.

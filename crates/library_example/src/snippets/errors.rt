@@ -1,7 +1,6 @@
 //! How errors are shown and distinguished.
 
-use nj_graph::Cause;
-use nj_tools::Error;
+use ninja::{Cause, Error};
 use std::alloc::{AllocError, Global};
 
 /// The line of an error for the log of a program `indexer`. Names are in it verbatim, whether they

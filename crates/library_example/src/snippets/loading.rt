@@ -1,7 +1,6 @@
 //! Files of a run, read into their graph.
 
-use nj_disk::DiskFiles;
-use nj_graph::{Error, Loaded, MemoryFiles, load};
+use ninja::{DiskFiles, Error, Loaded, MemoryFiles, load};
 use std::alloc::Global;
 
 /// `build.ninja` of the working directory, with all that it includes.

@@ -2,7 +2,7 @@
 
 ghost use Rattle.std.specs.Prelude.{None};
 
-use nj_graph::{FileSource, HashKeys, SourceFault};
+use ninja::{FileSource, HashKeys, SourceFault};
 use std::alloc::Global;
 
 /// The files of a source that are in the working directory or below it, by their paths alone: at

@@ -2,7 +2,7 @@
 
 use crate::snippets::edges::append_inputs;
 use crate::snippets::lines::append_line;
-use nj_graph::{Error, Graph, pick_target};
+use ninja::{Error, Graph};
 use std::alloc::{AllocError, Global};
 
 /// Appends the inputs of the edge that makes the file of an argument: a path, or `PATH^` for the
@@ -13,18 +13,18 @@ pub fn append_target(
     graph: &Graph,
     word: &[u8],
 ) -> Result<(), Error> {
-    let target = pick_target(alloc, graph, word)?;
-    append_line(text, &[b"target ", graph.path(target)])?;
-    if let Some(edge) = graph.maker(target) {
-        append_inputs(text, graph, edge)?;
+    let target = graph.target(alloc, word)?;
+    append_line(text, &[b"target ", target.path()])?;
+    if let Some(edge) = target.maker() {
+        append_inputs(text, edge)?;
     }
     Ok(())
 }
 
 /// Appends the targets of a run without arguments: those of the `default` lines, or the roots.
 pub fn append_defaults(text: &mut Vec<u8>, graph: &Graph) -> Result<(), AllocError> {
-    for target in graph.defaults() {
-        append_line(text, &[b"default ", graph.path(*target)])?;
+    for target in graph.default_files() {
+        append_line(text, &[b"default ", target.path()])?;
     }
     Ok(())
 }

@@ -1,14 +1,14 @@
 //! The values of variables for an edge.
 
 use crate::snippets::lines::append_line;
-use nj_graph::Graph;
+use ninja::Graph;
 use std::alloc::{AllocError, Global};
 
 /// Appends the commands of all edges, a line each.
 pub fn append_commands(text: &mut Vec<u8>, graph: &Graph) -> Result<(), AllocError> {
-    for edge in graph.edge_numbers() {
-        if !graph.is_phony(edge) {
-            graph.append_variable(text, edge, b"command")?;
+    for edge in graph.edges() {
+        if !edge.is_phony() {
+            edge.append_variable(text, b"command")?;
             text.push(b'\n')?;
         }
     }
@@ -21,9 +21,9 @@ pub fn append_whole_commands(
     text: &mut Vec<u8>,
     graph: &Graph,
 ) -> Result<(), AllocError> {
-    for edge in graph.edge_numbers() {
-        if !graph.variable(alloc, edge, b"rspfile")?.is_empty() {
-            append_line(text, &[&graph.command_with_rsp(alloc, edge)?])?;
+    for edge in graph.edges() {
+        if !edge.variable(alloc, b"rspfile")?.is_empty() {
+            append_line(text, &[&edge.command_with_rsp(alloc)?])?;
         }
     }
     Ok(())
@@ -31,12 +31,12 @@ pub fn append_whole_commands(
 
 /// Appends the pool and the dyndep file of each edge that has one.
 pub fn append_assigned(text: &mut Vec<u8>, graph: &Graph) -> Result<(), AllocError> {
-    for edge in graph.edge_numbers() {
-        if let Some(pool) = graph.pool(edge) {
-            append_line(text, &[graph.rule_name(edge), b" runs in ", pool])?;
+    for edge in graph.edges() {
+        if let Some(pool) = edge.pool() {
+            append_line(text, &[edge.rule_name(), b" runs in ", pool])?;
         }
-        if let Some(file) = graph.dyndep(edge) {
-            append_line(text, &[graph.rule_name(edge), b" is bound to ", file])?;
+        if let Some(file) = edge.dyndep() {
+            append_line(text, &[edge.rule_name(), b" is bound to ", file])?;
         }
     }
     Ok(())
