@@ -1,7 +1,7 @@
 //! The declarations of the files of a run.
 
 use crate::printer::{put_part, put_shown};
-use nj_graph::{EdgeNo, Graph, Rule, ScopeNo};
+use nj_graph::{Graph, Rule, ScopeNo};
 use nj_scope::LateValue;
 use std::alloc::{AllocError, Global};
 
@@ -38,9 +38,8 @@ pub(crate) fn put_edge_rules(
     text: &mut Vec<u8>,
     graph: &Graph,
 ) -> Result<(), AllocError> {
-    for number in 0..graph.edge_count() {
-        let edge = EdgeNo(number);
-        let (rule, scope) = (graph.edge_rule(edge).0, graph.edge_scope(edge).0);
+    for edge in graph.edges() {
+        let (rule, scope) = (edge.rule_number().0, edge.scope().0);
         text.extend_from_slice(format!(in alloc; "{rule} in {scope}\n")?.as_bytes())?;
     }
     Ok(())

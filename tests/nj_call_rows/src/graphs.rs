@@ -1,7 +1,8 @@
 //! Parts of a graph, as text.
 
 use crate::declared::{put_edge_rules, put_rule_lines, put_values, put_written};
-use nj_graph::{EdgeNo, FileNo, Graph, GraphFault, Kind, PlaceRef, RuleNo, pick_target};
+use crate::handles::put_of_handles;
+use nj_graph::{Edge, EdgeNo, FileNo, Graph, GraphFault, Kind, PlaceRef, RuleNo, pick_target};
 use std::alloc::{AllocError, Global};
 
 /// Appends the part of a graph for a row of this kind.
@@ -29,7 +30,7 @@ pub fn put_of_graph(
         "rule-lines" => put_rule_lines(alloc, text, graph),
         "edge-rules" => put_edge_rules(alloc, text, graph),
         "values" => put_values(text, graph, word),
-        _ => text.extend_from_slice(b"no row is of this kind\n"),
+        _ => put_of_handles(alloc, text, graph, kind, word),
     }
 }
 
@@ -177,8 +178,8 @@ fn put_users(
 
 /// Appends the value of a variable for each edge, a line each.
 fn put_variable(text: &mut Vec<u8>, graph: &Graph, name: &[u8]) -> Result<(), AllocError> {
-    for number in 0..graph.edge_count() {
-        graph.append_variable(text, EdgeNo(number), name)?;
+    for edge in graph.edges() {
+        edge.append_variable(text, name)?;
         text.push(b'\n')?;
     }
     Ok(())
@@ -214,11 +215,10 @@ fn put_rules(alloc: Global, text: &mut Vec<u8>, graph: &Graph) -> Result<(), All
 
 /// Appends the pool and the dyndep file of each edge, a line each; `-` is there for none.
 fn put_assigned(text: &mut Vec<u8>, graph: &Graph) -> Result<(), AllocError> {
-    for number in 0..graph.edge_count() {
-        let edge = EdgeNo(number);
-        text.extend_from_slice(graph.pool(edge).unwrap_or(b"-".as_slice()))?;
+    for edge in graph.edges() {
+        text.extend_from_slice(edge.pool().unwrap_or(b"-".as_slice()))?;
         text.push(b' ')?;
-        text.extend_from_slice(graph.dyndep(edge).unwrap_or(b"-".as_slice()))?;
+        text.extend_from_slice(edge.dyndep().unwrap_or(b"-".as_slice()))?;
         text.push(b'\n')?;
     }
     Ok(())
@@ -261,21 +261,20 @@ fn put_openings(alloc: Global, text: &mut Vec<u8>, graph: &Graph) -> Result<(), 
 
 /// Appends the bindings of each edge's block, a line each.
 fn put_blocks(text: &mut Vec<u8>, graph: &Graph) -> Result<(), AllocError> {
-    for number in 0..graph.edge_count() {
-        put_block(text, graph, EdgeNo(number))?;
+    for edge in graph.edges() {
+        put_block(text, edge)?;
         text.push(b'\n')?;
     }
     Ok(())
 }
 
 /// Appends the names that the block of an edge binds, with their values; `;` ends each.
-fn put_block(text: &mut Vec<u8>, graph: &Graph, edge: EdgeNo) -> Result<(), AllocError> {
-    let count = graph.block_name_count(edge);
-    for index in 0..count {
-        let name = graph.block_name(edge, index).unwrap_or(b"?".as_slice());
+fn put_block(text: &mut Vec<u8>, edge: Edge<'_>) -> Result<(), AllocError> {
+    for index in 0..edge.block_name_count() {
+        let name = edge.block_name(index).unwrap_or(b"?".as_slice());
         text.extend_from_slice(name)?;
         text.push(b'=')?;
-        text.extend_from_slice(graph.block_value(edge, name).unwrap_or(b"?".as_slice()))?;
+        text.extend_from_slice(edge.block_value(name).unwrap_or(b"?".as_slice()))?;
         text.push(b';')?;
     }
     Ok(())

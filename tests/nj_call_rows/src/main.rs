@@ -9,6 +9,7 @@ mod depfiles;
 mod deps_logs;
 mod discovered;
 mod graphs;
+mod handles;
 mod joined_logs;
 mod keys;
 mod lexing;

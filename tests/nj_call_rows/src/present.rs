@@ -42,13 +42,13 @@ fn joined(alloc: Global, given: &Given, joins_all: bool) -> Result<Graph, GraphF
 /// Appends each edge that is pending, by its first output, and the dyndep file on which it is.
 fn put_pending(text: &mut Vec<u8>, graph: &Graph) -> Result<(), AllocError> {
     for index in 0..graph.pending_count() {
-        let edge = graph.pending_edge(index);
+        let edge = graph.edge_at(graph.pending_edge(index));
         text.extend_from_slice(b"pending: ")?;
-        if let Some(output) = graph.outputs(edge).first() {
-            text.extend_from_slice(graph.path(*output))?;
+        if let Some(output) = edge.outputs().first() {
+            text.extend_from_slice(output.path())?;
         }
         text.push(b' ')?;
-        text.extend_from_slice(graph.dyndep(edge).unwrap_or(b"-".as_slice()))?;
+        text.extend_from_slice(edge.dyndep().unwrap_or(b"-".as_slice()))?;
         text.push(b'\n')?;
     }
     Ok(())

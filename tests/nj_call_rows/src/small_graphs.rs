@@ -5,7 +5,7 @@
 
 use crate::printer::{put_answer, put_shown, steps_of};
 use crate::small_walks::put_of_walk;
-use nj_edges::{EdgeGraph, Edges, FileNo, Finished, HashKeys, KindEnds};
+use nj_edges::{EdgeGraph, EdgeNo, Edges, FileNo, Finished, HashKeys, KindEnds};
 use std::alloc::{AllocError, Global};
 use std::fmt::Write;
 
@@ -120,23 +120,23 @@ pub fn files_at(alloc: Global, graph: &EdgeGraph, paths: &str) -> Result<Vec<Fil
 fn put_numbered(alloc: Global, text: &mut Vec<u8>, graph: &EdgeGraph) -> Result<(), AllocError> {
     put_paths(text, graph)?;
     put_counts(alloc, text, graph)?;
-    let edges = graph.edge_numbers().len();
-    let files = graph.file_numbers().len();
+    let (edges, files) = (graph.edge_count(), graph.file_count());
     text.extend_from_slice(format!(in alloc; "{edges} edges, {files} files\n")?.as_bytes())
 }
 
 fn put_paths(text: &mut Vec<u8>, graph: &EdgeGraph) -> Result<(), AllocError> {
     text.extend_from_slice(b"files:")?;
-    for file in graph.file_numbers() {
+    for number in 0..graph.file_count() {
         text.push(b' ')?;
-        text.extend_from_slice(graph.path(file))?;
+        text.extend_from_slice(graph.path(FileNo(number)))?;
     }
     text.extend_from_slice(b"\n")
 }
 
 fn put_counts(alloc: Global, text: &mut Vec<u8>, graph: &EdgeGraph) -> Result<(), AllocError> {
     text.extend_from_slice(b"inputs:")?;
-    for edge in graph.edge_numbers() {
+    for number in 0..graph.edge_count() {
+        let edge = EdgeNo(number);
         let (explicit, all) = (graph.explicit_inputs(edge), graph.inputs(edge).len());
         text.extend_from_slice(format!(in alloc; " {explicit}/{all}")?.as_bytes())?;
     }

@@ -18,7 +18,7 @@ pub(crate) fn put_walk(
     let target = pick_target(alloc, graph, &bytes_of(alloc, target)?)?;
     let mark = Mark::read(alloc, mark)?;
     let targets = [target];
-    let needs = Needs::resume(alloc, graph.edge_graph(), &targets, &mark)?;
+    let needs = Needs::resume(alloc, graph, &targets, &mark)?;
     put_rest(alloc, text, needs, most)?;
     Ok(())
 }
