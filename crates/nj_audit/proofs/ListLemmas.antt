@@ -5,7 +5,7 @@ use Rattle.std.proofs.Common.{sym, ap, subst, ◌∙◌, append-nil, append_asso
 use Rattle.std.proofs.Common.{suc}
 use Rattle.std.specs.List.{cons_option, filter, filter_map, range_with_len}
 use Rattle.std.proofs.lemmas.List.{drop_all, take_more}
-use Rattle.std.proofs.lemmas.List.Elements.{filter-append}
+use Rattle.std.proofs.lemmas.List.Elements.{filter-append, filter_map-append}
 use Rattle.std.proofs.lemmas.Option.{get_or_from_slice_get, slice_get_cases, slice_get_within}
 use Rattle.std.proofs.lemmas.List.FromFn.{map-range_with_len_more}
 
@@ -92,6 +92,12 @@ pub mapped-more : {X Y : Type 0} (f : X → Y) (items : List X) (i : ℕ) (d : X
     → map f (take i items) ++ f (get_or items i d) ∷ [] ≡ map f (take (i + 1) items)
 mapped-more f items i d below = sym (ap (map f) (take_more items i d below)
     ∙ map-append f (take i items) (get_or items i d ∷ []))
+
+-- the values found of one more item
+pub found-more : {X Y : Type 0} (h : X → Option Y) (items : List X) (i : ℕ) (d : X) → i < length items
+    → filter_map h (take i items) ++ cons_option (h (get_or items i d)) [] ≡ filter_map h (take (i + 1) items)
+found-more h items i d below = sym (ap (filter_map h) (take_more items i d below)
+    ∙ filter_map-append h (take i items) (get_or items i d ∷ []))
 
 paths-of : {X : Type 0} (at : X → Option (List ℕ)) (ns : List X)
     → map (λ o. unwrap_or o []) (map at ns) ≡ map (λ n. unwrap_or (at n) []) ns

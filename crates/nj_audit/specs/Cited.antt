@@ -1,12 +1,12 @@
 -- What the contracts of this crate cite: each name comes from the module in its line.
-pub use Rattle.nj_graph.specs.Graph.{OfStatements, edges_of, files_of, IsGraphOf}
+pub use Rattle.nj_graph.specs.Graph.{OfStatements, IsGraphOf, edges_of, files_of}
 pub use Rattle.std.specs.List.{flat_map, cons_option, position_or_len, AllZip}
-pub use Rattle.nj_graph.specs.Undeclared.{input_of_edge}
+pub use Rattle.nj_audit.specs.LoggedInputs.{inputs_in, AreUndeclaredFindings, IsNamedUnordered, input_in}
 pub use Rattle.nj_audit.specs.Audits.{IsAudit}
 pub use Rattle.nj_audit.specs.Inside.ByKind.{asked_of, findings_of}
 pub use Rattle.nj_audit.specs.Kinds.{all_kinds, AskFor, contains, first_unknown, is_asked_for, is_on_by_default, is_taken, is_unknown}
 pub use Rattle.nj_audit.specs.Kinds.{name_of, texts}
-pub use Rattle.nj_graph.specs.Handles.{OfEdge, edge_of, file_of, paths_of}
+pub use Rattle.nj_graph.specs.Handles.{OfEdge, edge_of, file_of, file_in, paths_of}
 pub use Rattle.nj_scope.specs.ReadingList.{ReadStatement}
 pub use Rattle.nj_graph.specs.Edges.{is_among, inputs_of, maker_of}
 pub use Rattle.nj_audit.specs.Audit.{commands_at, repeated_commands, has_depfile_without_deps, depfiles_without_deps, repeated_inputs}
@@ -19,8 +19,8 @@ pub use Rattle.nj_names.specs.NameTables.{with_name}
 pub use Rattle.nj_graph.specs.Origins.{place_text}
 pub use Rattle.nj_audit.specs.Findings.{finding_model, edge_finding}
 pub use Rattle.nj_audit.specs.Laws.{QuotedPathsAreWords}
+pub use Rattle.nj_names.specs.Files.{path_at}
 pub use Rattle.nj_audit.specs.UnorderedFiles.{files_named, AreNamedUnordered, IsOther, IsTwin, IsUnordered, response_of}
-pub use Rattle.nj_audit.specs.LoggedInputs.{AreUndeclaredFindings, IsNamedUnordered}
 pub use Rattle.nj_audit.specs.Inside.LoggedFound.{AddsLogged}
 pub use Rattle.nj_audit.specs.NamedPaths.{paths_in, paths_named, after_letter, after_sign, after_slash, path_named, without_folder}
 pub use Rattle.nj_audit.specs.Inside.FilesNamed.{AddsFiles, paths_of_name}

@@ -1,12 +1,24 @@
 -- What is found of undeclared inputs: by what commands name, and by what a deps log names.
-use Rattle.std.specs.Prelude.{◌≡◌, ℕ, Bool, true, false, List, [], ◌++◌, map, Contains}
+use Rattle.std.specs.Prelude.{◌≡◌, ℕ, nat_lt, Bool, true, false, ◌&&◌, if◌then◌else◌, Option, Some, None, List, [], ◌++◌, length, map, Contains}
+use Rattle.std.specs.List.{filter_map}
 use Rattle.nj_scope.specs.ReadingList.{ReadStatement}
-use Rattle.nj_graph.specs.Graph.{GraphModel}
-use Rattle.nj_graph.specs.Undeclared.{AreThose, InputOfEdge}
+use Rattle.nj_graph.specs.Graph.{GraphModel, edges_of, files_of}
+use Rattle.nj_graph.specs.Undeclared.{AreThose, InputOfEdge, input_of_edge}
+use Rattle.nj_graph.specs.declared.undeclared.UndeclaredInput.{UndeclaredInput as LoggedInput}
 use Rattle.nj_audit.specs.Audit.{edge_numbers, path_of}
 use Rattle.nj_audit.specs.Findings.{FindingModel, edge_finding}
 use Rattle.nj_audit.specs.UnorderedFiles.{AreNamedUnordered, IsUnordered, files_named}
 use Rattle.nj_audit.specs.declared.kinds.Kind.TheVariants.{UndeclaredInput}
+
+-- an input that a log names, by the path of its file, if its edge and its file are the graph's
+abbrev pub input_in : GraphModel → LoggedInput → Option InputOfEdge
+input_in g input =
+    if nat_lt input.edge.0 (length (edges_of g)) && nat_lt input.file.0 (length (files_of g))
+    then Some (input_of_edge (files_of g) input) else None
+
+-- those of these inputs whose edges and files are the graph's
+abbrev pub inputs_in : GraphModel → List LoggedInput → List InputOfEdge
+inputs_in g inputs = filter_map (input_in g) inputs
 
 -- An edge or its response file names this input, which is unordered with the edge: so it is found by what the command names.
 pub record IsNamedUnordered (g : GraphModel) (entries : List ReadStatement) (folder : List ℕ) (input : InputOfEdge) : Type 0 where

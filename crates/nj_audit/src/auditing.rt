@@ -1,7 +1,7 @@
 //! The findings of the requested kinds.
 
-ghost use Rattle.std.specs.Prelude.{◌≡◌, ◌<◌, ◌++◌, IfOk, OnOk, length, map, All};
-ghost use Rattle.nj_audit.specs.Cited.{OfStatements, flat_map, edges_of, files_of, input_of_edge, IsAudit, asked_of, findings_of, all_kinds};
+ghost use Rattle.std.specs.Prelude.{◌≡◌, ◌++◌, IfOk, OnOk};
+ghost use Rattle.nj_audit.specs.Cited.{OfStatements, flat_map, inputs_in, IsAudit, asked_of, findings_of, all_kinds};
 
 use crate::commands::find_repeated_commands;
 use crate::depfiles::find_depfiles_without_deps;
@@ -24,9 +24,9 @@ use std::alloc::{AllocError, Global};
 ///
 /// `logged` are the inputs that edges do not declare by a deps log
 /// ([`nj_graph::undeclared_inputs`]), in numbers of this graph, to which the log may be joined by
-/// now. They come after the inputs that commands name, and without those. Where many of them are
-/// unordered with their edges still, as without the log in the graph, each takes the time to read
-/// the command of its edge.
+/// now; one whose edge or file is not the graph's counts for nothing. They come after the inputs
+/// that commands name, and without those. Where many of them are unordered with their edges still,
+/// as without the log in the graph, each takes the time to read the command of its edge.
 pub fn audit<'a>(
     alloc: Global,
     graph: &'a Graph,
@@ -35,11 +35,9 @@ pub fn audit<'a>(
     logged: &[UndeclaredInput],
     kinds: Kinds,
 ) -> Result<Findings<'a>, AllocError>
-    requires edges { All (λ input. input.edge.0 < length (edges_of graph.now)) logged.now }
-    requires files { All (λ input. input.file.0 < length (files_of graph.now)) logged.now }
     ensures { OfStatements graph.now (λ entries.
         IfOk result (IsAudit graph.now entries missing.now folder.now
-        (map (input_of_edge (files_of graph.now)) logged.now) kinds)) }
+        (inputs_in graph.now logged.now) kinds)) }
 {
     let edges = serving_edges(alloc, graph)?;
     let undeclared = if kinds.contains(Kind::UndeclaredInput) {

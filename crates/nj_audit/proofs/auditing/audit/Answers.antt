@@ -1,11 +1,10 @@
-use Rattle.std.proofs.Common.{map, subst, sym, ◌∙◌}
+use Rattle.std.proofs.Common.{subst, sym, ◌∙◌}
 use Rattle.std.proofs.lemmas.Result.{IfOk-weaker}
 use Rattle.nj_edges.proofs.ChangeLemmas.{flags-are}
-use Rattle.nj_graph.specs.Graph.{edges_of, files_of}
-use Rattle.nj_graph.specs.Undeclared.{input_of_edge}
+use Rattle.nj_graph.specs.Graph.{edges_of}
 use Rattle.nj_audit.specs.Serving.{ServesCommand}
 use Rattle.nj_audit.specs.Kinds.{contains}
-use Rattle.nj_audit.specs.LoggedInputs.{AreFoundIf, AreUndeclaredFindings}
+use Rattle.nj_audit.specs.LoggedInputs.{AreFoundIf, AreUndeclaredFindings, inputs_in}
 use Rattle.nj_audit.specs.declared.kinds.Kind.TheVariants.{UndeclaredInput}
 use Rattle.nj_audit.proofs.KindLemmas.{asked-law}
 use Rattle.nj_audit.proofs.LoggedLemmas.{of-undeclared-if}
@@ -17,7 +16,7 @@ returns c entries graph =
     let g = c.args.graph.now in
     let missing = c.args.missing.now in
     let folder = c.args.folder.now in
-    let logged = map (input_of_edge (files_of g)) c.args.logged.now in
+    let logged = inputs_in g c.args.logged.now in
     let kinds = c.args.kinds in
     let serving = c.flags.result.now in
     let undeclared = c.if-contains.undeclared in
