@@ -85,7 +85,7 @@ fn page_of(
     let words = options.get_strs("targets").unwrap_or(&[]);
     let targets = checked_targets(alloc, known, words)?;
     let take = options.get_one::<u64>("take");
-    match page_from(alloc, &known.graph, bases, targets.numbers(), mark, take) {
+    match page_from(alloc, bases, &targets, mark, take) {
         Ok(page) => Ok(page),
         Err(fault) => Err(Failure::Graph(fault.into())),
     }

@@ -6,3 +6,4 @@ mod KeyLaws
 mod LineLaws
 mod MakerLemmas
 mod OpenLemmas
+mod PageLemmas

@@ -3,7 +3,7 @@ pub use Rattle.nj_text.specs.Paths.{clean_path_of, is_absolute}
 pub use Rattle.nj_keys.specs.Bases.{is_quote, is_separator, is_path_byte, ends_before, begins_with_quote, stands_at, longest_at}
 pub use Rattle.nj_keys.specs.Bases.{front_mapped, mapped}
 pub use Rattle.nj_keys.specs.Inside.Folders.{may_begin_after, paths}
-pub use Rattle.nj_graph.specs.Graph.{edges_of, OfStatements, files_of}
+pub use Rattle.nj_graph.specs.Graph.{edges_of, OfStatements}
 pub use Rattle.nj_graph.specs.Handles.{OfEdge, edge_of, file_of, paths_of, GraphEdge}
 pub use Rattle.std.specs.List.{flat_map}
 pub use Rattle.nj_graph.specs.Edges.{outputs_of, maker_of, first_output}
@@ -12,7 +12,6 @@ pub use Rattle.nj_keys.specs.Keys.{variable_of, IsKey, Needs, EdgesHaveKeys, Key
 pub use Rattle.nj_keys.specs.Keys.{TextsTellFields, line, ListsKeys}
 pub use Rattle.nj_keys.specs.Inside.Keeping.{kept_key, inputs_in, made_by, IsAcyclic, IsKept, IsMissing, KeepsKeys, MakesOne}
 pub use Rattle.nj_keys.specs.Inside.FileTexts.{input_texts, path_texts}
-pub use Rattle.nj_needs.specs.Graphs.{makers_of, row_of}
-pub use Rattle.nj_needs.specs.Marks.{is_valid}
-pub use Rattle.nj_needs.specs.Walks.{rest_of, BeginsAt, WalkState}
+pub use Rattle.nj_keys.specs.Pages.{leads, left_at, BeginsAfter}
+pub use Rattle.nj_needs.specs.Walks.{WalkState}
 pub use Rattle.nj_needs.specs.PageWalks.{written, StopsAt}

@@ -1,12 +1,12 @@
 //! The lines of commands, in pages.
 
-ghost use Rattle.std.specs.Prelude.{◌≡◌, ◌<◌, ◌++◌, ◌⊎◌, [], true, false, All, IfErr, IfOk, OnOk, length, unwrap_or};
-ghost use Rattle.nj_keys.specs.Cited.{edge_of, paths_of, OfStatements, first_output, makers_of, row_of, is_valid, rest_of, BeginsAt, WalkState, written, StopsAt, edges_of, files_of, line, ListsKeys, kept_key};
+ghost use Rattle.std.specs.Prelude.{◌≡◌, ◌++◌, ◌⊎◌, [], true, false, IfErr, IfOk, OnOk, unwrap_or};
+ghost use Rattle.nj_keys.specs.Cited.{edge_of, paths_of, OfStatements, first_output, leads, left_at, BeginsAfter, WalkState, written, StopsAt, edges_of, line, ListsKeys, kept_key};
 
 use crate::bases::Bases;
 use crate::fields::{Key, kept_key};
 use crate::keys::keep_key;
-use nj_graph::{Edge, FileNo, Graph};
+use nj_graph::{Edge, FileList, Graph};
 use nj_needs::{Mark, MarkFault, Needs};
 use std::alloc::{AllocError, Global};
 
@@ -27,26 +27,22 @@ pub struct Page {
 /// failed.
 pub fn page_from(
     alloc: Global,
-    graph: &Graph,
     bases: &Bases,
-    targets: &[FileNo],
+    targets: &FileList<'_>,
     mark: &Mark,
     take: Option<u64>,
 ) -> Result<Page, MarkFault>
-    requires { All (λ file. file.0 < length (files_of graph.now)) targets.now }
-    ensures valid { IfOk result (λ _. is_valid (makers_of graph.now.built.graph)
-        (row_of graph.now.built.graph targets.now) mark.now ≡ true) }
+    ensures valid { IfOk result (λ _. leads targets.now mark.now ≡ true) }
     ensures refused { IfErr result (λ fault. (fault ≡ MarkFault.OutOfMemory)
-        ⊎ ((fault ≡ MarkFault.MarkOutOfRange) × (is_valid (makers_of graph.now.built.graph)
-        (row_of graph.now.built.graph targets.now) mark.now ≡ false))) }
-    ensures lines { OfStatements graph.now (λ entries.
-        IfOk result (λ page. ListsKeys bases.now (edges_of graph.now) entries
-        (written take (rest_of graph.now.built.graph targets.now mark.now)) page.lines.items)) }
+        ⊎ ((fault ≡ MarkFault.MarkOutOfRange) × (leads targets.now mark.now ≡ false))) }
+    ensures lines { OfStatements targets.now.graph (λ entries.
+        IfOk result (λ page. ListsKeys bases.now (edges_of targets.now.graph) entries
+        (written take (left_at targets.now mark.now)) page.lines.items)) }
     ensures mark { IfOk result (λ page. (walk : WalkState)
-        × BeginsAt graph.now.built.graph targets.now mark.now walk
-        × StopsAt walk take page.mark) }
+        × BeginsAfter targets.now mark.now walk × StopsAt walk take page.mark) }
 {
-    let mut needs = Needs::resume(alloc, graph, targets, mark)?;
+    let graph = targets.graph();
+    let mut needs = Needs::resume(alloc, graph, targets.numbers(), mark)?;
     let page = next_page(alloc, graph, bases, &mut needs, take)?;
     Ok(page)
 }
