@@ -1,0 +1,137 @@
+-- The question of a command line's arguments.
+use Rattle.std.specs.Prelude.{ℕ, ◌||◌, ◌&&◌, Bool, true, false, not, if◌then◌else◌, List, [], ◌∷◌, codes}
+use Rattle.std.specs.Prelude.{Option, Some, None, option_map, ok_or, Result, Err}
+use Rattle.std.specs.Str.{bytes_eq}
+use Rattle.clap.specs.Words.{Kinds, Row, fault_of, first_of, subcommand_of}
+use Rattle.clap.specs.declared.error.kind.ErrorKind.{ErrorKind}
+use Rattle.clap.specs.declared.error.kind.ErrorKind.TheVariants.{DisplayHelp, DisplayVersion}
+use Rattle.nj_questions.specs.CommandLine.{command}
+use Rattle.nj_questions.specs.Fields.{is_on, number_in, text_or, values_in}
+use Rattle.nj_questions.specs.Questions.{AskedGraph, AffectedModel, AuditModel, DrawModel, KeysModel, WhyModel, QuestionModel}
+use Rattle.nj_questions.specs.Questions.{SubjectModel, affected, audit, draw, json, keys, why}
+use Rattle.nj_questions.specs.declared.refusals.Refusal.{Refusal}
+use Rattle.nj_questions.specs.declared.refusals.Refusal.TheVariants as refusal
+
+-- ---- the question of a subcommand and its rows
+
+-- the options that name the graph
+abbrev pub graph_in : List Row → AskedGraph
+graph_in rows = record {
+  file = text_or (codes "file") (codes "build.ninja") rows;
+  dyndep = is_on (codes "dyndep") rows;
+  deps = is_on (codes "deps") rows;
+  log = first_of (codes "deps-log-file") rows;
+}
+
+-- the options of `affected`
+abbrev pub affected_in : List Row → AffectedModel
+affected_in rows = record {
+  source_dir = first_of (codes "source-dir") rows;
+  rules = values_in (codes "rule") rows;
+  prefix = text_or (codes "prefix") [] rows;
+  no_phony = is_on (codes "no-phony") rows;
+  ignore_unknown = is_on (codes "ignore-unknown") rows;
+  allow_empty = is_on (codes "allow-empty") rows;
+}
+
+-- the options of `audit`
+abbrev pub audit_in : List Row → AuditModel
+audit_in rows = record {
+  only = values_in (codes "only") rows;
+  except = values_in (codes "except") rows;
+  json = is_on (codes "json") rows;
+  list = is_on (codes "list") rows;
+}
+
+-- the options of `draw`
+abbrev pub draw_in : List Row → DrawModel
+draw_in rows = record {
+  targets = values_in (codes "targets") rows;
+  affected = is_on (codes "affected") rows;
+  fold = is_on (codes "fold") rows;
+  limit = number_in (codes "limit") rows;
+  inputs = number_in (codes "inputs") rows;
+}
+
+-- the options of `keys`
+abbrev pub keys_in : List Row → KeysModel
+keys_in rows = record {
+  bases = values_in (codes "base") rows;
+  take = number_in (codes "take") rows;
+  resume = first_of (codes "resume") rows;
+  targets = values_in (codes "targets") rows;
+}
+
+-- the options of `why`
+abbrev pub why_in : List Row → WhyModel
+why_in rows = record {
+  start = text_or (codes "A") [] rows;
+  end = text_or (codes "B") [] rows;
+  validations = is_on (codes "validations") rows;
+  no_order_only = is_on (codes "no-order-only") rows;
+}
+
+-- what the subcommand of this name asks
+abbrev pub subject_in : (name : List ℕ) → List Row → Option SubjectModel
+subject_in name rows =
+    if bytes_eq name (codes "affected") then Some (affected (affected_in rows))
+    else if bytes_eq name (codes "audit") then Some (audit (audit_in rows))
+    else if bytes_eq name (codes "draw") then Some (draw (draw_in rows))
+    else if bytes_eq name (codes "json") then Some json
+    else if bytes_eq name (codes "keys") then Some (keys (keys_in rows))
+    else if bytes_eq name (codes "why") then Some (why (why_in rows))
+    else None
+
+-- the question of the subcommand of this name
+abbrev pub question_in : (name : List ℕ) → List Row → Option QuestionModel
+question_in name rows = option_map (λ subject. record {
+  folder = first_of (codes "folder") rows;
+  graph = graph_in rows;
+  subject = subject;
+}) (subject_in name rows)
+
+-- ---- arguments that are not a question
+
+-- why; `shows_help` is a request for help or the version
+pub data RefusalModel : Type 0 where
+  out_of_memory : RefusalModel
+  old_option : RefusalModel
+  shows_help : RefusalModel
+  unparsed : RefusalModel
+
+-- a refusal, without its text
+abbrev pub refusal_model : Refusal → RefusalModel
+refusal_model refusal.OutOfMemory = out_of_memory
+refusal_model refusal.OldOption = old_option
+refusal_model (refusal.Help text) = shows_help
+refusal_model (refusal.Unparsed text) = unparsed
+
+-- an argument before the first `--` is the option that `--deps` has replaced
+abbrev pub has_old_option : (words : List (List ℕ)) → Bool
+has_old_option [] = false
+has_old_option (word ∷ words) = not (bytes_eq word (codes "--")) && (bytes_eq word (codes "--deps-log") || has_old_option words)
+
+-- an error that only asks for help or the version
+abbrev pub is_help : ErrorKind → Bool
+is_help DisplayHelp = true
+is_help DisplayVersion = true
+is_help _ = false
+
+-- why `clap` refuses arguments, by the kinds of its errors; all of them are help, or none is
+abbrev pub refused_by : Kinds → Option RefusalModel
+refused_by [] = None
+refused_by (kind ∷ kinds) = Some (if is_help kind then shows_help else unparsed)
+
+-- ---- the question
+
+-- the question of a subcommand, unless the arguments are refused; one is required
+abbrev pub asked : Option RefusalModel → Option (List ℕ × List Row) → Result QuestionModel RefusalModel
+asked (Some refused) subcommand = Err refused
+asked None None = Err unparsed
+asked None (Some subcommand) = ok_or (question_in subcommand.0 subcommand.1) unparsed
+
+-- The old option is refused before `clap` reads the arguments. Memory never runs out here.
+unfoldable pub question_of : (words : List (List ℕ)) → Result QuestionModel RefusalModel
+question_of words =
+    if has_old_option words then Err old_option
+    else asked (refused_by (fault_of command words)) (subcommand_of command words)

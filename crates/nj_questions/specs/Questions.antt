@@ -1,0 +1,151 @@
+-- Questions about the graph of a build, as values.
+use Rattle.std.specs.Prelude.{ℕ, Bool, Option, option_map, List, map, string_bytes}
+use Rattle.nj_questions.specs.declared.questions.Question.{Question}
+use Rattle.nj_questions.specs.declared.questions.GraphOptions.{GraphOptions}
+use Rattle.nj_questions.specs.declared.questions.Subject.{Subject}
+use Rattle.nj_questions.specs.declared.questions.Subject.TheVariants as subject
+use Rattle.nj_questions.specs.declared.questions.AffectedOptions.{AffectedOptions}
+use Rattle.nj_questions.specs.declared.questions.AuditOptions.{AuditOptions}
+use Rattle.nj_questions.specs.declared.questions.DrawOptions.{DrawOptions}
+use Rattle.nj_questions.specs.declared.questions.KeysOptions.{KeysOptions}
+use Rattle.nj_questions.specs.declared.questions.WhyOptions.{WhyOptions}
+
+-- ---- the graph
+
+-- `dyndep`: what dyndep files discover is joined; `deps`: what builds discovered, by the deps log `log` if one is named
+pub record AskedGraph : Type 0 where
+  pub file : List ℕ
+  pub dyndep : Bool
+  pub deps : Bool
+  pub log : Option (List ℕ)
+
+-- ---- what is asked
+
+-- `affected`: without `rules`, outputs of edges with any rule
+pub record AffectedModel : Type 0 where
+  pub source_dir : Option (List ℕ)
+  pub rules : List (List ℕ)
+  pub prefix : List ℕ
+  pub no_phony : Bool
+  pub ignore_unknown : Bool
+  pub allow_empty : Bool
+
+-- `audit`: `only` and `except` are words of kinds of findings
+pub record AuditModel : Type 0 where
+  pub only : List (List ℕ)
+  pub except : List (List ℕ)
+  pub json : Bool
+  pub list : Bool
+
+-- `draw`: at most `limit` nodes, and at most `inputs` inputs of an edge
+pub record DrawModel : Type 0 where
+  pub targets : List (List ℕ)
+  pub affected : Bool
+  pub fold : Bool
+  pub limit : Option ℕ
+  pub inputs : Option ℕ
+
+-- `keys`: `resume` is the text of a mark
+pub record KeysModel : Type 0 where
+  pub bases : List (List ℕ)
+  pub take : Option ℕ
+  pub resume : Option (List ℕ)
+  pub targets : List (List ℕ)
+
+-- `why`: the file that needs another, and that other one
+pub record WhyModel : Type 0 where
+  pub start : List ℕ
+  pub end : List ℕ
+  pub validations : Bool
+  pub no_order_only : Bool
+
+-- each subcommand with its options
+pub data SubjectModel : Type 0 where
+  affected : AffectedModel → SubjectModel
+  audit : AuditModel → SubjectModel
+  draw : DrawModel → SubjectModel
+  json : SubjectModel
+  keys : KeysModel → SubjectModel
+  why : WhyModel → SubjectModel
+
+-- `folder` is the directory to change to first
+pub record QuestionModel : Type 0 where
+  pub folder : Option (List ℕ)
+  pub graph : AskedGraph
+  pub subject : SubjectModel
+
+-- ---- the values of the code
+
+-- the options that name a graph
+abbrev pub asked_graph : GraphOptions → AskedGraph
+asked_graph graph = record {
+  file = string_bytes graph.file;
+  dyndep = graph.dyndep;
+  deps = graph.deps;
+  log = option_map string_bytes graph.log;
+}
+
+-- the options of `affected`
+abbrev pub affected_model : AffectedOptions → AffectedModel
+affected_model options = record {
+  source_dir = option_map string_bytes options.source_dir;
+  rules = map string_bytes options.rules.items;
+  prefix = string_bytes options.prefix;
+  no_phony = options.no_phony;
+  ignore_unknown = options.ignore_unknown;
+  allow_empty = options.allow_empty;
+}
+
+-- the options of `audit`
+abbrev pub audit_model : AuditOptions → AuditModel
+audit_model options = record {
+  only = map string_bytes options.only.items;
+  except = map string_bytes options.except.items;
+  json = options.json;
+  list = options.list;
+}
+
+-- the options of `draw`
+abbrev pub draw_model : DrawOptions → DrawModel
+draw_model options = record {
+  targets = map string_bytes options.targets.items;
+  affected = options.affected;
+  fold = options.fold;
+  limit = options.limit;
+  inputs = options.inputs;
+}
+
+-- the options of `keys`
+abbrev pub keys_model : KeysOptions → KeysModel
+keys_model options = record {
+  bases = map string_bytes options.bases.items;
+  take = options.take;
+  resume = option_map string_bytes options.resume;
+  targets = map string_bytes options.targets.items;
+}
+
+-- the options of `why`
+abbrev pub why_model : WhyOptions → WhyModel
+why_model options = record {
+  start = string_bytes options.from;
+  end = string_bytes options.to;
+  validations = options.validations;
+  no_order_only = options.no_order_only;
+}
+
+-- what is asked
+abbrev pub subject_model : Subject → SubjectModel
+subject_model (subject.Affected options) = affected (affected_model options)
+subject_model (subject.Audit options) = audit (audit_model options)
+subject_model (subject.Draw options) = draw (draw_model options)
+subject_model subject.Json = json
+subject_model (subject.Keys options) = keys (keys_model options)
+subject_model (subject.Why options) = why (why_model options)
+
+-- a question
+abbrev pub question_model : Question → QuestionModel
+question_model question = record {
+  folder = option_map string_bytes question.folder;
+  graph = asked_graph question.graph;
+  subject = subject_model question.subject;
+}

@@ -1,0 +1,36 @@
+-- Laws of how a command line is read.
+use Rattle.std.specs.Prelude.{◌≡◌, ℕ, false, List, [], ◌∷◌, ◌++◌, map, codes, None, Result, Ok, IsOk, IsErr}
+use Rattle.clap.specs.Words.{fault_of, subcommand_of}
+use Rattle.nj_questions.specs.CommandLine.{command}
+use Rattle.nj_questions.specs.QuestionOf.{RefusalModel, has_old_option, question_of}
+use Rattle.nj_questions.specs.Questions.{QuestionModel, SubjectModel, keys, why}
+
+-- arguments without a subcommand are refused
+abbrev pub SubcommandIsRequired : Type 0
+SubcommandIsRequired = (words : List (List ℕ)) → subcommand_of command words ≡ None → IsErr (question_of words)
+
+-- no others are, but those that `clap` refuses and those with the old option
+abbrev pub TakenIsQuestion : Type 0
+TakenIsQuestion = (words : List (List ℕ)) → has_old_option words ≡ false → fault_of command words ≡ [] → IsOk (question_of words)
+
+-- the question of a subcommand in the working directory, without options that name a graph
+abbrev pub asks : SubjectModel → Result QuestionModel RefusalModel
+asks subject = Ok (record {
+  folder = None;
+  graph = record { file = codes "build.ninja"; dyndep = false; deps = false; log = None };
+  subject = subject;
+})
+
+-- the two arguments after `--` are the files of `why`, even if they look like options
+abbrev pub FilesAfterDashes : Type 0
+FilesAfterDashes = (start end : List ℕ) → question_of (codes "why" ∷ codes "--" ∷ start ∷ end ∷ [])
+    ≡ asks (why (record { start = start; end = end; validations = false; no_order_only = false }))
+
+-- an option that gives a base
+abbrev pub base_word : (base : List ℕ) → List ℕ
+base_word base = codes "--base=" ++ base
+
+-- bases keep their order, and so do targets, which are all arguments after `--`
+abbrev pub KeysKeepOrder : Type 0
+KeysKeepOrder = (bases targets : List (List ℕ)) → question_of (codes "keys" ∷ map base_word bases ++ codes "--" ∷ targets)
+    ≡ asks (keys (record { bases = bases; take = None; resume = None; targets = targets }))

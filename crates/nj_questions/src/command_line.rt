@@ -1,0 +1,86 @@
+//! The command line as `clap` knows it.
+
+ghost use Rattle.std.specs.Prelude.{◌≡◌, IfOk, fold, map};
+ghost use Rattle.nj_questions.specs.Cited.{app_of, with_rule, with_subcommand, command, rule_at, without_subcommands, new_app, subcommand_in};
+
+use crate::forms::{Entry, arg_of};
+use crate::subcommands::{
+    AFFECTED, AFFECTED_OPTIONS, AUDIT, AUDIT_OPTIONS, DRAW, DRAW_OPTIONS, GRAPH_OPTIONS, JSON,
+    KEYS, KEYS_OPTIONS, Topic, WHY, WHY_OPTIONS,
+};
+use clap::Command;
+use std::alloc::{AllocError, Global};
+
+const VERSION: &str = "0.1.0";
+
+/// The program with its subcommands.
+pub fn command<'a>(alloc: Global) -> Result<Command<'a>, AllocError>
+    ensures { IfOk result (λ made. app_of made ≡ command) }
+{
+    let made = without_subcommands(alloc)?;
+    let made = with_subcommand(alloc, made, AFFECTED, &AFFECTED_OPTIONS)?;
+    let made = with_subcommand(alloc, made, AUDIT, &AUDIT_OPTIONS)?;
+    let made = with_subcommand(alloc, made, DRAW, &DRAW_OPTIONS)?;
+    let made = with_subcommand(alloc, made, JSON, &[])?;
+    let made = with_subcommand(alloc, made, KEYS, &KEYS_OPTIONS)?;
+    with_subcommand(alloc, made, WHY, &WHY_OPTIONS)
+}
+
+// The program without its subcommands.
+fn without_subcommands<'a>(alloc: Global) -> Result<Command<'a>, AllocError>
+    ensures { IfOk result (λ made. app_of made ≡ without_subcommands) }
+{
+    unnamed(alloc).bin_name("ninja-graph")
+}
+
+// The same, which does not yet know how it is called.
+fn unnamed<'a>(alloc: Global) -> Command<'a>
+    ensures { app_of result ≡ without_subcommands }
+{
+    Command::new(alloc, "ninja-graph")
+        .no_binary_name(true)
+        .about("Answers questions about the graph of a Ninja build, and builds nothing")
+        .version(VERSION)
+        .subcommand_required(true)
+        .disable_help_subcommand(true)
+}
+
+// Adds a subcommand with these options and those that name its graph.
+fn with_subcommand<'a>(
+    alloc: Global,
+    command: Command<'a>,
+    topic: Topic,
+    options: &[Entry],
+) -> Result<Command<'a>, AllocError>
+    ensures { IfOk result (λ made. app_of made ≡ with_subcommand (app_of command.entry)
+        (subcommand_in topic.name.now (map rule_at options.now))) }
+{
+    let subcommand = with_options(alloc, about(alloc, topic), options)?;
+    let subcommand = with_options(alloc, subcommand, &GRAPH_OPTIONS)?;
+    command.subcommand(subcommand)
+}
+
+// A subcommand without options.
+fn about<'a>(alloc: Global, topic: Topic) -> Command<'a>
+    ensures { app_of result ≡ new_app topic.name.now }
+{
+    Command::new(alloc, topic.name)
+        .about(topic.about)
+        .after_help(topic.more)
+}
+
+// Adds these options to a command.
+fn with_options<'a>(
+    alloc: Global,
+    command: Command<'a>,
+    options: &[Entry],
+) -> Result<Command<'a>, AllocError>
+    ensures { IfOk result (λ made. app_of made
+        ≡ fold with_rule (app_of command.entry) (map rule_at options.now)) }
+{
+    let mut made = command;
+    'options: for option in options {
+        made = made.arg(arg_of(alloc, option.0, option.1, option.2))?;
+    }
+    Ok(made)
+}

@@ -1,0 +1,21 @@
+//! An option that another has replaced.
+
+ghost use Rattle.std.specs.Prelude.{◌≡◌, map, string_bytes};
+ghost use Rattle.nj_questions.specs.Cited.{has_old_option};
+
+/// Whether one of these words is the option that `--deps` has replaced. Words after `--` are not
+/// options.
+pub fn has_old_option(words: &[String]) -> bool
+    ensures { result ≡ has_old_option (map string_bytes words.now) }
+{
+    'words: for word in words {
+        let word = word.as_str();
+        if word == "--" {
+            return false;
+        }
+        if word == "--deps-log" {
+            return true;
+        }
+    }
+    false
+}

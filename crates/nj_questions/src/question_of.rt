@@ -1,0 +1,110 @@
+//! The question of a command line's arguments.
+
+ghost use Rattle.std.specs.Prelude.{◌≡◌, ◌⊎◌, [], ◌∷◌, None, Some, Ok, Err, IfOk, IfErr, OnOk, true, is_some, map, string_bytes};
+ghost use Rattle.nj_questions.specs.Cited.{kind_of, question_of, question_model, refusal_model, asked_graph, OutOfMemory, asked, subcommand_rows_of, fault_of, subcommand_of, command, refused_by, is_question, question_in, subject_in, graph_in, rows_in};
+ghost use Rattle.clap.specs.declared.error.kind.ErrorKind.TheVariants as kind;
+
+use crate::command_line::command;
+use crate::fields::{is_on, text_in, text_or};
+use crate::old_option::has_old_option;
+use crate::questions::{GraphOptions, Question};
+use crate::refusals::Refusal;
+use crate::subject_in::subject_in;
+use clap::error::ErrorKind;
+use clap::{ArgMatches, Error};
+use std::alloc::{AllocError, Global};
+
+const MAIN_FILE: &str = "build.ninja";
+
+/// The question of these arguments, without the program's name.
+///
+/// # Errors
+///
+/// The arguments are not a question, or an allocation failed.
+pub fn read_words(alloc: Global, words: &[String]) -> Result<Question, Refusal>
+    ensures ok { IfOk result (λ question.
+        question_of (map string_bytes words.now) ≡ Ok (question_model question)) }
+    ensures err { IfErr result (λ refusal. (refusal ≡ OutOfMemory)
+        ⊎ (question_of (map string_bytes words.now) ≡ Err (refusal_model refusal))) }
+{
+    if has_old_option(words) {
+        return Err(Refusal::OldOption);
+    }
+    match parse(alloc, words) {
+        Ok(matches) => Ok(asked(alloc, &matches)?),
+        Err(refusal) => Err(refusal),
+    }
+}
+
+// The matches of `clap` for the arguments. What describes the command line takes much of the stack,
+// and is gone before a file is read.
+#[inline(never)]
+fn parse<'w>(alloc: Global, words: &'w [String]) -> Result<ArgMatches<'w>, Refusal>
+    ensures ok { OnOk result (fault_of command (map string_bytes words.entry.now) ≡ []) }
+    ensures rows { IfOk result (λ matches. subcommand_rows_of matches
+        ≡ subcommand_of command (map string_bytes words.entry.now)) }
+    ensures err { IfErr result (λ refusal. (refusal ≡ OutOfMemory)
+        ⊎ (refused_by (fault_of command (map string_bytes words.entry.now))
+        ≡ Some (refusal_model refusal))) }
+    ensures question { IfOk result (λ matches.
+        is_question (subcommand_rows_of matches) ≡ true) }
+{
+    let made = command(alloc)?;
+    match made.try_get_matches_from(words) {
+        Ok(matches) => Ok(matches),
+        Err(error) => Err(refusal_of(alloc, &error)),
+    }
+}
+
+// The refusal that reports an error of `clap`.
+fn refusal_of(alloc: Global, error: &Error) -> Refusal
+    ensures memory { kind_of error.now ≡ kind.OutOfMemory → result ≡ OutOfMemory }
+    ensures other { (result ≡ OutOfMemory)
+        ⊎ (refused_by (kind_of error.now ∷ []) ≡ Some (refusal_model result)) }
+{
+    let Ok(text) = format!(in alloc; "{error}") else {
+        return Refusal::OutOfMemory;
+    };
+    match error.kind() {
+        ErrorKind::OutOfMemory => Refusal::OutOfMemory,
+        ErrorKind::DisplayHelp | ErrorKind::DisplayVersion => Refusal::Help(text),
+        _ => Refusal::Unparsed(text),
+    }
+}
+
+// The question of matches that name a subcommand.
+fn asked(alloc: Global, matches: &ArgMatches<'_>) -> Result<Question, AllocError>
+    requires { is_question (subcommand_rows_of matches.now) ≡ true }
+    ensures { IfOk result (λ question.
+        asked None (subcommand_rows_of matches.now) ≡ Ok (question_model question)) }
+{
+    match matches.subcommand() {
+        Some((name, options)) => question_in(alloc, name, options),
+        None => unreachable!(),
+    }
+}
+
+// The question of a subcommand and its options.
+fn question_in(alloc: Global, name: &str, options: &ArgMatches<'_>) -> Result<Question, AllocError>
+    requires { is_some (subject_in name.now (rows_in options.now)) ≡ true }
+    ensures { IfOk result (λ question.
+        question_in name.now (rows_in options.now) ≡ Some (question_model question)) }
+{
+    Ok(Question {
+        folder: text_in(alloc, options, "folder")?,
+        graph: graph_in(alloc, options)?,
+        subject: subject_in(alloc, name, options)?,
+    })
+}
+
+// The options that name the graph.
+fn graph_in(alloc: Global, options: &ArgMatches<'_>) -> Result<GraphOptions, AllocError>
+    ensures { IfOk result (λ graph. asked_graph graph ≡ graph_in (rows_in options.now)) }
+{
+    Ok(GraphOptions {
+        file: text_or(alloc, options, "file", MAIN_FILE)?,
+        dyndep: is_on(options, "dyndep"),
+        deps: is_on(options, "deps"),
+        log: text_in(alloc, options, "deps-log-file")?,
+    })
+}

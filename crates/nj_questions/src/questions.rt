@@ -1,0 +1,111 @@
+//! Questions about the graph of a build.
+
+/// A question about a graph.
+#[derive(Drop)]
+pub struct Question {
+    /// `-C DIR`: the directory to change to before anything else.
+    pub folder: Option<String>,
+    pub graph: GraphOptions,
+    pub subject: Subject,
+}
+
+/// The graph of a question.
+#[derive(Drop)]
+pub struct GraphOptions {
+    /// `-f FILE`: the main file's name; without that option `build.ninja`.
+    pub file: String,
+    /// `--dyndep`: whether what dyndep files discover is joined.
+    pub dyndep: bool,
+    /// `--deps`: whether the inputs that builds discovered are joined.
+    pub deps: bool,
+    /// `--deps-log-file FILE`: the same, with this deps log.
+    pub log: Option<String>,
+}
+
+/// What is asked, by subcommands. Targets, paths, names and marks are as they were given.
+#[derive(Drop)]
+pub enum Subject {
+    /// `affected`: the outputs that a change of files affects.
+    Affected(AffectedOptions),
+    /// `audit`: findings about the manifest.
+    Audit(AuditOptions),
+    /// `draw`: a drawing of edges.
+    Draw(DrawOptions),
+    /// `json`: the edges as objects of JSON.
+    Json,
+    /// `keys`: a key for each command that targets need.
+    Keys(KeysOptions),
+    /// `why`: a chain by which a file needs another.
+    Why(WhyOptions),
+}
+
+/// The options of `affected`.
+#[derive(Drop)]
+pub struct AffectedOptions {
+    /// `--source-dir DIR`: the directory that changed paths are in.
+    pub source_dir: Option<String>,
+    /// `--rule NAME`: only outputs of edges with one of these rules; without any, of all edges.
+    pub rules: Vec<String>,
+    /// `--prefix TEXT`: only outputs whose paths begin so; without that option the empty text.
+    pub prefix: String,
+    /// `--no-phony`: no outputs of phony edges.
+    pub no_phony: bool,
+    /// `--ignore-unknown`: paths that no edge names are not reported.
+    pub ignore_unknown: bool,
+    /// `--allow-empty`: it is no caveat that no path is given.
+    pub allow_empty: bool,
+}
+
+/// The options of `audit`.
+#[derive(Drop)]
+pub struct AuditOptions {
+    /// `--only KIND`: the words of the kinds to find; without any, those on by default.
+    pub only: Vec<String>,
+    /// `--except KIND`: the words of kinds not to find.
+    pub except: Vec<String>,
+    /// `--json`: findings are objects of JSON.
+    pub json: bool,
+    /// `--list`: the kinds are listed, and nothing is read.
+    pub list: bool,
+}
+
+/// The options of `draw`.
+#[derive(Drop)]
+pub struct DrawOptions {
+    /// The files; without any, the default targets.
+    pub targets: Vec<String>,
+    /// `--affected`: the edges that a change of the files affects, not those that they need.
+    pub affected: bool,
+    /// `--fold`: each phony edge is a point.
+    pub fold: bool,
+    /// `--limit N`: at most this many nodes.
+    pub limit: Option<usize>,
+    /// `--inputs K`: at most this many inputs of an edge.
+    pub inputs: Option<usize>,
+}
+
+/// The options of `keys`.
+#[derive(Drop)]
+pub struct KeysOptions {
+    /// `--base DIR`: paths of directories for which numbers stand, in their order.
+    pub bases: Vec<String>,
+    /// `--take N`: at most this many commands.
+    pub take: Option<u64>,
+    /// `--resume MARK`: the text of the mark of the run before.
+    pub resume: Option<String>,
+    /// The targets; without any, the default ones.
+    pub targets: Vec<String>,
+}
+
+/// The options of `why`.
+#[derive(Drop)]
+pub struct WhyOptions {
+    /// The file that needs the other.
+    pub from: String,
+    /// The file that is needed.
+    pub to: String,
+    /// `--validations`: validations are inputs too.
+    pub validations: bool,
+    /// `--no-order-only`: order-only inputs are no inputs.
+    pub no_order_only: bool,
+}

@@ -1,0 +1,213 @@
+//! The subcommands, with their options and all texts of help.
+
+use crate::forms::{Entry, Form};
+
+/// A subcommand: its name, what it does, the text after its options, and its own options.
+#[derive(Clone, Copy)]
+pub struct Topic {
+    pub name: &'static str,
+    pub about: &'static str,
+    pub more: &'static str,
+}
+
+/// The options that name the graph, after those of each subcommand.
+pub const GRAPH_OPTIONS: [Entry; 5] = [
+    (
+        "folder",
+        Form::Short('C', "DIR"),
+        "Change to DIR before anything else",
+    ),
+    (
+        "file",
+        Form::Short('f', "FILE"),
+        "Read FILE in place of build.ninja",
+    ),
+    (
+        "dyndep",
+        Form::Flag,
+        "Join the discoveries of dyndep files, which have to exist",
+    ),
+    (
+        "deps",
+        Form::Flag,
+        "Join the inputs that builds discovered: .ninja_deps in builddir, and depfiles",
+    ),
+    (
+        "deps-log-file",
+        Form::Long("FILE"),
+        "The same as --deps, with the deps log FILE",
+    ),
+];
+
+pub const AFFECTED: Topic = Topic {
+    name: "affected",
+    about: "Read changed paths, and write the outputs that the change affects",
+    more: "\
+A line of standard input is a changed path. With --deps the outputs are those that Ninja would build
+again for the change. Status 3 means that more may be affected: standard error names each path that
+no edge names, each from which the manifest itself is made, each dyndep file and each manifest that
+may change, and what could not be read; or it says that no path was given.
+
+Where CMake wrote the manifest, sources have absolute paths, and with Meson they are relative:
+  git diff --name-only main | ninja-graph affected -C build --deps --source-dir \"$PWD\"
+  git diff --name-only main | ninja-graph affected -C build --deps --source-dir ..",
+};
+
+pub const AFFECTED_OPTIONS: [Entry; 6] = [
+    (
+        "source-dir",
+        Form::Long("DIR"),
+        "Take changed paths as paths in DIR",
+    ),
+    (
+        "rule",
+        Form::Repeated("NAME"),
+        "List only outputs of edges with this rule, or one of these",
+    ),
+    (
+        "prefix",
+        Form::Long("TEXT"),
+        "List only outputs whose paths begin with TEXT",
+    ),
+    ("no-phony", Form::Flag, "List no outputs of phony edges"),
+    (
+        "ignore-unknown",
+        Form::Flag,
+        "Do not report changed paths that no edge names",
+    ),
+    (
+        "allow-empty",
+        Form::Flag,
+        "End with status 0 if no changed path is given",
+    ),
+];
+
+pub const AUDIT: Topic = Topic {
+    name: "audit",
+    about: "Write what is probably a mistake in the manifest, or of no use",
+    more: "\
+A line is a finding: the place of its statement, its kind and a name. Status 3 means that there is
+one, or that standard error names a source that could not be looked up.",
+};
+
+pub const AUDIT_OPTIONS: [Entry; 4] = [
+    (
+        "only",
+        Form::Repeated("KIND"),
+        "Find this kind, in place of those on by default",
+    ),
+    ("except", Form::Repeated("KIND"), "Do not find this kind"),
+    (
+        "json",
+        Form::Flag,
+        "Write an object of JSON for each finding",
+    ),
+    ("list", Form::Flag, "List the kinds, and read nothing"),
+];
+
+pub const DRAW: Topic = Topic {
+    name: "draw",
+    about: "Write a drawing of the edges that targets need, for dot of Graphviz",
+    more: "\
+Without targets it draws the default ones. An ellipse is an edge with its rule, a box is a file, and
+order-only inputs have dashed arrows. A label says how many edges there are, if not all are drawn.
+  ninja-graph draw --limit 40 app | dot -Tsvg > app.svg",
+};
+
+pub const DRAW_OPTIONS: [Entry; 5] = [
+    (
+        "affected",
+        Form::Flag,
+        "Draw the edges that a change of the files affects, not those that they need",
+    ),
+    (
+        "fold",
+        Form::Flag,
+        "Draw each phony edge with its outputs as a point",
+    ),
+    (
+        "limit",
+        Form::Number("N"),
+        "Draw N nodes at most, edges and files together",
+    ),
+    (
+        "inputs",
+        Form::Number("K"),
+        "Draw K inputs of an edge, and write how many more it has [default: 12]",
+    ),
+    (
+        "targets",
+        Form::Words("TARGET"),
+        "The files, as ninja takes targets",
+    ),
+];
+
+pub const JSON: Topic = Topic {
+    name: "json",
+    about: "Write each edge as an object of JSON, a line each",
+    more: "\
+Each object has the same keys in the same order: edge (its number), place (an object: file, line,
+column), rule, phony (true or false), outputs, implicit_outputs, inputs, implicit_inputs,
+order_only_inputs, validations (lists of strings), command, description, depfile, deps, rspfile,
+rspfile_content, pool, dyndep, generator, restat (strings, which are empty where there is none).
+
+The commands of the edges that have a header as an input:
+  ninja-graph json | jq -r 'select(.inputs + .implicit_inputs | index(\"app.h\")) | .command'",
+};
+
+pub const KEYS: Topic = Topic {
+    name: "keys",
+    about: "Write a key for each command that targets need, under which a cache may keep files",
+    more: "\
+A line is a key and the first output of its edge, in the order of `ninja -t commands`. A key changes
+with the command, the response file, the paths of inputs and outputs, and the keys of the edges that
+make the inputs. The contents of files are not in it.
+
+With --take the status is 3 if more are left; standard error then names the mark of the rest.
+
+Builds of one project in two directories have the same keys where these are given alike:
+  ninja-graph keys -C build --base \"$PWD/build\" --base \"$PWD\"",
+};
+
+pub const KEYS_OPTIONS: [Entry; 4] = [
+    (
+        "base",
+        Form::Repeated("DIR"),
+        "Let a number stand for DIR, an absolute path, wherever it is named",
+    ),
+    ("take", Form::Number("N"), "Stop after N commands"),
+    (
+        "resume",
+        Form::Long("MARK"),
+        "Write the rest after the run that named MARK",
+    ),
+    (
+        "targets",
+        Form::Words("TARGET"),
+        "Targets; the default ones if there are none",
+    ),
+];
+
+pub const WHY: Topic = Topic {
+    name: "why",
+    about: "Write a shortest chain of inputs by which A needs B",
+    more: "\
+A line for each edge of the chain: its place, its rule, the file that it makes, and the kind of the
+next input. Of several shortest chains it is the first when inputs are tried from left to right.
+Status 3 means that there is none; nothing is written then.",
+};
+
+pub const WHY_OPTIONS: [Entry; 4] = [
+    (
+        "validations",
+        Form::Flag,
+        "Take validations as inputs too, after those of their edge",
+    ),
+    (
+        "no-order-only",
+        Form::Flag,
+        "Take no order-only inputs as inputs",
+    ),
+    ("A", Form::Word, "The file that needs the other"),
+    ("B", Form::Word, "The file that is needed"),
+];
