@@ -106,6 +106,4 @@ pub struct WhyOptions {
     pub to: String,
     /// `--validations`: validations are inputs too.
     pub validations: bool,
-    /// `--no-order-only`: order-only inputs are no inputs.
-    pub no_order_only: bool,
 }
