@@ -1,6 +1,2 @@
--- the definitions to believe
-pub mod LogPaths
--- how the code does that
-pub mod Inside
 -- what the contracts cite
 pub mod Cited

@@ -1,29 +1,15 @@
 //! The subcommand `audit`: findings about the manifest.
 
-ghost use Rattle.ninja_graph.specs.Cited.{HasInputs};
-
-use crate::caveats::with_caveats;
-use crate::failure::Failure;
+use crate::disk::read_graph;
 use crate::findings::{finding_lines, kind_lines, lookup_lines};
-use crate::reading::{LoggedGraph, read_logged_graph};
 use crate::sources::Sources;
-use crate::words::{flag, repeated};
-use clap::{ArgMatches, Command};
-use nj_ask::{Status, write_both};
+use nj_ask::{Answer, Failure, LoggedGraph, Status, caveat_lines};
 use nj_audit::{Kind, Kinds, audit};
 use nj_graph::Graph;
-use nj_tools::{WriteSink, write_whole};
+use nj_questions::{AuditOptions, GraphOptions};
 use std::alloc::{AllocError, Global};
 use std::io::ErrorKind;
 use std::{env, mem};
-
-const NAME: &str = "audit";
-
-const ABOUT: &str = "Write what is probably a mistake in the manifest, or of no use";
-
-const MORE: &str = "\
-A line is a finding: the place of its statement, its kind and a name. Status 3 means that there is
-one, or that standard error names a source that could not be looked up.";
 
 /// The kind of the findings about sources.
 const MISSING_SOURCES: Kinds = Kinds {
@@ -38,67 +24,64 @@ const MISSING_SOURCES: Kinds = Kinds {
     undeclared_input: false,
 };
 
-/// The subcommand with its options.
-pub fn command<'a>(alloc: Global) -> Result<Command<'a>, AllocError> {
-    Command::new(alloc, NAME)
-        .about(ABOUT)
-        .after_help(MORE)
-        .arg(repeated(
-            alloc,
-            "only",
-            "KIND",
-            "Find this kind, in place of those on by default",
-        ))?
-        .arg(repeated(alloc, "except", "KIND", "Do not find this kind"))?
-        .arg(flag(alloc, "json", "Write an object of JSON for each finding"))?
-        .arg(flag(alloc, "list", "List the kinds, and read nothing"))
-}
-
-/// Writes the findings that the options select, or the kinds.
-#[inline(never)]
-pub fn answer(rt: HostRuntime, options: &ArgMatches<'_>) -> Result<Status, Failure> {
-    if options.get_flag("list") {
-        return write_kinds(rt);
+/// The findings that the options select, or the kinds.
+pub fn answer(
+    rt: HostRuntime,
+    graph: &GraphOptions,
+    options: &AuditOptions,
+) -> Result<Answer, Failure> {
+    if options.list {
+        return Ok(list_kinds(rt.alloc())?);
     }
     let kinds = kinds_of(rt.alloc(), options)?;
-    let logged = read_logged_graph(rt, options, kinds.contains(Kind::UndeclaredInput))?;
-    let written = write_findings(rt, &logged, kinds, options.get_flag("json"));
-    let written = with_caveats(rt, &logged.known, written);
+    let logged = read_graph(rt, graph, kinds.contains(Kind::UndeclaredInput))?;
+    let answer = findings(rt, &logged, kinds, options.json);
     // The process ends here, and its memory with it.
     mem::forget(logged);
-    written
+    Ok(answer?)
 }
 
-/// Writes the kinds.
+/// The kinds.
 #[inline(never)]
-fn write_kinds(rt: HostRuntime) -> Result<Status, Failure> {
-    let lines = kind_lines(rt.alloc())?;
-    write_whole(&mut WriteSink::new(rt.stdout()), &lines)?;
-    Ok(Status::Done)
+fn list_kinds(alloc: Global) -> Result<Answer, AllocError> {
+    Ok(Answer {
+        output: kind_lines(alloc)?,
+        warnings: Vec::new(alloc),
+        looks: false,
+    })
 }
 
 /// The kinds that `--only` and `--except` select.
 #[inline(never)]
-fn kinds_of(alloc: Global, options: &ArgMatches<'_>) -> Result<Kinds, Failure> {
-    let only = options.get_strs("only").unwrap_or(&[]);
-    let except = options.get_strs("except").unwrap_or(&[]);
-    match Kinds::from_words(only, except) {
+fn kinds_of(alloc: Global, options: &AuditOptions) -> Result<Kinds, Failure> {
+    let only = lent(alloc, &options.only)?;
+    let except = lent(alloc, &options.except)?;
+    match Kinds::from_words(&only, &except) {
         Ok(kinds) => Ok(kinds),
-        Err(word) => Err(Failure::Kind(String::from_str(alloc, word)?)),
+        Err(word) => Err(Failure::in_words(
+            alloc,
+            b"unknown kind '",
+            word.as_bytes(),
+            b"'; ninja-graph audit --list lists the kinds",
+            Status::Usage,
+        )),
     }
 }
 
-/// Writes the findings of these kinds, and to standard error a line for each source that cannot be
-/// looked up; if there is any of both, that is something to look at.
+/// The words of a list.
+fn lent<'a>(alloc: Global, words: &'a [String]) -> Result<Vec<&'a str>, AllocError> {
+    words.iter().map(|word| word.as_str()).collect(alloc)
+}
+
+/// The findings of these kinds, and a line for each source that cannot be looked up; if there is any
+/// of both, that is something to look at.
 #[inline(never)]
-fn write_findings(
+fn findings(
     rt: HostRuntime,
     logged: &LoggedGraph,
     kinds: Kinds,
     is_json: bool,
-) -> Result<Status, Failure>
-    requires { HasInputs logged.now }
-{
+) -> Result<Answer, AllocError> {
     let graph = &logged.known.graph;
     let sources = sources_of(rt, graph, kinds)?;
     let folder = working_folder(rt)?;
@@ -110,15 +93,14 @@ fn write_findings(
         &logged.undeclared,
         kinds,
     )?;
-    let lines = finding_lines(rt.alloc(), &found, is_json)?;
-    let unknown = unknown_lines(rt.alloc(), graph, &sources.unknown)?;
-    let mut out = WriteSink::new(rt.stdout());
-    let mut err = WriteSink::new(rt.stderr());
-    let status = write_both(&lines, &unknown, &mut out, &mut err)?;
-    if found.as_slice().is_empty() {
-        return Ok(status);
-    }
-    Ok(Status::Look)
+    let output = finding_lines(rt.alloc(), &found, is_json)?;
+    let mut warnings = unknown_lines(rt.alloc(), graph, &sources.unknown)?;
+    warnings.extend_from_slice(&caveat_lines(rt.alloc(), &logged.known)?)?;
+    Ok(Answer {
+        output,
+        warnings,
+        looks: !found.as_slice().is_empty(),
+    })
 }
 
 /// What the disk has of the sources. Nothing is looked up unless missing sources are requested.

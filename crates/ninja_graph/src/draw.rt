@@ -3,101 +3,61 @@
 
 ghost use Rattle.ninja_graph.specs.Cited.{HasEdges};
 
-use crate::caveats::checked_targets;
-use crate::failure::Failure;
-use crate::words::{count, flag};
-use clap::{Arg, ArgAction, ArgMatches, Command};
-use nj_ask::{DiscoveredGraph, Extent, Status, draw_affected, draw_needed};
-use nj_tools::{Error, WriteSink, write_whole};
-use std::alloc::{AllocError, Global};
-
-const NAME: &str = "draw";
-
-const ABOUT: &str = "Write a drawing of the edges that targets need, for dot of Graphviz";
-
-const MORE: &str = "\
-Without targets it draws the default ones. An ellipse is an edge with its rule, a box is a file, and
-order-only inputs have dashed arrows. A label says how many edges there are, if not all are drawn.
-  ninja-graph draw --limit 40 app | dot -Tsvg > app.svg";
+use crate::disk::read_graph;
+use nj_ask::{
+    Answer, DiscoveredGraph, Extent, Failure, caveat_lines, check_depfiles, draw_affected,
+    draw_needed,
+};
+use nj_questions::{DrawOptions, GraphOptions};
+use std::mem;
 
 /// The inputs that an edge has in a drawing at most, unless an option says otherwise.
 const MOST_INPUTS: usize = 12;
 
-/// The subcommand with its options.
-pub fn command<'a>(alloc: Global) -> Result<Command<'a>, AllocError> {
-    let targets = Arg::new(alloc, "targets").value_name("TARGET");
-    Command::new(alloc, NAME)
-        .about(ABOUT)
-        .after_help(MORE)
-        .arg(flag(
-            alloc,
-            "affected",
-            "Draw the edges that a change of the files affects, not those that they need",
-        ))?
-        .arg(flag(
-            alloc,
-            "fold",
-            "Draw each phony edge with its outputs as a point",
-        ))?
-        .arg(count(
-            alloc,
-            "limit",
-            "N",
-            "Draw N nodes at most, edges and files together",
-        ))?
-        .arg(count(
-            alloc,
-            "inputs",
-            "K",
-            "Draw K inputs of an edge, and write how many more it has [default: 12]",
-        ))?
-        .arg(
-            targets
-                .action(ArgAction::Append)
-                .help("The files, as ninja takes targets"),
-        )
-}
-
-/// Writes the requested drawing.
-#[inline(never)]
+/// The drawing of the edges that the files need or affect, and what may be missing from it.
 pub fn answer(
     rt: HostRuntime,
-    known: &DiscoveredGraph,
-    options: &ArgMatches<'_>,
-) -> Result<Status, Failure>
-    requires { HasEdges known.now }
-{
-    let drawing = drawing_of(rt.alloc(), known, options)?;
-    let mut out = WriteSink::new(rt.stdout());
-    match write_whole(&mut out, &drawing) {
-        Ok(()) => Ok(Status::Done),
-        Err(_fault) => Err(Failure::Graph(Error::Write)),
-    }
+    graph: &GraphOptions,
+    options: &DrawOptions,
+) -> Result<Answer, Failure> {
+    let logged = read_graph(rt, graph, false)?;
+    let answer = answer_of(rt, &logged.known, options);
+    // The process ends here, and its memory with it.
+    mem::forget(logged);
+    answer
 }
 
-/// The drawing of the edges that the files need or affect.
-fn drawing_of(
-    alloc: Global,
+/// The same of a graph.
+#[inline(never)]
+fn answer_of(
+    rt: HostRuntime,
     known: &DiscoveredGraph,
-    options: &ArgMatches<'_>,
-) -> Result<Vec<u8>, Failure>
+    options: &DrawOptions,
+) -> Result<Answer, Failure>
     requires { HasEdges known.now }
 {
-    let words = options.get_strs("targets").unwrap_or(&[]);
-    let extent = Extent {
-        nodes: options.get_one::<usize>("limit").unwrap_or(usize::MAX),
-        inputs: options.get_one::<usize>("inputs").unwrap_or(MOST_INPUTS),
-        folds: options.get_flag("fold"),
+    let alloc = rt.alloc();
+    let files = match known.graph.targets(alloc, &options.targets) {
+        Ok(files) => files,
+        Err(fault) => return Err(Failure::of_fault(alloc, &fault)),
     };
-    let drawing = if options.get_flag("affected") {
-        let files = known.graph.targets(alloc, words)?;
+    let extent = Extent {
+        nodes: options.limit.unwrap_or(usize::MAX),
+        inputs: options.inputs.unwrap_or(MOST_INPUTS),
+        folds: options.fold,
+    };
+    let drawn = if options.affected {
         draw_affected(alloc, known, &files, extent)
     } else {
-        let files = checked_targets(alloc, known, words)?;
+        check_depfiles(alloc, known, files.numbers())?;
         draw_needed(alloc, &files, extent)
     };
-    match drawing {
-        Ok(drawing) => Ok(drawing),
-        Err(_error) => Err(Failure::Graph(Error::OutOfMemory)),
-    }
+    let Ok(output) = drawn else {
+        return Err(Failure::OutOfMemory);
+    };
+    Ok(Answer {
+        output,
+        warnings: caveat_lines(alloc, known)?,
+        looks: false,
+    })
 }

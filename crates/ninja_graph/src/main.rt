@@ -1,147 +1,81 @@
 //! Answers questions about the graph of a Ninja build.
 #![tactic(auto)]
 
-mod affected;
 mod audit;
-mod caveats;
-mod deps_log;
+mod disk;
 mod draw;
-mod failure;
 mod findings;
-mod json;
-mod keys;
-mod reading;
+mod setting;
 mod sources;
-mod why;
-mod words;
 
-use crate::caveats::with_caveats;
-use crate::failure::Failure;
-use crate::reading::read_graph;
-use crate::words::has_old_option;
-use clap::ArgMatches;
-use clap::error::ErrorKind as WordError;
-use nj_ask::Status;
-use nj_tools::Error;
-use std::alloc::Global;
-use std::io::{ErrorKind, Write};
+use nj_ask::{
+    Answer, Failure, Status, ask_read_words, conclude, deliver, refuse_words, report_out_of_memory,
+};
+use nj_disk::{DiskFiles, DiskTimes};
+use nj_questions::{Question, Refusal, Subject, read_words};
+use nj_tools::WriteSink;
+use std::io::ErrorKind;
 use std::process::ExitCode;
-use std::{env, mem};
+use std::{env, io, mem};
 
 fn main(rt: HostRuntime) -> ExitCode {
-    let status = match run(rt) {
-        Ok(status) => status,
-        Err(failure) => report_failure(rt, &failure),
-    };
-    ExitCode::from(status.code())
+    ExitCode::from(run(rt).code())
 }
 
-/// Reports why there is no answer. Where an output stream failed, that is not reported on the other
-/// one.
-#[inline(never)]
-fn report_failure(rt: HostRuntime, failure: &Failure) -> Status {
-    let status = failure.status();
-    if matches!(status, Status::OutputFailed) {
-        return status;
+/// Runs the program with its arguments.
+fn run(rt: HostRuntime) -> Status {
+    let mut err = WriteSink::new(rt.stderr());
+    let words = match words(rt) {
+        Ok(words) => words,
+        Err(e) if e.kind() == ErrorKind::OutOfMemory => return report_out_of_memory(&mut err),
+        Err(_) => return refuse_words(&mut err),
+    };
+    let read = read_words(rt.alloc(), &words);
+    match setting::input_for(rt, &read) {
+        Ok(input) => ask(rt, &read, &input),
+        Err(failure) => conclude(&mut err, &Err(failure)),
     }
-    match failure.line(rt.alloc()) {
-        Ok(line) => {
-            let _ = rt.stderr().write_all(&line);
+}
+
+/// The program's arguments, without its name. It fails if one of them is not UTF-8.
+#[inline(never)]
+fn words(rt: HostRuntime) -> io::Result<Vec<String>> {
+    Ok(env::args(&rt)?.skip(1).collect(rt.alloc())?)
+}
+
+/// Asks what the arguments ask, in the working directory.
+fn ask(rt: HostRuntime, read: &Result<Question, Refusal>, input: &[u8]) -> Status {
+    let alloc = rt.alloc();
+    let mut out = WriteSink::new(rt.stdout());
+    let mut err = WriteSink::new(rt.stderr());
+    let Ok(mut files) = DiskFiles::new(rt, alloc, None) else {
+        return report_out_of_memory(&mut err);
+    };
+    let mut built = DiskFiles::of_regular_files(rt);
+    let times = DiskTimes::new(rt);
+    let asked = ask_read_words(
+        alloc, read, &mut files, &mut built, &times, input, &mut out, &mut err,
+    );
+    match asked {
+        Some(ended) => {
+            let status = ended.status;
+            // The process ends here, and its memory with it.
+            mem::forget(ended);
             status
         }
-        Err(_) => report_out_of_memory(rt),
+        None => conclude(&mut err, &deliver(&mut out, answer(rt, read))),
     }
 }
 
-/// Reports that there was no memory even for the line of a failure.
-fn report_out_of_memory(rt: HostRuntime) -> Status {
-    let _ = rt.stderr().write_all(b"ninja-graph: out of memory\n");
-    Status::Fault
-}
-
-/// Runs the program with its words.
-fn run(rt: HostRuntime) -> Result<Status, Failure> {
-    let words = arguments(rt)?;
-    if has_old_option(&words) {
-        return Err(Failure::OldOption);
-    }
-    match matches_of(rt.alloc(), &words) {
-        Ok(matches) => answer(rt, &matches),
-        Err(error) => print_error(rt, &error),
-    }
-}
-
-/// The values of the words. What describes the command line takes much of the stack, and is gone
-/// before a file is read.
+/// The answer to `audit` or `draw`.
 #[inline(never)]
-fn matches_of<'a>(alloc: Global, words: &'a [String]) -> Result<ArgMatches<'a>, clap::Error> {
-    words::command(alloc)?.try_get_matches_from(words)
-}
-
-/// The program's arguments, without its name.
-#[inline(never)]
-fn arguments(rt: HostRuntime) -> Result<Vec<String>, Failure> {
-    match env::args(&rt) {
-        Ok(words) => match words.skip(1).collect(rt.alloc()) {
-            Ok(words) => Ok(words),
-            Err(_) => Err(Failure::Graph(Error::OutOfMemory)),
-        },
-        Err(error) if error.kind() == ErrorKind::OutOfMemory => {
-            Err(Failure::Graph(Error::OutOfMemory))
-        }
-        Err(_) => Err(Failure::Words),
-    }
-}
-
-/// Prints the text that `clap` has for other arguments, among them those for help.
-///
-/// # Errors
-///
-/// `OutOfMemory` if `clap` had none for its text; then nothing is printed.
-#[inline(never)]
-fn print_error(rt: HostRuntime, error: &clap::Error) -> Result<Status, Failure> {
-    let kind = error.kind();
-    if matches!(kind, WordError::OutOfMemory) {
-        return Err(Failure::Graph(Error::OutOfMemory));
-    }
-    let printed = error.print(&rt);
-    match kind {
-        WordError::DisplayHelp | WordError::DisplayVersion => match printed {
-            Ok(()) => Ok(Status::Done),
-            Err(_) => Ok(Status::OutputFailed),
-        },
-        _ => Ok(Status::Usage),
-    }
-}
-
-/// Runs a subcommand.
-fn answer(rt: HostRuntime, matches: &ArgMatches<'_>) -> Result<Status, Failure> {
-    let Some((name, options)) = matches.subcommand() else {
-        return Ok(Status::Usage);
+fn answer(rt: HostRuntime, read: &Result<Question, Refusal>) -> Result<Answer, Failure> {
+    let Ok(question) = read else {
+        return Err(Failure::OutOfMemory);
     };
-    match name {
-        "audit" => audit::answer(rt, options),
-        "keys" => keys::answer(rt, options),
-        _ => answer_about_graph(rt, name, options),
+    match &question.subject {
+        Subject::Audit(options) => audit::answer(rt, &question.graph, options),
+        Subject::Draw(options) => draw::answer(rt, &question.graph, options),
+        _ => Err(Failure::OutOfMemory),
     }
-}
-
-/// Runs a subcommand on its graph.
-#[inline(never)]
-fn answer_about_graph(
-    rt: HostRuntime,
-    name: &str,
-    options: &ArgMatches<'_>,
-) -> Result<Status, Failure> {
-    let known = read_graph(rt, options)?;
-    let answered = match name {
-        "affected" => affected::answer(rt, &known, options),
-        "draw" => with_caveats(rt, &known, draw::answer(rt, &known, options)),
-        "json" => with_caveats(rt, &known, json::answer(rt, &known.graph)),
-        "why" => with_caveats(rt, &known, why::answer(rt, &known, options)),
-        _ => Ok(Status::Usage),
-    };
-    // The process ends here, and its memory with it.
-    mem::forget(known);
-    answered
 }

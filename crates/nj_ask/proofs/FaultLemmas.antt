@@ -1,8 +1,11 @@
 -- The edges that discoveries are doubtful or faulty for, and the first fault that a question needs.
 use Rattle.std.proofs.Common.{◌≡◌, ◌<◌, ◌≤◌, ◌+◌, ℕ, Bool, true, false, cond, Some, List, [], ◌∷◌}
 use Rattle.std.proofs.Common.{◌++◌}
-use Rattle.std.proofs.Common.{inl, inr, length, map, take, get_or, refl, sym, ap, subst, ◌∙◌, arith}
-use Rattle.std.specs.Prelude.{All, Contains, find, slice_index_or}
+use Rattle.std.proofs.Common.{◌==◌, inl, inr, length, map, take, get_or, refl, sym, ap, subst, ◌∙◌, arith}
+use Rattle.std.proofs.Common.{true≢false}
+use Rattle.std.proofs.lemmas.Bool.Decides.{eqb_tells}
+use Rattle.std.specs.Prelude.{All, Contains, find, slice_index_or, vec_len}
+use Rattle.std.specs.Global.{Vec}
 use Rattle.std.proofs.lemmas.Bool.{both_ways, cases_lt}
 use Rattle.std.proofs.lemmas.List.{get_or-map, get_or_past, length-map}
 use Rattle.std.proofs.lemmas.List.Elements.{All-contains, All-map}
@@ -78,3 +81,16 @@ module _ (count : ℕ) (edges : List EdgeNo) (flags : List Bool)
         get_or_past flags n false (omega (arith, past, counted))
         ∙ sym (not-past n past (is_one_of numbers n) refl)
   ]
+
+-- a list of length zero has no items
+nothing : {X : Type 0} (xs : List X) → length xs ≡ 0 → xs ≡ []
+nothing [] is = refl
+nothing (x ∷ xs) is = absurd (omega (arith, is))
+
+pub no-items : {X : Type 0} (v : Vec X) → (vec_len v == 0) ≡ true → v.items ≡ []
+no-items v is =
+    let counted = v.ok.0 in
+    elim (eqb_tells (vec_len v) 0) [
+      | inl same ↦ let none = same.1 in nothing v.items (omega (arith, none, counted))
+      | inr other ↦ absurd (true≢false (sym is ∙ other.0))
+    ]

@@ -1,6 +1,6 @@
 -- The meaning of no warning; paths have one text of warnings; and which files are at paths.
-use Rattle.std.proofs.Common.{◌≡◌, ◌<◌, ℕ, ◌⊎◌, inl, inr, Bool, true, false, cond, Option, Some, None, Result}
-use Rattle.std.proofs.Common.{Ok, List, [], ◌∷◌, ◌++◌, map, length, get_or, zero, suc, reverse, refl, sym, ap}
+use Rattle.std.proofs.Common.{◌≡◌, ◌<◌, ℕ, ◌⊎◌, inl, inr, Bool, true, false, cond, Option, Some, None}
+use Rattle.std.proofs.Common.{List, [], ◌∷◌, ◌++◌, map, length, get_or, zero, suc, reverse, refl, sym, ap}
 use Rattle.std.proofs.Common.{subst, ◌∙◌, arith}
 use Rattle.std.specs.Prelude.{Contains, codes, bytes_eq}
 use Rattle.std.specs.List.{All, cons_option, filter_map}
@@ -14,23 +14,27 @@ use Rattle.nj_graph.specs.Paths.{clean_path_of}
 use Rattle.nj_graph.specs.ReadingList.{ReadStatement}
 use Rattle.nj_graph.specs.Graph.{GraphModel, files_of}
 use Rattle.nj_ask.specs.declared.discovered.DiscoveredGraph.{DiscoveredGraph}
-use Rattle.nj_ask.specs.Affected.{Asked, changed_file, clean_name, line, number_at, path_in}
+use Rattle.nj_ask.specs.Affected.{changed_file, clean_name, line, number_at, path_in}
 use Rattle.nj_ask.specs.Shape.{shape_text}
 use Rattle.nj_ask.specs.Manifest.{is_named_in, is_opened, makes_manifest, opened_files, opened_paths}
 use Rattle.nj_ask.specs.Manifest.{is_one_of, path_of, IsMadeFrom}
 use Rattle.nj_ask.specs.Inside.Reached.{unnamed_warning, AreOpened}
 use Rattle.nj_ask.specs.Manifest.IsMadeFrom.{by_itself, by_maker}
-use Rattle.nj_ask.specs.Reports.{changed_files, changed_numbers, made_from_line, Question, DoneMissesNothing}
-use Rattle.nj_ask.specs.Reports.{HasWarnings, IsIgnored, IsReport, IsUnnamed, IsWarning, KeepsManifest}
-use Rattle.nj_ask.specs.Reports.{MissesNothing, Reports, WarningsAreUnique}
+use Rattle.nj_ask.specs.Answers.{AnswersAffected, change_asked, outputs_asked}
+use Rattle.nj_ask.specs.Answers.AnswersAffected.{no_path, no_rule, reported}
+use Rattle.nj_ask.specs.Endings.{Concludes, Ending, Ends, Sinks, answered_status}
+use Rattle.nj_ask.specs.Endings.Ends.{ended, memory_fails, output_fails}
+use Rattle.nj_ask.specs.Laws.{DoneMissesNothing, IsIgnored, KeepsManifest, MissesNothing, WarningsAreUnique}
+use Rattle.nj_ask.specs.Lines.{lines_of}
+use Rattle.nj_ask.specs.Reports.{changed_files, changed_numbers, made_from_line, ChangeModel}
+use Rattle.nj_ask.specs.Reports.{HasWarnings, IsReport, IsUnnamed, IsWarning}
 use Rattle.nj_ask.proofs.LineLemmas.{filter-map-map, map-map}
 use Rattle.nj_ask.specs.Reports.HasWarnings.{none, last}
 use Rattle.nj_ask.specs.Reports.IsWarning.{ignored, made_from, nothing, opened, unknown}
-use Rattle.nj_ask.specs.Reports.Reports.{quiet, warned, cut_off, unwarned, refused}
 use Rattle.nj_ask.specs.declared.status.Status.{Status}
 use Rattle.nj_ask.specs.declared.status.Status.TheVariants.{Done}
-use Rattle.nj_tools.specs.Sinks.{SinkState}
-use Rattle.nj_tools.specs.declared.error.Error.{Error}
+use Rattle.nj_tools.specs.Sinks.{Takes}
+use Rattle.nj_questions.specs.Questions.{AffectedModel}
 
 last-apart : {X : Type 0} (xs : List X) (x : X) → [] ≡ xs ++ x ∷ [] → ⊥
 last-apart xs x is = absurd (omega (arith, ap length is, length_push xs x))
@@ -60,7 +64,7 @@ some-apart x o is also = let both : None ≡ Some x = sym is ∙ also in absurd 
 one-value : {X : Type 0} (x y : X) (o : Option X) → o ≡ Some x → o ≡ Some y → x ≡ y
 one-value x y o is also = let both : Some x ≡ Some y = sym is ∙ also in cc
 
-module _ (g : GraphModel) (entries : List ReadStatement) (q : Question) where
+module _ (g : GraphModel) (entries : List ReadStatement) (q : ChangeModel) where
   abbrev found : List ℕ → Option ℕ
   found path = changed_file (files_of g) q.folder path
 
@@ -197,31 +201,56 @@ three-empty first second third is =
     let two = both-empty first second one.0 in
     (two.0, two.1, one.1)
 
-module _ (known : DiscoveredGraph) (entries : List ReadStatement) (q : Question) (asked : Asked)
-    (out new_out err new_err : SinkState) where
-  done-misses : (ended : Result Status Error) → ended ≡ Ok Done
-      → Reports (IsReport known entries q asked) out new_out err new_err ended
-      → MissesNothing known entries q asked out new_out
-  done-misses _ is (quiet {outputs = outputs} report took same) =
+-- an answer with status 0 has no warning
+no-warnings : (warnings : List ℕ) → Done ≡ answered_status false warnings → warnings ≡ []
+no-warnings [] is = refl
+no-warnings (b ∷ warnings) is = absurd cc
+
+module _ (known : DiscoveredGraph) (entries : List ReadStatement) (options : AffectedModel) (input : List ℕ)
+    (old new : Sinks) where
+  abbrev change : ChangeModel
+  change = change_asked options (lines_of input)
+
+  abbrev Misses : Type 0
+  Misses = MissesNothing known entries change (outputs_asked options) old.output new.output
+
+  without-warnings : (outputs warnings : List ℕ) → warnings ≡ []
+      → IsReport known entries change (outputs_asked options) outputs warnings
+      → Takes old.output new.output outputs → Misses
+  without-warnings outputs warnings empty report took =
       let texts = three-empty known.caveats.items report.about
-      (shape_text known entries (changed_numbers known.graph q) report.lists.edges) report.all in
+      (shape_text known entries (changed_numbers known.graph change) report.lists.edges)
+      (sym empty ∙ report.all) in
       record {
-        keeps = λ path has. none-warned known.graph entries q q.paths report.about texts.1 report.warns path
-            has;
+        keeps = λ path has. none-warned known.graph entries change change.paths report.about texts.1
+            report.warns path has;
         clear = sym texts.0;
         outputs = outputs;
         lists = report.lists;
         shape = sym texts.2;
         took = took;
       }
-  done-misses _ is (warned report some took told) = absurd cc
-  done-misses _ is (cut_off report fails same) = absurd cc
-  done-misses _ is (unwarned report took fails) = absurd cc
-  done-misses _ is (refused same same_too) = absurd cc
+
+  answer-misses : {output : List ℕ} {ending : Ending}
+      → AnswersAffected known entries options input output ending
+      → Takes old.output new.output output → Concludes ending old.error new.error Done → Misses
+  answer-misses (no_rule is) took concludes = let is-fault = concludes.1 in absurd cc
+  answer-misses (no_path known_rules empty asks) took (inl told) = let looks = told.1 in absurd cc
+  answer-misses (no_path known_rules empty asks) took (inr fails) = let is-failed = fails.1 in absurd cc
+  answer-misses (reported {outputs = outputs} {warnings = warnings} known_rules some report) took (inl told) =
+      without-warnings outputs warnings (no-warnings warnings told.1) report took
+  answer-misses (reported known_rules some report) took (inr fails) = let is-failed = fails.1 in absurd cc
+
+  done-misses : (status : Status) → status ≡ Done
+      → Ends (AnswersAffected known entries options input) old new status → Misses
+  done-misses _ is (ended {output = output} {ending = ending} answers took concludes) =
+      answer-misses answers took (subst (Concludes ending old.error new.error) is concludes)
+  done-misses _ is (output_fails answers fails same) = absurd cc
+  done-misses _ is (memory_fails front took told) = absurd cc
 
 pub complete : DoneMissesNothing
-complete known entries q asked out new_out err new_err reports =
-    done-misses known entries q asked out new_out err new_err (Ok Done) refl reports
+complete known entries options input old new ends =
+    done-misses known entries options input old new Done refl ends
 
 pub unique : WarningsAreUnique
 unique g entries q paths text other are also = one-text g entries q paths paths text other refl are also

@@ -1,22 +1,16 @@
 -- Which changed paths name files, and which outputs are listed.
 use Rattle.std.specs.Prelude.{◌≡◌, ◌↔◌, ℕ, Bool, ◌&&◌, ◌||◌, not, if◌then◌else◌, Option, Some, None, List, [], ◌∷◌, ◌++◌, map, length, ◌==◌, Contains}
 use Rattle.std.specs.Prelude.{nat_eq, bytes_eq, find, option_and_then, position}
-use Rattle.std.specs.Borrow.{Bor}
 use Rattle.std.specs.List.{flat_map, starts_with}
 use Rattle.std.specs.List.Sorted.{IsStrictlyIncreasing}
 use Rattle.nj_graph.specs.Paths.{clean_path_of}
 use Rattle.nj_graph.specs.Edges.{edge_at, is_among, outputs_of}
 use Rattle.nj_graph.specs.Built.{detail_at}
 use Rattle.nj_graph.specs.Graph.{GraphModel, edges_of, rule_name}
-use Rattle.nj_ask.specs.declared.listing.Listed.{Listed}
 
 -- a path as a line
 abbrev pub line : List ℕ → List ℕ
 line path = path ++ 10 ∷ []
-
--- words that are lent
-abbrev pub texts : List (Bor (List ℕ)) → List (List ℕ)
-texts words = map (λ word. word.now) words
 
 -- ---- changed paths
 
@@ -56,10 +50,6 @@ pub record Asked : Type 0 where
   pub rules : List (List ℕ)
   pub prefix : List ℕ
   pub no_phony : Bool
-
--- the same, of words that are lent
-abbrev pub asked_of : Listed → Asked
-asked_of listed = record { rules = texts listed.rules.now; prefix = listed.prefix.now; no_phony = listed.no_phony }
 
 -- a rule is one of these, or there are none
 abbrev pub is_of_rules : (rules : List (List ℕ)) → (rule : List ℕ) → Bool

@@ -1,35 +1,58 @@
 -- What the contracts of this crate cite: each name comes from the module in its line.
-pub use Rattle.nj_graph.specs.declared.FileNo.{FileNo}
-pub use Rattle.nj_graph.specs.Handles.{edge_of, file_of, detail_of_edge, OfEdge}
-pub use Rattle.nj_graph.specs.Chains.{PathIs}
-pub use Rattle.nj_graph.specs.Graph.{files_of, IsGraphOf, edges_of, rule_name, OfStatements}
-pub use Rattle.nj_ask.specs.Chains.{chain_lines, kind_end, kind_word, place_text, WritesChain}
+pub use Rattle.nj_ask.specs.Answers.{AnswersAffected, change_asked, outputs_asked, HasDepfileFault, IsClear, AnswersJson, AnswersKeys}
+pub use Rattle.nj_ask.specs.Answers.{asked_mark, asked_targets, keys_misuse, AnswersWhy, needed_from}
+pub use Rattle.nj_ask.specs.Inside.Failures.{Gives, Returns, Stops}
+pub use Rattle.nj_ask.specs.Joined.{HasEdges, Follows, HasDoubtfulEdges}
+pub use Rattle.nj_graph.specs.Graph.{OfStatements, files_of, IsGraphOf, edges_of, rule_name}
+pub use Rattle.nj_questions.specs.Questions.{affected_model, question_model, subject_model, asked_graph, keys_model, why_model}
+pub use Rattle.nj_ask.specs.Inside.Lent.{asked_of, change_model, texts}
+pub use Rattle.nj_ask.specs.Reports.{no_path_line, made_from_line, HasWarnings, IsReport}
+pub use Rattle.nj_ask.specs.declared.status.Status.TheVariants.{Fault, Usage}
+pub use Rattle.nj_ask.specs.Results.{Delivers, WritesAnswer, ConcludesTold, FailsBy, SaysFault}
+pub use Rattle.nj_ask.specs.Endings.{Concludes, Reported, answered, memory_line, program_line}
+pub use Rattle.nj_ask.specs.Asks.{around, misuse, Refuses, sinks_of}
+pub use Rattle.nj_ask.specs.AskedWords.{AsksWith, ended_status, is_answered, AsksWords}
+pub use Rattle.nj_ask.specs.Inside.Asking.{AnswersTask, IsGiven, IsTask, IsTaken}
+pub use Rattle.nj_graph.specs.Handles.{edge_of, file_of, OfEdge, paths_of, detail_of_edge}
+pub use Rattle.nj_ask.specs.Chains.{kind_end, kind_word, place_text}
 pub use Rattle.nj_ask.specs.Inside.ChainTexts.{step_line, IsChainText}
 pub use Rattle.std.specs.List.{filter_map, flat_map, filter, list_any, range_with_len}
-pub use Rattle.nj_ask.specs.Affected.{changed_file, clean_name, path_in, asked_of, is_asked_for, is_of_rules, line, line_of_output}
-pub use Rattle.nj_ask.specs.Affected.{lines_of_outputs, rule_names, texts, unknown_rule, number_at}
-pub use Rattle.nj_deps.specs.Logs.{LogModel}
+pub use Rattle.nj_ask.specs.Affected.{changed_file, clean_name, path_in, line, is_asked_for, is_of_rules, line_of_output, lines_of_outputs}
+pub use Rattle.nj_ask.specs.Affected.{rule_names, unknown_rule, number_at}
+pub use Rattle.nj_graph.specs.Files.{path_at}
+pub use Rattle.nj_scope.specs.Sources.{outcome_bytes, SourceState}
+pub use Rattle.nj_scope.specs.ReadingList.{value_if_bound}
+pub use Rattle.nj_deps.specs.Logs.{IsLogFault, IsLogOf, opening, LogModel}
+pub use Rattle.nj_ask.specs.LogsRead.{LacksLog, ReadsBytes, ReadsLog, cut_line, log_path, own_path}
+pub use Rattle.nj_ask.specs.Inside.LogSteps.{IsUnreadable, LacksAt, ReadsAt}
 pub use Rattle.nj_discovered.specs.Times.{DeclaredTimes}
 pub use Rattle.nj_graph.specs.Discovering.{AreDiscovered}
-pub use Rattle.nj_graph.specs.ReadingList.{ReadStatement}
-pub use Rattle.nj_scope.specs.Sources.{SourceState}
-pub use Rattle.nj_ask.specs.DiscoveredGraphs.{JoinsDiscovered, doubtful_edges, faulty_edges, IsTouched}
-pub use Rattle.nj_ask.specs.Joined.{Follows, HasDoubtfulEdges, HasEdges}
-pub use Rattle.nj_ask.specs.Inside.Findings.{AreFindingsOf, if_doubtful, if_faulty}
+pub use Rattle.nj_ask.specs.DiscoveredGraphs.{JoinsDiscovered, depfile_text, doubt_line, doubt_lines, fault_texts, no_time_line}
+pub use Rattle.nj_ask.specs.DiscoveredGraphs.{doubtful_edges, faulty_edges, IsTouched}
+pub use Rattle.nj_ask.specs.Inside.Findings.{AreFindingsOf, text_if_faulty, if_doubtful, if_faulty}
+pub use Rattle.nj_graph.specs.Edges.{first_output, edge_at, is_among, outputs_of, inputs_of, maker_of}
 pub use Rattle.nj_ask.specs.Inside.Quotes.{escaped, escapes, quoted}
+pub use Rattle.nj_graph.specs.Loads.{Loads}
+pub use Rattle.nj_graph.specs.Undeclared.{AreUndeclared, input_of_edge}
+pub use Rattle.nj_ask.specs.KnownGraphs.{IsDeclared, IsDiscovered, KnowsGraph, LacksGraph, ReadsManifest, asks_discovered, discovered_line}
+pub use Rattle.nj_ask.specs.KnownGraphs.{HasStatements, sources_of}
+pub use Rattle.nj_ask.specs.Inside.GraphSteps.{Discovers, LacksDiscovered, LacksMain, LacksManifest}
+pub use Rattle.nj_ask.specs.Shape.{caveat_text, dyndep_files, dyndep_of, dyndep_text, line_if_changes, lines_of_changing, may_change}
+pub use Rattle.nj_ask.specs.Shape.{remade_text, shape_text, unjoined_files}
+pub use Rattle.nj_text.specs.Paths.{clean_path_of, is_absolute}
+pub use Rattle.nj_needs.specs.MarkTexts.{given_mark}
+pub use Rattle.nj_keys.specs.Pages.{leads}
+pub use Rattle.nj_ask.specs.Pages.{mark_line}
+pub use Rattle.nj_ask.specs.Inside.AnswerParts.{IsPageOf, SaysErr, base_misuse}
+pub use Rattle.nj_ask.specs.Lines.{lines_of}
 pub use Rattle.nj_ask.specs.Inside.FileLines.{output_lines, path_lines}
-pub use Rattle.nj_graph.specs.Edges.{edge_at, is_among, outputs_of, inputs_of, maker_of}
 pub use Rattle.nj_ask.specs.MadeFrom.{TellMadeFrom}
-pub use Rattle.nj_graph.specs.Files.{path_at}
 pub use Rattle.nj_ask.specs.Manifest.{has_generator, is_named_in, makers_of_opened, makes_manifest, opened_files, IsMadeFrom}
 pub use Rattle.nj_ask.specs.Inside.Flags.{AreFeeds, AreFlags, is_made_flag, AreMarks}
 pub use Rattle.nj_ask.specs.NeededFaults.{IsFirstFault}
 pub use Rattle.nj_names.specs.NameTables.{with_name}
 pub use Rattle.nj_ask.specs.Inside.Reached.{AreOpened, AddsWarning, AreAffected, AreTouched, CanTellAll, CanTellAt, unnamed_warning}
-pub use Rattle.nj_ask.specs.Pages.{mark_line}
-pub use Rattle.nj_ask.specs.Reports.{Reports, made_from_line, no_path_line, question_of, DoneMissesNothing, HasWarnings, IsReport}
-pub use Rattle.nj_ask.specs.Reports.{WarningsAreUnique}
 pub use Rattle.nj_graph.specs.Changes.{IsAffected}
-pub use Rattle.nj_ask.specs.Shape.{caveat_text, dyndep_files, dyndep_of, dyndep_text, line_if_changes, lines_of_changing, may_change}
-pub use Rattle.nj_ask.specs.Shape.{remade_text, shape_text, unjoined_files}
+pub use Rattle.nj_ask.specs.Laws.{DoneMissesNothing, WarningsAreUnique}
 pub use Rattle.nj_ask.specs.Statuses.{exit_code}
+pub use Rattle.nj_graph.specs.Targets.{picked}

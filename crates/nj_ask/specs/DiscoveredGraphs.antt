@@ -1,22 +1,28 @@
 -- A graph with the inputs that builds discovered, and the edges that a change of files touches.
-use Rattle.std.specs.Prelude.{◌≡◌, ℕ, Bool, true, false, Result, Ok, Err, List, map}
+use Rattle.std.specs.Prelude.{◌≡◌, ℕ, Bool, true, false, Option, Some, None, Result, Ok, Err, List, [], ◌++◌, map, length, codes}
+use Rattle.std.specs.List.{flat_map, range_with_len}
 use Rattle.nj_graph.specs.declared.GraphFault.{GraphFault}
 use Rattle.nj_graph.specs.declared.Verdict.{Verdict}
 use Rattle.nj_graph.specs.declared.Verdict.TheVariants.{Known, Unknown, Faulty}
+use Rattle.nj_discovered.specs.Faults.{error_text}
+use Rattle.nj_discovered.specs.declared.verdict.DepfileError.{DepfileError}
+use Rattle.nj_discovered.specs.declared.verdict.Unknown.TheVariants.{NoTime}
 use Rattle.nj_graph.specs.Changes.{IsAffected}
 use Rattle.nj_graph.specs.DepsLogs.{JoinsNamed}
 use Rattle.nj_graph.specs.Dirty.{IsDirty}
 use Rattle.nj_graph.specs.Discovering.{AreDiscovered}
-use Rattle.nj_graph.specs.Edges.{EdgePaths, edges_from}
+use Rattle.nj_graph.specs.Edges.{EdgePaths, edge_at, edges_from, first_output}
+use Rattle.nj_graph.specs.EdgeList.{edges_read, paths_of_edges}
 use Rattle.nj_faults.specs.Faults.{no_memory}
-use Rattle.nj_graph.specs.Graph.{edges_of}
+use Rattle.nj_graph.specs.Graph.{edges_of, late_text_of}
 use Rattle.nj_graph.specs.ReadingList.{ReadStatement}
 use Rattle.nj_deps.specs.Logs.{LogModel}
-use Rattle.nj_discovered.specs.Discoveries.{DiscoveriesModel, discovery_at}
+use Rattle.nj_discovered.specs.Discoveries.{DiscoveriesModel, discovery_at, found_at}
 use Rattle.nj_discovered.specs.Times.{DeclaredTimes}
 use Rattle.nj_scope.specs.Sources.{SourceState}
 use Rattle.nj_ask.specs.declared.discovered.Discovered.{Discovered}
 use Rattle.nj_ask.specs.declared.discovered.DiscoveredGraph.{DiscoveredGraph}
+use Rattle.nj_ask.specs.Affected.{line}
 
 -- ---- what is not known
 
@@ -39,14 +45,50 @@ faulty_edges found = edges_from 0 (λ edge. is_faulty edge.verdict) found.edges
 abbrev pub doubtful_edges : DiscoveriesModel → List ℕ
 doubtful_edges found = edges_from 0 (λ edge. is_doubtful edge.verdict) found.edges
 
+-- ---- what is said of it
+
+-- the fault of a depfile, after the value of `depfile` of its edge
+abbrev pub depfile_text : List ReadStatement → (edge : ℕ) → DepfileError → List ℕ
+depfile_text entries edge fault = late_text_of entries edge (codes "depfile") ++ codes ": " ++ error_text fault
+
+-- the line about an output whose time cannot be read
+abbrev pub no_time_line : (output : Option (List ℕ)) → List ℕ
+no_time_line None = []
+no_time_line (Some output) = line (output ++ codes ": its time cannot be read")
+
+-- The line about an edge: where its first output has no time that can be read, and where its depfile has a fault. About others
+-- there is none.
+abbrev pub doubt_line : List ReadStatement → (edge : ℕ) → Verdict → List ℕ
+doubt_line entries edge (Unknown NoTime) = no_time_line (first_output (edge_at (paths_of_edges (edges_read entries)) edge))
+doubt_line entries edge (Faulty fault) = line (depfile_text entries edge fault)
+doubt_line entries edge verdict = []
+
+-- the lines about all edges, by number
+abbrev pub doubt_lines : List ReadStatement → DiscoveriesModel → List ℕ
+doubt_lines entries found =
+    flat_map (λ edge. doubt_line entries edge (found_at found edge).verdict) (range_with_len 0 (length found.edges))
+
+-- the text of the fault of a depfile, if it has one
+abbrev pub fault_text : List ReadStatement → (edge : ℕ) → Verdict → List ℕ
+fault_text entries edge (Faulty fault) = depfile_text entries edge fault
+fault_text entries edge verdict = []
+
+-- the texts of the faults of depfiles, by the numbers of their edges
+abbrev pub fault_texts : List ReadStatement → DiscoveriesModel → List (List ℕ)
+fault_texts entries found = map (λ edge. fault_text entries edge (found_at found edge).verdict) (faulty_edges found)
+
+-- ---- its joining
+
 -- The inputs that edges discover are joined to the graph of these statements, by a deps log, depfiles and times, and the edges are
--- listed whose discovered inputs are not known, and those whose depfiles have a fault; or the joined inputs have a dependency cycle; or memory ran out.
+-- listed whose discovered inputs are not known, and those whose depfiles have a fault, with what is said of both; or the joined inputs have a dependency cycle; or memory ran out.
 pub data JoinsDiscovered (before after : SourceState) (times : DeclaredTimes) (log : LogModel) (stated : List ReadStatement) :
     Result Discovered GraphFault → Type 0 where
   joined : {known : Discovered} {found : DiscoveriesModel} → AreDiscovered before after times log stated found
       → JoinsNamed (λ edge. (discovery_at found edge).inputs) stated (Ok known.graph)
       → map (λ edge. edge.0) known.doubts.edges.items ≡ doubtful_edges found
       → map (λ fault. fault.edge.0) known.doubts.faults.items ≡ faulty_edges found
+      → map (λ fault. fault.text.items) known.doubts.faults.items ≡ fault_texts stated found
+      → known.doubts.lines.items ≡ doubt_lines stated found
       → JoinsDiscovered before after times log stated (Ok known)
   refused : {fault : GraphFault} {found : DiscoveriesModel} → AreDiscovered before after times log stated found
       → JoinsNamed (λ edge. (discovery_at found edge).inputs) stated (Err fault) → JoinsDiscovered before after times log stated (Err fault)

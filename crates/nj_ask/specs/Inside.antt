@@ -1,7 +1,13 @@
 -- How the code meets the definitions beside this directory.
+pub mod AnswerParts
+pub mod Asking
 pub mod ChainTexts
+pub mod Failures
 pub mod FileLines
 pub mod Findings
 pub mod Flags
+pub mod GraphSteps
+pub mod Lent
+pub mod LogSteps
 pub mod Quotes
 pub mod Reached

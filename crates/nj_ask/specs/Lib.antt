@@ -1,13 +1,22 @@
 -- the definitions to believe
 pub mod Affected
+pub mod Answers
+pub mod AskedWords
+pub mod Asks
 pub mod Chains
 pub mod DiscoveredGraphs
+pub mod Endings
 pub mod Joined
+pub mod KnownGraphs
+pub mod Laws
+pub mod Lines
+pub mod LogsRead
 pub mod MadeFrom
 pub mod Manifest
 pub mod NeededFaults
 pub mod Pages
 pub mod Reports
+pub mod Results
 pub mod Shape
 pub mod Statuses
 -- how the code does that

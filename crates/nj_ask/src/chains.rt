@@ -1,57 +1,26 @@
 //! The lines of chains of inputs.
 
-ghost use Rattle.std.specs.Prelude.{◌≡◌, ◌++◌, Some, IfOk, OnOk, slice_get};
-ghost use Rattle.nj_ask.specs.Cited.{FileNo, edge_of, file_of, PathIs, files_of, chain_lines, kind_end, kind_word, place_text, WritesChain, step_line, IsChainText};
+ghost use Rattle.std.specs.Prelude.{◌≡◌, ◌++◌, IfOk, OnOk};
+ghost use Rattle.nj_ask.specs.Cited.{edge_of, file_of, kind_end, kind_word, place_text, step_line, IsChainText};
 
 use crate::listing::rule_of;
-use crate::status::Status;
 use nj_graph::{Edge, File, Kind, PlaceRef};
-use nj_tools::{Error, Sink, write_whole};
 use std::alloc::{AllocError, Global};
 
-/// Writes the lines of a shortest chain by which one file needs another, if there is one. Of several
-/// shortest ones it is the first when inputs are tried from left to right. With `with_validations`
-/// validations count as inputs too.
-///
-/// # Errors
-///
-/// `Write` if the sink failed, and `OutOfMemory` if an allocation failed; then nothing was written.
-pub fn write_chain<O: Sink>(
+/// The lines of a shortest chain by which one file of a graph needs another, if there is one. Of
+/// several shortest ones it is the first when inputs are tried from left to right. With
+/// `validations` these count as inputs too.
+pub(crate) fn chain_of(
     alloc: Global,
     from: File<'_>,
     to: File<'_>,
-    with_validations: bool,
-    out: &mut O,
-) -> Result<Status, Error>
-    requires { (file_of to).graph ≡ (file_of from).graph }
-    ensures { (one : FileNo) × (other : FileNo)
-        × (slice_get (files_of (file_of from.entry).graph) one.0
-        ≡ Some (file_of from.entry).path)
-        × (slice_get (files_of (file_of to.entry).graph) other.0
-        ≡ Some (file_of to.entry).path)
-        × WritesChain (PathIs (file_of from.entry).graph.built.graph with_validations one other)
-        (chain_lines (file_of from.entry).graph one) (O.state out.old) (O.state out.new) result }
-{
-    let Some(lines) = chain_of(alloc, from, to, with_validations)? else {
-        return Ok(Status::Look);
-    };
-    write_whole(out, &lines)?;
-    Ok(Status::Done)
-}
-
-/// The lines of a shortest chain from a file to another, if there is one.
-fn chain_of(
-    alloc: Global,
-    from: File<'_>,
-    to: File<'_>,
-    with_validations: bool,
+    validations: bool,
 ) -> Result<Option<Vec<u8>>, AllocError>
     requires { (file_of to).graph ≡ (file_of from).graph }
-    ensures { IfOk result (IsChainText (file_of from.entry) (file_of to.entry) with_validations) }
+    ensures { IfOk result (IsChainText (file_of from.entry) (file_of to.entry) validations) }
 {
     let graph = from.graph();
-    let Some(steps) = graph.path_between(alloc, from.number(), to.number(), with_validations)?
-    else {
+    let Some(steps) = graph.path_between(alloc, from.number(), to.number(), validations)? else {
         return Ok(None);
     };
     let mut lines = Vec::new(alloc);

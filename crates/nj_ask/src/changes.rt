@@ -11,11 +11,11 @@ pub fn known_files(
     alloc: Global,
     graph: &Graph,
     source_dir: Option<&str>,
-    paths: &[Vec<u8>],
+    paths: &[&[u8]],
 ) -> Result<Vec<FileNo>, AllocError>
     ensures files { IfOk result (λ files. map (λ file. file.0) files.items
         ≡ filter_map (λ path. changed_file (files_of graph.now) (option_copied source_dir.entry)
-        path.items) paths.now) }
+        path.now) paths.now) }
     ensures known { IfOk result (λ files.
         All (λ file. file.0 < length (files_of graph.now)) files.items) }
 {

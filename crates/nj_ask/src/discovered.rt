@@ -1,7 +1,8 @@
 //! A graph with the inputs that builds discovered.
 
 ghost use Rattle.std.specs.Prelude.{List, IfOk};
-ghost use Rattle.nj_ask.specs.Cited.{LogModel, DeclaredTimes, AreDiscovered, IsGraphOf, ReadStatement, SourceState, JoinsDiscovered, Follows, HasDoubtfulEdges, AreFindingsOf};
+ghost use Rattle.nj_graph.specs.ReadingList.{ReadStatement};
+ghost use Rattle.nj_ask.specs.Cited.{LogModel, DeclaredTimes, AreDiscovered, IsGraphOf, SourceState, JoinsDiscovered, Follows, HasDoubtfulEdges, AreFindingsOf};
 
 use crate::doubts::{Doubts, EdgeFault, doubts_of};
 use nj_deps::DepsLog;

@@ -1,7 +1,7 @@
 //! What is not known of the inputs that builds discovered.
 
 ghost use Rattle.std.specs.Prelude.{◌≡◌, ◌++◌, ◌<◌, All, IfOk, OnOk, length, map};
-ghost use Rattle.nj_ask.specs.Cited.{edge_of, edges_of, doubtful_edges, faulty_edges, if_doubtful, if_faulty};
+ghost use Rattle.nj_ask.specs.Cited.{OfStatements, OfEdge, paths_of, first_output, line, depfile_text, doubt_line, doubt_lines, fault_texts, no_time_line, text_if_faulty, edge_of, edges_of, doubtful_edges, faulty_edges, if_doubtful, if_faulty};
 
 use crate::listing::push_line;
 use nj_graph::{DepfileError, Discoveries, Edge, EdgeNo, Graph, Unknown, Verdict};
@@ -35,6 +35,10 @@ pub fn doubts_of(alloc: Global, graph: &Graph, found: &Discoveries) -> Result<Do
         All (λ edge. edge.0 < length (edges_of graph.now)) doubts.edges.items) }
     ensures faults { IfOk result (λ doubts. map (λ fault. fault.edge.0) doubts.faults.items
         ≡ faulty_edges found.now) }
+    ensures texts { OfStatements graph.now (λ entries. IfOk result (λ doubts.
+        map (λ fault. fault.text.items) doubts.faults.items ≡ fault_texts entries found.now)) }
+    ensures lines { OfStatements graph.now (λ entries. IfOk result (λ doubts.
+        doubts.lines.items ≡ doubt_lines entries found.now)) }
 {
     let mut edges = Vec::new(alloc);
     let mut lines = Vec::new(alloc);
@@ -59,8 +63,10 @@ fn push_edge(
     verdict: &Verdict,
     lines: &mut Vec<u8>,
 ) -> Result<(), AllocError>
-    ensures { OnOk result (map (λ edge. edge.0) edges.new.items ≡ map (λ edge. edge.0)
+    ensures edges { OnOk result (map (λ edge. edge.0) edges.new.items ≡ map (λ edge. edge.0)
         edges.old.items ++ if_doubtful verdict.now (edge_of edge.entry).number) }
+    ensures line { OfEdge (edge_of edge.entry) (λ entries number. OnOk result
+        (lines.new.items ≡ lines.old.items ++ doubt_line entries number verdict.now)) }
 {
     match verdict {
         Verdict::Known => return Ok(()),
@@ -73,7 +79,10 @@ fn push_edge(
 }
 
 /// Appends the line that says that the time of the first output of an edge cannot be read.
-fn push_no_time(edge: Edge<'_>, lines: &mut Vec<u8>) -> Result<(), AllocError> {
+fn push_no_time(edge: Edge<'_>, lines: &mut Vec<u8>) -> Result<(), AllocError>
+    ensures { OnOk result (lines.new.items ≡ lines.old.items
+        ++ no_time_line (first_output (paths_of (edge_of edge.entry)))) }
+{
     if let Some(output) = edge.outputs().first() {
         lines.extend_from_slice(output.path())?;
         push_line(lines, b": its time cannot be read")?;
@@ -88,8 +97,10 @@ fn faults_of(
     found: &Discoveries,
 ) -> Result<Vec<EdgeFault>, AllocError>
     requires { length found.now.edges ≡ length (edges_of graph.now) }
-    ensures { IfOk result (λ faults.
+    ensures edges { IfOk result (λ faults.
         map (λ fault. fault.edge.0) faults.items ≡ faulty_edges found.now) }
+    ensures texts { OfStatements graph.now (λ entries. IfOk result (λ faults.
+        map (λ fault. fault.text.items) faults.items ≡ fault_texts entries found.now)) }
 {
     let mut faults = Vec::new(alloc);
     'edges: for number in 0..graph.edge_count() {
@@ -106,9 +117,13 @@ fn push_faulty(
     edge: Edge<'_>,
     verdict: &Verdict,
 ) -> Result<(), AllocError>
-    ensures { OnOk result (map (λ fault. fault.edge.0) faults.new.items
+    ensures edges { OnOk result (map (λ fault. fault.edge.0) faults.new.items
         ≡ map (λ fault. fault.edge.0) faults.old.items
         ++ if_faulty verdict.now (edge_of edge.entry).number) }
+    ensures texts { OfEdge (edge_of edge.entry) (λ entries number. OnOk result
+        (map (λ fault. fault.text.items) faults.new.items
+        ≡ map (λ fault. fault.text.items) faults.old.items
+        ++ text_if_faulty entries verdict.now number)) }
 {
     match verdict {
         Verdict::Faulty(fault) => {
@@ -124,7 +139,10 @@ fn push_faulty(
 }
 
 /// The path of the depfile of an edge, and its fault.
-fn fault_text(alloc: Global, edge: Edge<'_>, fault: &DepfileError) -> Result<Vec<u8>, AllocError> {
+fn fault_text(alloc: Global, edge: Edge<'_>, fault: &DepfileError) -> Result<Vec<u8>, AllocError>
+    ensures { OfEdge (edge_of edge.entry) (λ entries number.
+        IfOk result (λ text. text.items ≡ depfile_text entries number fault.now)) }
+{
     let mut text = edge.variable(alloc, b"depfile")?;
     text.extend_from_slice(b": ")?;
     fault.append_text(&mut text)?;
@@ -137,6 +155,9 @@ fn push_fault(
     edge: Edge<'_>,
     fault: &DepfileError,
     lines: &mut Vec<u8>,
-) -> Result<(), AllocError> {
+) -> Result<(), AllocError>
+    ensures { OfEdge (edge_of edge.entry) (λ entries number. OnOk result
+        (lines.new.items ≡ lines.old.items ++ line (depfile_text entries number fault.now))) }
+{
     push_line(lines, &fault_text(alloc, edge, fault)?)
 }

@@ -1,7 +1,7 @@
 //! The requested outputs of edges.
 
-ghost use Rattle.std.specs.Prelude.{◌≡◌, ◌++◌, ◌<◌, All, IfOk, OnOk, length, map, option_map};
-ghost use Rattle.nj_ask.specs.Cited.{rule_name, detail_of_edge, edge_of, output_lines, path_lines, flat_map, edge_at, is_among, outputs_of, edges_of, asked_of, is_asked_for, is_of_rules, line, line_of_output, lines_of_outputs, rule_names, texts, unknown_rule};
+ghost use Rattle.std.specs.Prelude.{◌≡◌, ◌++◌, ◌<◌, All, IfOk, OnOk, length, map, option_map, string_bytes};
+ghost use Rattle.nj_ask.specs.Cited.{rule_name, detail_of_edge, edge_of, output_lines, path_lines, flat_map, edge_at, is_among, outputs_of, edges_of, asked_of, is_asked_for, is_of_rules, line, line_of_output, lines_of_outputs, rule_names, unknown_rule};
 
 use nj_graph::{Edge, Edges, Files, Graph};
 use std::alloc::{AllocError, Global};
@@ -10,7 +10,7 @@ use std::alloc::{AllocError, Global};
 #[derive(Clone, Copy)]
 pub struct Listed<'a> {
     /// The rules of their edges; any rule if there are none.
-    pub rules: &'a [&'a str],
+    pub rules: &'a [String],
     /// How their paths begin.
     pub prefix: &'a str,
     /// Whether the outputs of phony edges are left out.
@@ -18,12 +18,13 @@ pub struct Listed<'a> {
 }
 
 /// The first of these names that no rule has, in any scope; `phony` is a rule too.
-pub fn unknown_rule<'a>(graph: &Graph, names: &[&'a str]) -> Option<&'a str>
-    ensures { option_map (λ name. name.now) result ≡ unknown_rule graph.now (texts names.now) }
+pub fn unknown_rule<'a>(graph: &Graph, names: &'a [String]) -> Option<&'a str>
+    ensures { option_map (λ name. name.now) result
+        ≡ unknown_rule graph.now (map string_bytes names.entry.now) }
 {
     'names: for name in names {
         if !is_rule(graph, name.as_bytes()) {
-            return Some(*name);
+            return Some(name.as_str());
         }
     }
     None
@@ -102,15 +103,15 @@ pub fn rule_of(edge: Edge<'_>) -> &[u8]
 }
 
 /// Whether a rule is one of these, or there are none.
-fn is_of_rules(rules: &[&str], name: &[u8]) -> bool
-    ensures { result ≡ is_of_rules (texts rules.now) name.now }
+fn is_of_rules(rules: &[String], name: &[u8]) -> bool
+    ensures { result ≡ is_of_rules (map string_bytes rules.now) name.now }
 {
     rules.is_empty() || is_named(rules, name)
 }
 
 /// Whether one of these words is a name.
-fn is_named(words: &[&str], name: &[u8]) -> bool
-    ensures { result ≡ is_among (texts words.now) name.now }
+fn is_named(words: &[String], name: &[u8]) -> bool
+    ensures { result ≡ is_among (map string_bytes words.now) name.now }
 {
     words.iter().any(|word| name == word.as_bytes())
 }

@@ -1,17 +1,15 @@
 //! A report about a change of files.
 
-ghost use Rattle.std.specs.Prelude.{◌≡◌, ◌≢◌, ◌⊎◌, ◌<◌, ◌++◌, List, [], All, IfOk, OnOk, false, length, map, true};
-ghost use Rattle.nj_ask.specs.Cited.{OfStatements, ReadStatement, IsAffected, path_at, edges_of, files_of, IsGraphOf, asked_of, IsTouched, made_from_line, no_path_line, question_of, DoneMissesNothing, HasWarnings, IsReport, Reports, WarningsAreUnique, HasEdges, AddsWarning, AreAffected, AreOpened, AreTouched, CanTellAll, CanTellAt, unnamed_warning};
+ghost use Rattle.std.specs.Prelude.{◌≡◌, ◌<◌, ◌++◌, All, IfOk, OnOk, false, length, map};
+ghost use Rattle.nj_ask.specs.Cited.{OfStatements, IsAffected, path_at, edges_of, files_of, asked_of, IsTouched, made_from_line, change_model, texts, DoneMissesNothing, HasWarnings, IsReport, WarningsAreUnique, HasEdges, AddsWarning, AreAffected, AreOpened, AreTouched, CanTellAll, CanTellAt, unnamed_warning};
 
+use crate::answer::Answer;
 use crate::changes::{find_file, known_files};
 use crate::discovered::DiscoveredGraph;
 use crate::listing::{Listed, list_outputs, push_line};
 use crate::manifest::Manifest;
 use crate::shape::shape_lines;
-use crate::status::Status;
-use crate::writing::write_both;
 use nj_graph::{EdgeNo, FileNo, Graph};
-use nj_tools::{Error, Sink};
 use std::alloc::{AllocError, Global};
 
 /// A change of files.
@@ -20,98 +18,38 @@ pub struct Change<'a> {
     /// The directory in which the paths are, if one is given.
     pub source_dir: Option<&'a str>,
     /// The changed paths.
-    pub paths: &'a [Vec<u8>],
+    pub paths: &'a [&'a [u8]],
     /// Whether paths that no edge names are not reported.
     pub ignores_unknown: bool,
 }
 
-/// A report about a change of files.
-#[derive(Drop)]
-struct Report {
-    /// The outputs that the change touches, a line each.
-    outputs: Vec<u8>,
-    /// Why these may not be all, a line for each reason.
-    warnings: Vec<u8>,
-}
-
-/// What standard error says where no path was given.
-const NO_PATH: &[u8] = b"ninja-graph: no changed path was given\n";
-
-/// Writes the answer about a change. Without a path that is a line on standard error, and something
-/// to look at, unless no path need be given: what should have listed the paths may have failed.
-///
-/// # Errors
-///
-/// Those of [`write_report`].
-pub fn write_answer<O: Sink, E: Sink>(
-    alloc: Global,
-    known: &DiscoveredGraph,
-    change: Change<'_>,
-    allow_empty: bool,
-    listed: Listed<'_>,
-    out: &mut O,
-    err: &mut E,
-) -> Result<Status, Error>
-    requires { HasEdges known.now }
-    ensures nothing { allow_empty ≡ false → change.entry.paths.now ≡ []
-        → Reports (λ outputs warnings. (outputs ≡ []) × (warnings ≡ no_path_line))
-        (O.state out.old) (O.state out.new) (E.state err.old) (E.state err.new) result }
-    ensures report { (allow_empty ≡ true) ⊎ (change.entry.paths.now ≢ [])
-        → (entries : List ReadStatement) → IsGraphOf known.now.graph entries
-        → Reports (IsReport known.now entries (question_of change.entry) (asked_of listed.entry))
-        (O.state out.old) (O.state out.new) (E.state err.old) (E.state err.new) result }
-{
-    if change.paths.is_empty() && !allow_empty {
-        return write_both(b"", NO_PATH, out, err);
-    }
-    write_report(alloc, known, change, listed, out, err)
-}
-
-/// Writes the report about a change: to standard output the requested ones of the outputs of exactly
-/// the edges that it touches, in reading order, and to standard error why these may not be all. If
-/// there is a reason, there is something to look at.
-///
-/// # Errors
-///
-/// `Write` if a sink failed, and `OutOfMemory` if an allocation failed; then nothing was written.
-pub fn write_report<O: Sink, E: Sink>(
+/// The report about a change: the requested ones of the outputs of exactly the edges that it
+/// touches, in reading order, and why these may not be all.
+pub(crate) fn report_of(
     alloc: Global,
     known: &DiscoveredGraph,
     change: Change<'_>,
     listed: Listed<'_>,
-    out: &mut O,
-    err: &mut E,
-) -> Result<Status, Error>
+) -> Result<Answer, AllocError>
     requires { HasEdges known.now }
-    ensures { OfStatements known.now.graph (λ entries.
-        Reports (IsReport known.now entries (question_of change.entry) (asked_of listed.entry))
-        (O.state out.old) (O.state out.new) (E.state err.old) (E.state err.new) result) }
-{
-    let report = report_of(alloc, known, change, listed)?;
-    write_both(&report.outputs, &report.warnings, out, err)
-}
-
-/// The report about a change.
-fn report_of(
-    alloc: Global,
-    known: &DiscoveredGraph,
-    change: Change<'_>,
-    listed: Listed<'_>,
-) -> Result<Report, AllocError>
-    requires { HasEdges known.now }
-    ensures { OfStatements known.now.graph (λ entries.
-        IfOk result (λ report. IsReport known.now entries (question_of change.entry)
-        (asked_of listed.entry) report.outputs.items report.warnings.items)) }
+    ensures report { OfStatements known.now.graph (λ entries.
+        IfOk result (λ answer. IsReport known.now entries (change_model change.entry)
+        (asked_of listed.entry) answer.output.items answer.warnings.items)) }
+    ensures looks { IfOk result (λ answer. answer.looks ≡ false) }
 {
     let graph = &known.graph;
     let changed = known_files(alloc, graph, change.source_dir, change.paths)?;
     let affected = graph.affected_by(alloc, &changed)?;
     let about = warnings_of(alloc, known, change, &affected)?;
     let touched = touched_by(alloc, known, &changed, affected)?;
-    let outputs = list_outputs(alloc, graph.edges_at(&touched), listed)?;
+    let output = list_outputs(alloc, graph.edges_at(&touched), listed)?;
     let shape = shape_lines(alloc, known, &changed, &touched)?;
     let warnings = joined(alloc, &known.caveats, &about, &shape)?;
-    Ok(Report { outputs, warnings })
+    Ok(Answer {
+        output,
+        warnings,
+        looks: false,
+    })
 }
 
 /// Three texts, one after the other.
@@ -154,11 +92,11 @@ fn warnings_of(
     affected: &[EdgeNo],
 ) -> Result<Vec<u8>, AllocError>
     requires known { All (λ edge. edge.0 < length (edges_of known.now.graph)) affected.now }
-    requires affected { AreAffected known.now.graph (question_of change)
+    requires affected { AreAffected known.now.graph (change_model change)
         (map (λ edge. edge.0) affected.now) }
     ensures { OfStatements known.now.graph (λ entries.
-        IfOk result (λ text. HasWarnings known.now.graph entries (question_of change.entry)
-        (map (λ path. path.items) change.entry.paths.now) text.items)) }
+        IfOk result (λ text. HasWarnings known.now.graph entries (change_model change.entry)
+        (texts change.entry.paths.now) text.items)) }
 {
     let manifest = Manifest::new(alloc, &known.graph, known.keys, affected)?;
     warnings_about(alloc, &known.graph, change, &manifest)
@@ -172,11 +110,11 @@ fn warnings_about(
     manifest: &Manifest,
 ) -> Result<Vec<u8>, AllocError>
     requires tells { OfStatements graph.now (λ entries.
-        CanTellAll graph.now entries (question_of change) manifest.now) }
+        CanTellAll graph.now entries (change_model change) manifest.now) }
     requires names { AreOpened graph.now manifest.now.names }
     ensures { OfStatements graph.now (λ entries.
-        IfOk result (λ text. HasWarnings graph.now entries (question_of change.entry)
-        (map (λ path. path.items) change.entry.paths.now) text.items)) }
+        IfOk result (λ text. HasWarnings graph.now entries (change_model change.entry)
+        (texts change.entry.paths.now) text.items)) }
 {
     let mut warnings = Vec::new(alloc);
     'paths: for path in change.paths {
@@ -195,10 +133,10 @@ fn push_warning(
     warnings: &mut Vec<u8>,
 ) -> Result<(), AllocError>
     requires tells { OfStatements graph.now (λ entries.
-        CanTellAt graph.now entries (question_of change) path.now manifest.now) }
+        CanTellAt graph.now entries (change_model change) path.now manifest.now) }
     requires names { AreOpened graph.now manifest.now.names }
     ensures { OfStatements graph.now (λ entries.
-        OnOk result (AddsWarning graph.now entries (question_of change.entry)
+        OnOk result (AddsWarning graph.now entries (change_model change.entry)
         path.now warnings.old.items warnings.new.items)) }
 {
     let Some(file) = find_file(alloc, graph, change.source_dir, path)? else {
@@ -219,7 +157,7 @@ fn push_unnamed(
     warnings: &mut Vec<u8>,
 ) -> Result<(), AllocError>
     ensures { OnOk result (warnings.new.items ≡ warnings.old.items
-        ++ unnamed_warning manifest.now.names (question_of change.entry) path.now) }
+        ++ unnamed_warning manifest.now.names (change_model change.entry) path.now) }
 {
     if manifest.is_opened(alloc, change.source_dir, path)? {
         return push_made_from(warnings, path);
@@ -240,7 +178,7 @@ fn push_made_from(lines: &mut Vec<u8>, path: &[u8]) -> Result<(), AllocError>
     Ok(())
 }
 
-/// Where a change is reported with status 0, each changed path names a file that was not opened and
+/// Where `affected` ends with status 0, each changed path names a file that was not opened and
 /// that no edge which makes the manifest needs, and the outputs that were written are all that it
 /// affects; some paths have one text of warnings only.
 pub fn report_law()

@@ -12,7 +12,7 @@ use Rattle.nj_ask.specs.declared.discovered.DiscoveredGraph.{DiscoveredGraph}
 use Rattle.nj_ask.specs.Affected.{changed_file, clean_name, line, path_in}
 use Rattle.nj_ask.specs.Inside.Flags.{AreFeeds, AreFlags}
 use Rattle.nj_ask.specs.Manifest.{is_named_in, is_one_of, makes_manifest, opened_files, opened_paths, path_of}
-use Rattle.nj_ask.specs.Reports.{changed_numbers, changed_paths, made_from_line, HasWarnings, Question}
+use Rattle.nj_ask.specs.Reports.{changed_numbers, changed_paths, made_from_line, HasWarnings, ChangeModel}
 
 -- the manifest, where these edges are affected
 pub record IsReached (g : GraphModel) (entries : List ReadStatement) (edges : List ℕ) (m : Manifest) : Type 0 where
@@ -27,19 +27,19 @@ pub record CanTell (g : GraphModel) (entries : List ReadStatement) (file : ℕ) 
       ↔ ((maker : ℕ) × (makes_manifest g entries maker ≡ true) × IsOrNeeds (edges_of g) maker edge)
 
 -- of the file at a changed path, if there is one
-abbrev pub CanTellAt : GraphModel → List ReadStatement → Question → (path : List ℕ) → Manifest → Type 0
+abbrev pub CanTellAt : GraphModel → List ReadStatement → ChangeModel → (path : List ℕ) → Manifest → Type 0
 CanTellAt g entries q path m = (file : ℕ) → changed_file (files_of g) q.folder path ≡ Some file → CanTell g entries file m
 
 -- of each file at these paths
-abbrev pub CanTellAll : GraphModel → List ReadStatement → Question → Manifest → Type 0
+abbrev pub CanTellAll : GraphModel → List ReadStatement → ChangeModel → Manifest → Type 0
 CanTellAll g entries q m = (file : ℕ) → Contains (changed_numbers g q) file → CanTell g entries file m
 
 -- exactly these edges have, through any chain, one of the changed files as an input
-abbrev pub AreAffected : GraphModel → Question → (edges : List ℕ) → Type 0
+abbrev pub AreAffected : GraphModel → ChangeModel → (edges : List ℕ) → Type 0
 AreAffected g q edges = (edge : ℕ) → Contains edges edge ↔ IsAffected (edges_of g) (changed_paths g q) edge
 
 -- a text gets the warning about a path, after those about others
-abbrev pub AddsWarning : GraphModel → List ReadStatement → Question → (path old new : List ℕ) → Type 0
+abbrev pub AddsWarning : GraphModel → List ReadStatement → ChangeModel → (path old new : List ℕ) → Type 0
 AddsWarning g entries q path old new =
     (paths : List (List ℕ)) → HasWarnings g entries q paths old → HasWarnings g entries q (paths ++ path ∷ []) new
 
@@ -48,7 +48,7 @@ abbrev pub AreOpened : GraphModel → (names : List (List ℕ)) → Type 0
 AreOpened g names = (path : List ℕ) → is_among names path ≡ is_among (opened_paths g) path
 
 -- the warning about a path that no edge names, by a table of the paths of files that were opened
-abbrev pub unnamed_warning : (names : List (List ℕ)) → Question → (path : List ℕ) → List ℕ
+abbrev pub unnamed_warning : (names : List (List ℕ)) → ChangeModel → (path : List ℕ) → List ℕ
 unnamed_warning names q path =
     if is_named_in names (clean_name (path_in q.folder path)) then made_from_line path
     else (if q.ignores_unknown then [] else line path)

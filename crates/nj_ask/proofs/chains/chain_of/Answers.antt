@@ -1,10 +1,11 @@
-use Rattle.std.proofs.Common.{◌≡◌, [], ◌++◌, append-nil, drop, Some, option_map, sym, ap, subst, ◌∙◌}
+use Rattle.std.proofs.Common.{◌≡◌, [], ◌++◌, append-nil, drop, Some, option_map, slice_get, sym, ap}
+use Rattle.std.proofs.Common.{subst, ◌∙◌}
 use Rattle.std.proofs.lemmas.List.{drop_all}
 use Rattle.nj_graph.specs.Chains.{PathIs}
-use Rattle.nj_graph.specs.Graph.{GraphModel}
-use Rattle.nj_graph.specs.Handles.{edge_of, file_of}
-use Rattle.nj_ask.specs.Inside.ChainTexts.{step_lines}
-use Rattle.nj_ask.proofs.ChainLemmas.{step-more}
+use Rattle.nj_graph.specs.Graph.{GraphModel, files_of}
+use Rattle.nj_graph.specs.Handles.{edge_of, file_in, file_of, number_of}
+use Rattle.nj_ask.specs.Chains.{chain_lines}
+use Rattle.nj_ask.proofs.ChainLemmas.{has-chain, step-more}
 use Rattle.nj_ask.proofs.chains.chain_of.Goals as goal
 
 pub steps-preserved : goal.steps-preserved
@@ -12,13 +13,14 @@ steps-preserved c =
     let g = c.graph-graph.result.now in
     let steps = c.deref-step-items.result.now in
     step-more g steps c.steps.step-index _ c.steps.lines.items c.push_step.new.lines.items
-    (step_lines g (file_of c.args.from).path steps) (file_of c.steps.user).path (edge_of c.edge_at.result)
+    (chain_lines g (file_of c.args.from).path steps) (file_of c.steps.user).path (edge_of c.edge_at.result)
     (file_of c.file_at-input.result) c.steps-test.true c.edge_at.ensures c.file_at-input.ensures
     c.in_ok-push_step.ensures c.steps.invariant
 
 pub returns : goal.returns
 returns c =
     let from = file_of c.args.from in
+    let to = file_of c.args.to in
     let g = c.graph-graph.result.now in
     let same : g ≡ from.graph = c.graph-graph.ensures in
     let steps = c.deref-step-items.result.now in
@@ -26,21 +28,18 @@ returns c =
     let text = c.steps.lines.items in
     let none : drop i steps ≡ [] = drop_all i steps c.steps-test.false in
     let lines = sym (append-nil text)
-    ∙ ap (λ left. text ++ step_lines g (file_of c.steps.user).path left) (sym none) ∙ c.steps.invariant
-    ∙ ap (λ (h : GraphModel). step_lines h from.path steps) same
-    ∙ ap (step_lines from.graph from.path) c.deref-step-items.ensures.value in
+    ∙ ap (λ left. text ++ chain_lines g (file_of c.steps.user).path left) (sym none) ∙ c.steps.invariant
+    ∙ ap (λ (h : GraphModel). chain_lines h from.path steps) same
+    ∙ ap (chain_lines from.graph from.path) c.deref-step-items.ensures.value in
     let one = c.number.result in
     let other = c.number-2.result in
-    let wide = c.args.with_validations in
-    record {
-      one = one;
-      other = other;
-      from_is = c.number.ensures.number;
-      to_is = c.number-2.ensures.number;
-      steps = Some c.in-Some.steps.items;
-      chain = subst (λ h. PathIs h wide one other (Some c.in-Some.steps.items))
-          (c.deref.ensures ∙ ap (λ (h : GraphModel). h.built.graph) same)
-          (subst (λ found. PathIs c.deref.result.now wide one other (option_map (λ steps. steps.items) found))
-          c.in-Some.is c.in_ok-steps.ensures.path);
-      lines = ap Some lines;
-    }
+    let wide = c.args.validations in
+    let found = subst (λ h. PathIs h wide one other (Some c.in-Some.steps.items))
+    (c.deref.ensures ∙ ap (λ (h : GraphModel). h.built.graph) same)
+    (subst (λ path. PathIs c.deref.result.now wide one other (option_map (λ steps. steps.items) path))
+    c.in-Some.is c.in_ok-steps.ensures.path) in
+    has-chain from.graph wide from.path to.path one other c.number.ensures.number
+    (subst (λ (h : GraphModel). slice_get (files_of h) other.0 ≡ Some to.path) c.requires
+    c.number-2.ensures.number) c.number.ensures.place
+    (subst (λ (h : GraphModel). other.0 ≡ number_of (file_in h to.path)) c.requires
+    c.number-2.ensures.place) c.in-Some.steps.items text found lines

@@ -2,7 +2,6 @@ use Rattle.std.proofs.Common.{◌<◌, All, length, map, option_map, ap, sym, su
 use Rattle.std.specs.Prelude.{IfSome, option_copied}
 use Rattle.std.proofs.lemmas.List.Elements.{All-push}
 use Rattle.nj_graph.specs.Graph.{files_of}
-use Rattle.nj_ask.specs.Affected.{changed_file}
 use Rattle.nj_ask.proofs.LineLemmas.{files-more, files-same}
 use Rattle.nj_ask.proofs.changes.known_files.Goals as goal
 use Rattle.nj_ask.proofs.changes.known_files.Goals.{in-Some+in_ok-push-in-Some, in-None}
@@ -13,15 +12,13 @@ paths-preserved c =
     let folder = option_copied c.args.source_dir in
     let paths = c.args.paths.now in
     let i = c.paths.path-index in
-    let item = c.path-item.result in
-    let path = c.deref.ensures.value ∙ ap (λ v. v.items) c.path-item.is in
-    let number = c.in_ok-found.ensures.file ∙ ap (changed_file files folder) path in
+    let number = c.in_ok-found.ensures.file in
     elim c.match-found.branch [
       | in-Some+in_ok-push-in-Some w ↦
           let is = sym number ∙ ap (option_map (λ f. f.0)) w.in-Some.is in
           record {
             files = ap (λ v. map (λ f. f.0) v.items) w.files-is
-                ∙ files-more files folder (λ v. v.items) paths i item c.paths-test.true c.paths.files.items
+                ∙ files-more files folder (λ v. v.now) paths i _ c.paths-test.true c.paths.files.items
                 w.push.new.self.items w.in-Some.file is w.in_ok-push-in-Some.ensures.items
                 c.paths.invariant.files;
             known = subst (λ fs. All (λ f. f.0 < length files) fs)
@@ -34,7 +31,7 @@ paths-preserved c =
           let is = sym number ∙ ap (option_map (λ f. f.0)) w.in-None.is in
           record {
             files = ap (λ v. map (λ f. f.0) v.items) w.files-is
-                ∙ files-same files folder (λ v. v.items) paths i item c.paths-test.true c.paths.files.items is
+                ∙ files-same files folder (λ v. v.now) paths i _ c.paths-test.true c.paths.files.items is
                 c.paths.invariant.files;
             known = subst (λ v. All (λ f. f.0 < length files) v.items) (sym w.files-is)
                 c.paths.invariant.known;

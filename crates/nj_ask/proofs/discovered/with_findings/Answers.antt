@@ -12,7 +12,8 @@ returns-in_err-graph-clause-joins c = λ before after times log stated is are.
 
 pub returns-clause-joins : goal.returns-clause-joins
 returns-clause-joins c = λ before after times log stated is are. joined are
-    (c.in_ok-graph.ensures.joins stated is) c.requires.unknown c.requires.faulty
+    (c.in_ok-graph.ensures.joins stated is) c.requires.unknown c.requires.faulty (c.requires.texts stated is)
+    (c.requires.lines stated is)
 
 pub returns-clause-edges : goal.returns-clause-edges
 returns-clause-edges c = subst (λ count. All (λ (edge : EdgeNo). edge.0 < count)

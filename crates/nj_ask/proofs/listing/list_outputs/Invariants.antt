@@ -1,5 +1,5 @@
 use Rattle.std.proofs.Common.{◌≡◌, ◌++◌}
-use Rattle.nj_ask.specs.Affected.{asked_of}
+use Rattle.nj_ask.specs.Inside.Lent.{asked_of}
 use Rattle.nj_ask.specs.Inside.FileLines.{output_lines}
 use Rattle.nj_ask.proofs.listing.list_outputs.Given as goal
 

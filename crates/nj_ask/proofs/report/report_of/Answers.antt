@@ -9,9 +9,11 @@ use Rattle.nj_graph.specs.Graph.{edges_of, files_of}
 use Rattle.nj_graph.specs.Handles.{GraphEdge, edge_in}
 use Rattle.std.proofs.lemmas.List.Folds.{flat_map-map}
 use Rattle.nj_ask.specs.Inside.FileLines.{output_lines}
-use Rattle.nj_ask.specs.Affected.{asked_of, changed_file, lines_of_outputs}
+use Rattle.nj_ask.specs.Affected.{changed_file, lines_of_outputs}
+use Rattle.nj_ask.specs.Inside.Lent.{asked_of}
 use Rattle.nj_ask.specs.DiscoveredGraphs.{IsTouched}
-use Rattle.nj_ask.specs.Reports.{changed_numbers, question_of}
+use Rattle.nj_ask.specs.Reports.{changed_numbers}
+use Rattle.nj_ask.specs.Inside.Lent.{change_model}
 use Rattle.nj_ask.specs.Shape.{shape_text}
 use Rattle.nj_ask.proofs.LineLemmas.{filter-map-map}
 use Rattle.nj_ask.proofs.ReportLaws.{changed-paths}
@@ -20,12 +22,12 @@ use Rattle.nj_ask.proofs.report.report_of.Goals as goal
 pub warnings_of-requires-clause-affected : goal.warnings_of-requires-clause-affected
 warnings_of-requires-clause-affected c edge =
     let g = c.args.known.now.graph in
-    let q = question_of c.args.change in
+    let q = change_model c.args.change in
     let changed = c.in_ok-changed.changed.items in
     let numbers = λ (edges : List EdgeNo). map (λ (e : EdgeNo). e.0) edges in
     let paths =
     ap (map (path_at (files_of g))) c.deref-2.ensures.value
-    ∙ changed-paths g q.folder (λ path. path.items) c.args.change.paths.now changed
+    ∙ changed-paths g q.folder (λ path. path.now) c.args.change.paths.now changed
     c.in_ok-changed.ensures.files
     in
     subst (λ paths. Contains (numbers c.deref-3.result.now) edge ↔ IsAffected (edges_of g) paths edge) paths
@@ -48,22 +50,22 @@ touched_by-requires-clause-affected c =
       below = rw c.deref.ensures at c.in_ok-affected.ensures.known;
     }
 
-pub returns : goal.returns
-returns c entries graph =
+pub returns-clause-report : goal.returns-clause-report
+returns-clause-report c entries graph =
     let known = c.args.known.now in
     let g = known.graph in
-    let q = question_of c.args.change in
+    let q = change_model c.args.change in
     let changed = c.in_ok-changed.changed.items in
     let touched = c.in_ok-touched.touched.items in
     let lines = lines_of_outputs g (asked_of c.args.listed) in
     let numbers = λ (edges : List EdgeNo). map (λ (e : EdgeNo). e.0) edges in
     let paths =
     ap (map (path_at (files_of g))) c.deref-4.ensures.value
-    ∙ changed-paths g q.folder (λ path. path.items) c.args.change.paths.now changed
+    ∙ changed-paths g q.folder (λ path. path.now) c.args.change.paths.now changed
     c.in_ok-changed.ensures.files
     in
     let files = ap (map (λ (f : FileNo). f.0)) c.deref-6.ensures.value ∙ c.in_ok-changed.ensures.files
-    ∙ sym (filter-map-map (changed_file (files_of g) q.folder) (λ path. path.items) c.args.change.paths.now)
+    ∙ sym (filter-map-map (changed_file (files_of g) q.folder) (λ path. path.now) c.args.change.paths.now)
     in
     let edges = ap numbers c.deref-7.ensures.value in
     record {
@@ -72,7 +74,7 @@ returns c entries graph =
         touched = λ edge. subst (λ paths. Contains (numbers touched) edge ↔ IsTouched known paths edge) paths
             (c.in_ok-touched.ensures.touched edge);
         rises = c.in_ok-touched.ensures.rises;
-        lines = c.in_ok-outputs.ensures ∙ ap (output_lines (asked_of c.args.listed)) c.edges_at.ensures
+        lines = c.in_ok-output.ensures ∙ ap (output_lines (asked_of c.args.listed)) c.edges_at.ensures
             ∙ flat_map-map (λ (edge : GraphEdge). lines_of_outputs edge.graph (asked_of c.args.listed)
             edge.number)
             (edge_in g) (numbers c.deref-5.result.now)

@@ -1,2 +1,0 @@
--- How the code meets the definitions beside this directory.
-pub mod Logged

@@ -1,0 +1,151 @@
+-- How a question ends, by what is left to report.
+use Rattle.std.proofs.Common.{◌≡◌, ℕ, Bor, List, [], true, false, Some, None, unwrap_or, Result, Err, inl}
+use Rattle.std.proofs.Common.{refl, sym, subst}
+use Rattle.std.proofs.lemmas.Option.{none-some}
+use Rattle.nj_discovered.specs.Times.{DeclaredTimes}
+use Rattle.nj_tools.specs.Sinks.{FailsWithin, SinkState, Takes}
+use Rattle.nj_tools.proofs.SinkLemmas.{Takes-nil}
+use Rattle.nj_questions.specs.Questions.{QuestionModel, SubjectModel, affected, audit, draw, json, keys, why}
+use Rattle.nj_questions.specs.Questions.{affected_model, keys_model, why_model}
+use Rattle.nj_questions.specs.declared.questions.AffectedOptions.{AffectedOptions}
+use Rattle.nj_questions.specs.declared.questions.KeysOptions.{KeysOptions}
+use Rattle.nj_questions.specs.declared.questions.WhyOptions.{WhyOptions}
+use Rattle.nj_graph.specs.ReadingList.{ReadStatement}
+use Rattle.nj_ask.specs.declared.discovered.DiscoveredGraph.{DiscoveredGraph}
+use Rattle.nj_ask.specs.declared.answer.Told.{Told}
+use Rattle.nj_ask.specs.declared.asking.Task.{Task}
+use Rattle.nj_ask.specs.declared.asking.Task.TheVariants as task
+use Rattle.nj_ask.specs.declared.failure.Failure.{Failure}
+use Rattle.nj_ask.specs.declared.failure.Failure.TheVariants.{Refused, Write, OutOfMemory}
+use Rattle.nj_ask.specs.declared.keys.PageAsked.{PageAsked}
+use Rattle.nj_ask.specs.declared.status.Status.{Status}
+use Rattle.nj_ask.specs.declared.status.Status.TheVariants.{Done, Fault, OutputFailed, Usage}
+use Rattle.nj_ask.specs.AskedWords.{is_answered}
+use Rattle.nj_ask.specs.Answers.{AnswersAffected, AnswersKeys, AnswersWhy}
+use Rattle.nj_ask.specs.Asks.{Answers, Around, Asks, IsRefusal, misuse}
+use Rattle.nj_ask.specs.Asks.Asks.{by_graph, lacks_graph, lacks_memory, misused}
+use Rattle.nj_ask.specs.Endings.{Ends, Reported, Sinks, answered}
+use Rattle.nj_ask.specs.Endings.Ends.{ended, output_fails}
+use Rattle.nj_ask.specs.KnownGraphs.{LacksGraph, Sources}
+use Rattle.nj_ask.specs.Inside.Asking.{IsTask, LeavesTold}
+use Rattle.nj_ask.specs.Inside.Asking.LeavesTold.{tells, tells_memory, tells_why}
+use Rattle.nj_ask.specs.Inside.Failures.{Returns}
+use Rattle.nj_ask.specs.Results.{ConcludesTold, FailsBy}
+use Rattle.nj_ask.proofs.EndingLemmas.{ends-concluded}
+
+-- ---- refusals
+
+-- where nothing is output, and a line is reported
+pub ends-refused : (line : List ℕ) (given status : Status) (old new : Sinks) → new.output ≡ old.output
+    → Reported old.error new.error line → status ≡ given → Ends (IsRefusal line given) old new status
+ends-refused line given status old new same reported is =
+    ended (refl, refl) (subst (λ s. Takes old.output s []) (sym same) (Takes-nil old.output)) (reported, is)
+
+-- where a text is the whole answer
+pub ends-shown : {old new : Sinks} (text taken : List ℕ) → taken ≡ text → Takes old.output new.output taken
+    → new.error ≡ old.error → Ends (λ output ending. (output ≡ text) × (ending ≡ answered false [])) old new
+    Done
+ends-shown {old} {new} text taken same takes error =
+    ended (same, refl) takes (inl (subst (λ s. Takes old.error s []) (sym error) (Takes-nil old.error), refl))
+
+-- and standard output fails
+pub ends-unshown : {old new : Sinks} (text taken : List ℕ) → taken ≡ text
+    → FailsWithin old.output new.output taken
+    → new.error ≡ old.error → Ends (λ output ending. (output ≡ text) × (ending ≡ answered false [])) old new
+    OutputFailed
+ends-unshown text taken same fails error = output_fails {ending = answered false []} (same, refl) fails error
+
+-- ---- tasks
+
+-- a task is of a subcommand that is answered here
+pub task-answered : (subject : SubjectModel) (asked : Task) → IsTask subject asked
+    → is_answered subject ≡ true
+task-answered subject (task.Affected options) is = rw is refl
+task-answered subject task.Json is = rw is refl
+task-answered subject (task.Keys options page) is = rw is.0 refl
+task-answered subject (task.Why options) is = rw is refl
+
+-- and its options are not refused
+pub task-taken : (subject : SubjectModel) (asked : Task) → IsTask subject asked → misuse subject ≡ None
+task-taken subject (task.Affected options) is = rw is refl
+task-taken subject task.Json is = rw is refl
+task-taken subject (task.Keys options page) is = rw is.0 is.1.allowed
+task-taken subject (task.Why options) is = rw is refl
+
+-- a subject whose options are refused is answered here too
+pub misused-answered : (subject : SubjectModel) (line : List ℕ) → misuse subject ≡ Some line
+    → is_answered subject ≡ true
+misused-answered (affected options) line is = refl
+misused-answered (audit options) line is = absurd (none-some line is)
+misused-answered (draw options) line is = absurd (none-some line is)
+misused-answered json line is = refl
+misused-answered (keys options) line is = refl
+misused-answered (why options) line is = refl
+
+-- what is answered to the task is answered to its subject
+module _ (known : DiscoveredGraph) (entries : List ReadStatement) (input : List ℕ) (old new : SinkState)
+    (reported : Result Told Failure) (subject : SubjectModel) (asked : Task) where
+  pub affected-returns : (options : Bor AffectedOptions) → asked ≡ task.Affected options
+      → IsTask subject asked
+      → Returns (AnswersAffected known entries (affected_model options.now) input) old new reported
+      → Returns (Answers known entries subject input) old new reported
+  affected-returns options same is returns = rw (subst (IsTask subject) same is) returns
+
+  pub why-returns : (options : Bor WhyOptions) → asked ≡ task.Why options → IsTask subject asked
+      → Returns (AnswersWhy known entries (why_model options.now)) old new reported
+      → Returns (Answers known entries subject input) old new reported
+  why-returns options same is returns = rw (subst (IsTask subject) same is) returns
+
+  pub keys-returns : (options : Bor KeysOptions) (page : PageAsked) → asked ≡ task.Keys options page
+      → IsTask subject asked
+      → Returns (AnswersKeys known entries (keys_model options.now) page.mark) old new reported
+      → Returns (Answers known entries subject input) old new reported
+  keys-returns options page same is returns =
+      let asks = subst (IsTask subject) same is in
+      rw asks.0
+      (subst (λ mark. Returns (AnswersKeys known entries (keys_model options.now) (unwrap_or mark [])) old new
+      reported)
+      (sym asks.1.mark) returns)
+
+-- ---- questions
+
+module _ (question : QuestionModel) (times : DeclaredTimes) (input : List ℕ) (old new : Around) where
+  -- options that are refused
+  pub asks-misused : (failure : Failure) (status : Status)
+      → FailsBy Usage (λ line. misuse question.subject ≡ Some line) failure
+      → new.sources ≡ old.sources → new.sinks.output ≡ old.sinks.output
+      → ConcludesTold (Err failure) old.sinks.error new.sinks.error status
+      → Asks question times input old new status
+  asks-misused (Refused line given) status fails sources output concludes =
+      misused fails.0 sources
+      (ends-refused line.items Usage status old.sinks new.sinks output concludes.0
+      (rw (sym fails.1) concludes.1))
+  asks-misused Write status fails sources output concludes = absurd fails
+  asks-misused OutOfMemory status fails sources output concludes =
+      subst (Asks question times input old new) (sym concludes.1) (lacks_memory output concludes.0)
+
+  -- what is left to report of the others
+  pub asks-told : (reported : Result Told Failure) (status : Status) → misuse question.subject ≡ None
+      → LeavesTold question times input old.sources new.sources old.sinks.output new.sinks.output reported
+      → ConcludesTold reported old.sinks.error new.sinks.error status
+      → Asks question times input old new status
+  asks-told reported status taken (tells {known} {entries} knows is returns) concludes =
+      by_graph taken knows is
+      (ends-concluded (Answers known entries question.subject input) old.sinks new.sinks reported status
+      returns concludes)
+  asks-told reported status taken (tells_why {line} lacks output) concludes =
+      lacks_graph taken lacks
+      (ends-refused line.items Fault status old.sinks new.sinks output concludes.0 concludes.1)
+  asks-told reported status taken (tells_memory output) concludes =
+      subst (Asks question times input old new) (sym concludes.1) (lacks_memory output concludes.0)
+
+-- where there is no graph
+pub tells-lacking : (question : QuestionModel) (times : DeclaredTimes) (input : List ℕ) (old new : Sources)
+    (out : SinkState)
+    (failure : Failure) → FailsBy Fault (LacksGraph question.graph times old new) failure
+    → LeavesTold question times input old new out out (Err failure)
+tells-lacking question times input old new out (Refused line given) fails =
+    subst (λ s. LeavesTold question times input old new out out (Err (Refused line s))) (sym fails.1)
+    (tells_why fails.0 refl)
+tells-lacking question times input old new out Write fails = absurd fails
+tells-lacking question times input old new out OutOfMemory fails = tells_memory refl

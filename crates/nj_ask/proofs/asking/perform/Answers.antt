@@ -1,0 +1,31 @@
+use Rattle.nj_questions.specs.Questions.{affected_model, keys_model, why_model}
+use Rattle.nj_ask.specs.Answers.{AnswersAffected, AnswersKeys, AnswersWhy}
+use Rattle.nj_ask.proofs.AskingLemmas.{affected-returns, keys-returns, why-returns}
+use Rattle.nj_ask.proofs.EndingLemmas.{returns-delivered}
+use Rattle.nj_ask.proofs.asking.perform.Goals as goal
+
+pub returns-in-Affected : goal.returns-in-Affected
+returns-in-Affected g c entries is subject asks =
+    let known = c.args.known.now in
+    let options = c.in-Affected.options in
+    affected-returns known entries c.args.input.now _ _ _ subject c.args.task.now options c.in-Affected.is
+    asks
+    (returns-delivered (AnswersAffected known entries (affected_model options.now) c.args.input.now)
+    c.answer_affected.result _ _ _ (c.answer_affected.ensures entries is) c.deliver.ensures)
+
+pub returns-in-Why : goal.returns-in-Why
+returns-in-Why g c entries is subject asks =
+    let known = c.args.known.now in
+    let options = c.in-Why.options in
+    why-returns known entries c.args.input.now _ _ _ subject c.args.task.now options c.in-Why.is asks
+    (returns-delivered (AnswersWhy known entries (why_model options.now))
+    c.answer_why.result _ _ _ (c.answer_why.ensures entries is) c.deliver-in-Why.ensures)
+
+pub returns-in-Keys : goal.returns-in-Keys
+returns-in-Keys g c entries is subject asks =
+    let known = c.args.known.now in
+    let options = c.in-Keys.options in
+    let page = c.in-Keys.page in
+    keys-returns known entries c.args.input.now _ _ _ subject c.args.task.now options page c.in-Keys.is asks
+    (returns-delivered (AnswersKeys known entries (keys_model options.now) page.mark)
+    c.answer_keys.result _ _ _ (c.answer_keys.ensures entries is) c.deliver-in-Keys.ensures)

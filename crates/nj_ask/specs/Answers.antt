@@ -1,0 +1,152 @@
+-- The answer to each question, by a graph and its statements: standard output, and how it ends.
+use Rattle.std.specs.Prelude.{◌≡◌, ◌≢◌, ◌⊎◌, ℕ, Bool, true, false, not, if◌then◌else◌, Option, Some, None, unwrap_or, option_map, Result, Ok, Err, List, [], ◌∷◌, ◌++◌, map, codes, find}
+use Rattle.std.specs.Option.{option_or}
+use Rattle.nj_text.specs.Paths.{clean_path_of, is_absolute}
+use Rattle.nj_graph.specs.ReadingList.{ReadStatement}
+use Rattle.nj_graph.specs.declared.GraphFault.{GraphFault}
+use Rattle.nj_graph.specs.Graph.{GraphModel, edges_of}
+use Rattle.nj_graph.specs.Handles.{GraphFiles}
+use Rattle.nj_graph.specs.Targets.{picked, targets_or}
+use Rattle.nj_graph.specs.Built.{defaults_in_force}
+use Rattle.nj_needs.specs.Growing.{grown_targets}
+use Rattle.nj_needs.specs.MarkTexts.{given_mark}
+use Rattle.nj_needs.specs.PageWalks.{written, StopsAt}
+use Rattle.nj_needs.specs.Walks.{WalkState}
+use Rattle.nj_keys.specs.Keys.{ListsKeys}
+use Rattle.nj_keys.specs.Pages.{leads, left_at, BeginsAfter}
+use Rattle.nj_tools.specs.Compdb.{text_fault}
+use Rattle.nj_tools.specs.EdgeObjects.{edge_lines, unwritable_edge}
+use Rattle.nj_questions.specs.Questions.{AffectedModel, KeysModel, WhyModel}
+use Rattle.nj_ask.specs.declared.discovered.DiscoveredGraph.{DiscoveredGraph}
+use Rattle.nj_ask.specs.declared.doubts.EdgeFault.{EdgeFault}
+use Rattle.nj_ask.specs.declared.status.Status.TheVariants.{Fault}
+use Rattle.nj_ask.specs.Affected.{Asked, unknown_rule}
+use Rattle.nj_ask.specs.Chains.{HasChain, LacksChain}
+use Rattle.nj_ask.specs.Endings.{Ending, answered, fault_line, program_line, refused}
+use Rattle.nj_ask.specs.Lines.{lines_of}
+use Rattle.nj_ask.specs.NeededFaults.{IsFirstFault}
+use Rattle.nj_ask.specs.Pages.{mark_line}
+use Rattle.nj_ask.specs.Reports.{ChangeModel, IsReport, no_path_line}
+use Rattle.nj_ask.specs.Shape.{caveat_text}
+
+-- ---- depfiles with faults, at which Ninja stops
+
+-- no edge that these files need has one
+abbrev pub IsClear : DiscoveredGraph → (files : List (List ℕ)) → Type 0
+IsClear known files = (known.faults.items ≡ []) ⊎ IsFirstFault known files None
+
+-- an edge that these files need has one: of several the edge of the lowest number
+pub record HasDepfileFault (known : DiscoveredGraph) (files : List (List ℕ)) (line : List ℕ) : Type 0 where
+  pub fault : EdgeFault
+  pub first : IsFirstFault known files (Some fault)
+  pub line_is : line ≡ program_line fault.text.items
+
+-- ---- `affected`
+
+-- the change of the files at these paths
+abbrev pub change_asked : AffectedModel → (paths : List (List ℕ)) → ChangeModel
+change_asked options paths =
+    record { folder = options.source_dir; paths = paths; ignores_unknown = options.ignore_unknown }
+
+-- the outputs that are listed
+abbrev pub outputs_asked : AffectedModel → Asked
+outputs_asked options = record { rules = options.rules; prefix = options.prefix; no_phony = options.no_phony }
+
+-- `affected`: a rule's name that no rule has would list nothing, as if nothing were affected, so it is refused; so it is something to
+-- look at that no path is given, unless none need be.
+pub data AnswersAffected (known : DiscoveredGraph) (entries : List ReadStatement) (options : AffectedModel) (input : List ℕ) :
+    (output : List ℕ) → Ending → Type 0 where
+  no_rule : {name : List ℕ} → unknown_rule known.graph options.rules ≡ Some name
+      → AnswersAffected known entries options input []
+      (refused (program_line (codes "unknown rule '" ++ name ++ codes "'")) Fault)
+  no_path : unknown_rule known.graph options.rules ≡ None → lines_of input ≡ [] → options.allow_empty ≡ false
+      → AnswersAffected known entries options input [] (answered false no_path_line)
+  reported : {outputs warnings : List ℕ} → unknown_rule known.graph options.rules ≡ None
+      → (lines_of input ≢ []) ⊎ (options.allow_empty ≡ true)
+      → IsReport known entries (change_asked options (lines_of input)) (outputs_asked options) outputs warnings
+      → AnswersAffected known entries options input outputs (answered false warnings)
+
+-- ---- `why`
+
+-- the files whose needs a chain from a file may follow: with validations, also those that the edges which it needs validate
+abbrev pub needed_from : GraphModel → (validations : Bool) → (start : List ℕ) → List (List ℕ)
+needed_from g validations start = if validations then grown_targets (edges_of g) (start ∷ []) else start ∷ []
+
+-- `why`: a chain by which the first file needs the second, or that there is none
+pub data AnswersWhy (known : DiscoveredGraph) (entries : List ReadStatement) (options : WhyModel) :
+    (output : List ℕ) → Ending → Type 0 where
+  no_start : {fault : GraphFault} → picked (edges_of known.graph) options.start ≡ Err fault
+      → AnswersWhy known entries options [] (refused (fault_line fault) Fault)
+  no_end : {start : List ℕ} {fault : GraphFault} → picked (edges_of known.graph) options.start ≡ Ok start
+      → picked (edges_of known.graph) options.end ≡ Err fault
+      → AnswersWhy known entries options [] (refused (fault_line fault) Fault)
+  no_depfile : {start end line : List ℕ} → picked (edges_of known.graph) options.start ≡ Ok start
+      → picked (edges_of known.graph) options.end ≡ Ok end
+      → HasDepfileFault known (needed_from known.graph options.validations start) line
+      → AnswersWhy known entries options [] (refused line Fault)
+  chain : {start end lines : List ℕ} → picked (edges_of known.graph) options.start ≡ Ok start
+      → picked (edges_of known.graph) options.end ≡ Ok end
+      → IsClear known (needed_from known.graph options.validations start)
+      → HasChain known.graph options.validations start end lines
+      → AnswersWhy known entries options lines (answered false (caveat_text known entries))
+  no_chain : {start end : List ℕ} → picked (edges_of known.graph) options.start ≡ Ok start
+      → picked (edges_of known.graph) options.end ≡ Ok end
+      → IsClear known (needed_from known.graph options.validations start)
+      → LacksChain known.graph options.validations start end
+      → AnswersWhy known entries options [] (answered true (caveat_text known entries))
+
+-- ---- `keys`
+
+-- the first base that is not an absolute path
+abbrev pub relative_base : (bases : List (List ℕ)) → Option (List ℕ)
+relative_base bases = find (λ base. not (is_absolute base)) bases
+
+-- the mark of the run before; without one that of the start
+abbrev pub asked_mark : KeysModel → Option (List ℕ)
+asked_mark options = given_mark (unwrap_or options.resume (codes "start"))
+
+-- the line about a text that is no mark
+abbrev pub mark_misuse : (mark : Option (List ℕ)) → Option (List ℕ)
+mark_misuse None = Some (program_line (codes "bad mark"))
+mark_misuse (Some mark) = None
+
+-- why the options are refused before anything is read
+abbrev pub keys_misuse : KeysModel → Option (List ℕ)
+keys_misuse options =
+    option_or (option_map (λ base. program_line (codes "'" ++ base ++ codes "' of --base is not absolute")) (relative_base options.bases))
+    (mark_misuse (asked_mark options))
+
+-- the targets that words mean; the default ones if there are none
+abbrev pub asked_targets : GraphModel → (words : List (List ℕ)) → Result (List (List ℕ)) GraphFault
+asked_targets g words = targets_or (defaults_in_force g.built.defaults (edges_of g)) (edges_of g) words
+
+-- the files at these paths
+abbrev pub files_at : GraphModel → (paths : List (List ℕ)) → GraphFiles
+files_at g paths = record { graph = g; paths = paths }
+
+-- `keys` from a mark on: the lines of the commands that are left there, up to the limit, and the mark after them
+pub data AnswersKeys (known : DiscoveredGraph) (entries : List ReadStatement) (options : KeysModel) (mark : List ℕ) :
+    (output : List ℕ) → Ending → Type 0 where
+  no_target : {fault : GraphFault} → asked_targets known.graph options.targets ≡ Err fault
+      → AnswersKeys known entries options mark [] (refused (fault_line fault) Fault)
+  no_depfile : {paths : List (List ℕ)} {line : List ℕ} → asked_targets known.graph options.targets ≡ Ok paths
+      → HasDepfileFault known paths line → AnswersKeys known entries options mark [] (refused line Fault)
+  out_of_range : {paths : List (List ℕ)} → asked_targets known.graph options.targets ≡ Ok paths → IsClear known paths
+      → leads (files_at known.graph paths) mark ≡ false
+      → AnswersKeys known entries options mark [] (refused (program_line (codes "mark out of range")) Fault)
+  page : {paths : List (List ℕ)} {lines : List ℕ} {walk : WalkState} (rest : Option (List ℕ))
+      → asked_targets known.graph options.targets ≡ Ok paths → IsClear known paths
+      → leads (files_at known.graph paths) mark ≡ true
+      → ListsKeys (map clean_path_of options.bases) (edges_of known.graph) entries
+      (written options.take (left_at (files_at known.graph paths) mark)) lines
+      → BeginsAfter (files_at known.graph paths) mark walk → StopsAt walk options.take rest
+      → AnswersKeys known entries options mark lines (answered false (mark_line rest ++ caveat_text known entries))
+
+-- ---- `json`
+
+-- `json`: the objects of all edges, or those before the first that JSON cannot contain, and its fault
+pub data AnswersJson (known : DiscoveredGraph) (entries : List ReadStatement) : (output : List ℕ) → Ending → Type 0 where
+  all : unwritable_edge entries ≡ None
+      → AnswersJson known entries (edge_lines entries) (answered false (caveat_text known entries))
+  not_text : {edge : ℕ} → unwritable_edge entries ≡ Some edge
+      → AnswersJson known entries (edge_lines entries) (refused (fault_line (text_fault entries edge)) Fault)

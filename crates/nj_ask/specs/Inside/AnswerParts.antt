@@ -1,0 +1,31 @@
+-- Parts of answers, and why there are none.
+use Rattle.std.specs.Prelude.{◌≡◌, ℕ, true, Option, option_map, Result, Err, List, ◌++◌, codes}
+use Rattle.nj_graph.specs.ReadingList.{ReadStatement}
+use Rattle.nj_graph.specs.declared.GraphFault.{GraphFault}
+use Rattle.nj_graph.specs.Graph.{edges_of}
+use Rattle.nj_graph.specs.Handles.{GraphFiles}
+use Rattle.nj_needs.specs.PageWalks.{written, StopsAt}
+use Rattle.nj_needs.specs.Walks.{WalkState}
+use Rattle.nj_keys.specs.Keys.{ListsKeys}
+use Rattle.nj_keys.specs.Pages.{leads, left_at, BeginsAfter}
+use Rattle.nj_keys.specs.declared.pages.Page.{Page}
+use Rattle.nj_ask.specs.Answers.{relative_base}
+use Rattle.nj_ask.specs.Endings.{fault_line, program_line}
+
+-- the line of the fault that there is in place of a value
+abbrev pub SaysErr : {A : Type 0} → Result A GraphFault → (line : List ℕ) → Type 0
+SaysErr expected line = (fault : GraphFault) × (expected ≡ Err fault) × (line ≡ fault_line fault)
+
+-- the line about the first base that is not an absolute path
+abbrev pub base_misuse : (bases : List (List ℕ)) → Option (List ℕ)
+base_misuse bases =
+    option_map (λ base. program_line (codes "'" ++ base ++ codes "' of --base is not absolute")) (relative_base bases)
+
+-- the lines of the commands that files need and that are left at a mark, up to a limit, and the mark after them
+pub record IsPageOf (files : GraphFiles) (entries : List ReadStatement) (folders : List (List ℕ)) (mark : List ℕ)
+    (limit : Option ℕ) (page : Page) : Type 0 where
+  pub valid : leads files mark ≡ true
+  pub lines : ListsKeys folders (edges_of files.graph) entries (written limit (left_at files mark)) page.lines.items
+  pub walk : WalkState
+  pub begins : BeginsAfter files mark walk
+  pub stops : StopsAt walk limit page.mark

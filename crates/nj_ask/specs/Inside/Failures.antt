@@ -1,0 +1,38 @@
+-- How results of the code stand for answers and their endings.
+use Rattle.std.specs.Prelude.{◌≡◌, ℕ, List, [], Result, Ok, Err}
+use Rattle.nj_tools.specs.Sinks.{SinkState, Takes, FailsWithin}
+use Rattle.nj_tools.specs.declared.tool_fault.ToolFault.{ToolFault}
+use Rattle.nj_tools.specs.declared.tool_fault.ToolFault.TheVariants as tool
+use Rattle.nj_ask.specs.declared.answer.Answer.{Answer}
+use Rattle.nj_ask.specs.declared.answer.Told.{Told}
+use Rattle.nj_ask.specs.declared.failure.Failure.{Failure}
+use Rattle.nj_ask.specs.declared.failure.Failure.TheVariants.{Refused, Write, OutOfMemory}
+use Rattle.nj_ask.specs.declared.status.Status.TheVariants.{Fault}
+use Rattle.nj_ask.specs.Endings.{Ending, IsFront, answered, refused}
+use Rattle.nj_ask.specs.Results.{FailsBy, SaysFault}
+
+-- ---- failures
+
+-- why a tool stopped
+abbrev pub Stops : ToolFault → Failure → Type 0
+Stops (tool.TextNotUtf8 fault) failure = FailsBy Fault (SaysFault fault) failure
+Stops tool.Write failure = failure ≡ Write
+Stops tool.OutOfMemory failure = failure ≡ OutOfMemory
+
+-- ---- answers that are built, and then written
+
+-- an answer that is built, where `Is` says what its output and its ending are
+abbrev pub Gives : (Is : (output : List ℕ) → Ending → Type 0) → Result Answer Failure → Type 0
+Gives Is (Ok answer) = Is answer.output.items (answered answer.looks answer.warnings.items)
+Gives Is (Err (Refused line status)) = Is [] (refused line.items status)
+Gives Is (Err Write) = ⊥
+Gives Is (Err OutOfMemory) = Unit {0}
+
+-- what standard output took of an answer, and what is left to report
+abbrev pub Returns : (Is : (output : List ℕ) → Ending → Type 0) → (old new : SinkState) → Result Told Failure → Type 0
+Returns Is old new (Ok told) =
+    (output : List ℕ) × Is output (answered told.looks told.warnings.items) × Takes old new output
+Returns Is old new (Err (Refused line status)) =
+    (output : List ℕ) × Is output (refused line.items status) × Takes old new output
+Returns Is old new (Err Write) = (output : List ℕ) × (ending : Ending) × Is output ending × FailsWithin old new output
+Returns Is old new (Err OutOfMemory) = (front : List ℕ) × IsFront Is front × Takes old new front

@@ -1,0 +1,23 @@
+-- Words that are lent, as definitions have them.
+use Rattle.std.specs.Prelude.{ℕ, List, map, option_copied, string_bytes}
+use Rattle.std.specs.Borrow.{Bor}
+use Rattle.nj_ask.specs.declared.listing.Listed.{Listed}
+use Rattle.nj_ask.specs.declared.report.Change.{Change}
+use Rattle.nj_ask.specs.Affected.{Asked}
+use Rattle.nj_ask.specs.Reports.{ChangeModel}
+
+-- words that are lent
+abbrev pub texts : List (Bor (List ℕ)) → List (List ℕ)
+texts words = map (λ word. word.now) words
+
+-- the outputs that are listed
+abbrev pub asked_of : Listed → Asked
+asked_of listed = record { rules = map string_bytes listed.rules.now; prefix = listed.prefix.now; no_phony = listed.no_phony }
+
+-- a change of files
+abbrev pub change_model : Change → ChangeModel
+change_model change = record {
+  folder = option_copied change.source_dir;
+  paths = texts change.paths.now;
+  ignores_unknown = change.ignores_unknown;
+}

@@ -1,0 +1,55 @@
+-- What status 0 of `affected` means, and that a report is determined.
+use Rattle.std.specs.Prelude.{◌≡◌, ◌⊎◌, ℕ, true, false, Some, List, [], ◌∷◌, Contains}
+use Rattle.nj_graph.specs.ReadingList.{ReadStatement}
+use Rattle.nj_graph.specs.Changes.{has_input_of, IsOrNeeds}
+use Rattle.nj_graph.specs.Edges.{edge_at}
+use Rattle.nj_graph.specs.Graph.{GraphModel, edges_of, files_of}
+use Rattle.nj_tools.specs.Sinks.{SinkState, Takes}
+use Rattle.nj_questions.specs.Questions.{AffectedModel}
+use Rattle.nj_ask.specs.declared.discovered.DiscoveredGraph.{DiscoveredGraph}
+use Rattle.nj_ask.specs.declared.status.Status.TheVariants.{Done}
+use Rattle.nj_ask.specs.Affected.{Asked, changed_file, path_in, ListsOutputs}
+use Rattle.nj_ask.specs.Answers.{AnswersAffected, change_asked, outputs_asked}
+use Rattle.nj_ask.specs.Endings.{Ends, Sinks}
+use Rattle.nj_ask.specs.Lines.{lines_of}
+use Rattle.nj_ask.specs.Manifest.{is_one_of, is_opened, makes_manifest, opened_files, path_of}
+use Rattle.nj_ask.specs.Reports.{ChangeModel, changed_numbers, HasWarnings, IsTouchedBy, IsUnnamed}
+use Rattle.nj_ask.specs.Shape.{shape_text}
+
+-- A changed path names a file that was not opened and that no edge which makes the manifest needs.
+pub record KeepsManifest (g : GraphModel) (entries : List ReadStatement) (q : ChangeModel) (path : List ℕ) : Type 0 where
+  pub file : ℕ
+  pub named : changed_file (files_of g) q.folder path ≡ Some file
+  pub unopened : is_one_of (opened_files g) file ≡ false
+  pub unmade : (maker edge : ℕ) → IsOrNeeds (edges_of g) maker edge
+      → has_input_of (path_of g file ∷ []) (edge_at (edges_of g) edge) ≡ true → makes_manifest g entries maker ≡ false
+
+-- A changed path that no edge names and that was not opened, where such paths are ignored.
+pub record IsIgnored (g : GraphModel) (q : ChangeModel) (path : List ℕ) : Type 0 where
+  pub unnamed : IsUnnamed g q path
+  pub unopened : is_opened g (path_in q.folder path) ≡ false
+  pub ignores : q.ignores_unknown ≡ true
+
+-- No changed path changes the manifest; each names a file, unless paths without one are ignored; nothing is unclear about what
+-- builds discovered; no dyndep file and no manifest may change; and standard output took exactly the requested outputs of the
+-- edges that the change touches.
+pub record MissesNothing (known : DiscoveredGraph) (entries : List ReadStatement) (q : ChangeModel) (asked : Asked)
+    (old new : SinkState) : Type 0 where
+  pub keeps : (path : List ℕ) → Contains q.paths path
+      → KeepsManifest known.graph entries q path ⊎ IsIgnored known.graph q path
+  pub clear : known.caveats.items ≡ []
+  pub outputs : List ℕ
+  pub lists : ListsOutputs known.graph asked (IsTouchedBy known q) outputs
+  pub shape : shape_text known entries (changed_numbers known.graph q) lists.edges ≡ []
+  pub took : Takes old new outputs
+
+-- Where `affected` ends with status 0, nothing is missed.
+abbrev pub DoneMissesNothing : Type 0
+DoneMissesNothing = (known : DiscoveredGraph) (entries : List ReadStatement) (options : AffectedModel) (input : List ℕ)
+    (old new : Sinks) → Ends (AnswersAffected known entries options input) old new Done
+    → MissesNothing known entries (change_asked options (lines_of input)) (outputs_asked options) old.output new.output
+
+-- Some paths have one text of warnings only.
+abbrev pub WarningsAreUnique : Type 0
+WarningsAreUnique = (g : GraphModel) (entries : List ReadStatement) (q : ChangeModel) (paths : List (List ℕ))
+    (text other : List ℕ) → HasWarnings g entries q paths text → HasWarnings g entries q paths other → text ≡ other

@@ -1,0 +1,336 @@
+//! The graph that a question is about.
+
+ghost use Rattle.std.specs.Prelude.{◌≡◌, List, Err, IfErr, IfOk, Ok, map, option_copied, string_bytes, true};
+ghost use Rattle.nj_scope.specs.ReadingList.{ReadStatement};
+ghost use Rattle.nj_ask.specs.Cited.{SourceState, IsGraphOf, files_of, Loads, AreUndeclared, input_of_edge, asked_graph, Fault, line, HasEdges, IsDeclared, IsDiscovered, KnowsGraph, LacksGraph, ReadsManifest, asks_discovered, discovered_line, FailsBy, Discovers, LacksDiscovered, LacksMain, LacksManifest, HasStatements, sources_of};
+
+use crate::deps_log::{ReadLog, read_log};
+use crate::discovered::{Discovered, DiscoveredGraph, with_discovered};
+use crate::doubts::Doubts;
+use crate::failure::{Failure, refused};
+use crate::status::Status;
+use nj_deps::DepsLog;
+use nj_graph::{
+    Cause, FileSource, FileTimes, Graph, GraphFault, HashKeys, Loaded, UndeclaredInput,
+    join_dyndeps, join_present_dyndeps, load, undeclared_inputs,
+};
+use nj_questions::GraphOptions;
+use std::alloc::{AllocError, Global};
+
+/// The graph of a question, with those inputs of the deps log that edges do not declare, if they
+/// are requested.
+#[derive(Drop)]
+pub struct LoggedGraph {
+    pub known: DiscoveredGraph,
+    pub undeclared: Vec<UndeclaredInput>,
+}
+
+/// Reads the main file and all that it includes; then dyndep files and what builds discovered, if
+/// they are requested. Manifests and dyndep files come from `files`, and the deps log and depfiles
+/// from `built`.
+#[inline(never)]
+pub(crate) fn known_graph<S: FileSource, B: FileSource, T: FileTimes>(
+    alloc: Global,
+    files: &mut S,
+    built: &mut B,
+    times: &T,
+    asked: &GraphOptions,
+) -> Result<Box<DiscoveredGraph>, Failure>
+    ensures known { IfOk result (λ known. KnowsGraph (asked_graph asked.now) (T.times times.now)
+        (sources_of (S.state files.old) (B.state built.old))
+        (sources_of (S.state files.new) (B.state built.new)) known.value) }
+    ensures stated { IfOk result (λ known. HasStatements known.value.graph) }
+    ensures edges { IfOk result (λ known. HasEdges known.value) }
+    ensures lacks { IfErr result (FailsBy Fault (LacksGraph (asked_graph asked.now)
+        (T.times times.now) (sources_of (S.state files.old) (B.state built.old))
+        (sources_of (S.state files.new) (B.state built.new)))) }
+{
+    match logged_graph(alloc, files, built, times, asked, false) {
+        Ok(logged) => Ok(known_alone(alloc, logged)?),
+        Err(failure) => Err(failure),
+    }
+}
+
+/// The graph alone.
+#[inline(never)]
+fn known_alone(alloc: Global, logged: Box<LoggedGraph>) -> Result<Box<DiscoveredGraph>, AllocError>
+    ensures { IfOk result (λ known. known.value ≡ logged.value.known) }
+{
+    let LoggedGraph { known, .. } = Box::into_inner(logged);
+    Ok(Box::new(alloc, known)?)
+}
+
+/// Reads the same, and finds the inputs of the deps log that edges do not declare, if they are
+/// requested.
+///
+/// # Errors
+///
+/// A fault of the manifest, of a dyndep file or of the deps log, or a dependency cycle by the
+/// inputs that builds discovered; or an allocation failed.
+#[inline(never)]
+pub fn logged_graph<S: FileSource, B: FileSource, T: FileTimes>(
+    alloc: Global,
+    files: &mut S,
+    built: &mut B,
+    times: &T,
+    asked: &GraphOptions,
+    finds_undeclared: bool,
+) -> Result<Box<LoggedGraph>, Failure>
+    ensures known { IfOk result (λ logged. KnowsGraph (asked_graph asked.now) (T.times times.now)
+        (sources_of (S.state files.old) (B.state built.old))
+        (sources_of (S.state files.new) (B.state built.new)) logged.value.known) }
+    ensures stated { IfOk result (λ logged. HasStatements logged.value.known.graph) }
+    ensures edges { IfOk result (λ logged. HasEdges logged.value.known) }
+    ensures lacks { IfErr result (FailsBy Fault (LacksGraph (asked_graph asked.now)
+        (T.times times.now) (sources_of (S.state files.old) (B.state built.old))
+        (sources_of (S.state files.new) (B.state built.new)))) }
+{
+    let loaded = match read_manifest(alloc, files, times, asked) {
+        Ok(loaded) => loaded,
+        Err(failure) => return Err(failure),
+    };
+    let keys = files.hash_keys();
+    match logged_of(alloc, loaded, keys, built, times, asked, finds_undeclared) {
+        Ok(logged) => Ok(Box::new(alloc, logged)?),
+        Err(failure) => Err(failure),
+    }
+}
+
+/// The main file and all that it includes; with `--dyndep` joined with all dyndep files, and where
+/// the inputs that builds discovered are requested, with those that are there.
+#[inline(never)]
+fn read_manifest<S: FileSource, T: FileTimes>(
+    alloc: Global,
+    files: &mut S,
+    times: &T,
+    asked: &GraphOptions,
+) -> Result<Box<Loaded>, Failure>
+    ensures reads { IfOk result (λ loaded. ReadsManifest (asked_graph asked.now)
+        (T.times times.now) (S.state files.old) (S.state files.new) (Ok loaded.value)) }
+    ensures lacks { IfErr result (FailsBy Fault (LacksManifest (asked_graph asked.now)
+        (T.times times.now) (S.state files.old) (S.state files.new))) }
+{
+    let loaded = match load_main(alloc, files, &asked.file) {
+        Ok(loaded) => loaded,
+        Err(failure) => return Err(failure),
+    };
+    match with_dyndeps(alloc, files, times, asked, loaded) {
+        Ok(loaded) => Ok(boxed(alloc, loaded)?),
+        Err(fault) => Err(Failure::of_fault(alloc, &fault)),
+    }
+}
+
+/// The main file and all that it includes. Files that include one another are read by calls within
+/// calls, so this is a call of few functions, none of which has a graph on the stack.
+#[inline(never)]
+fn load_main<S: FileSource>(
+    alloc: Global,
+    files: &mut S,
+    main: &str,
+) -> Result<Box<Loaded>, Failure>
+    ensures loads { IfOk result (λ loaded.
+        Loads main.now (S.state files.old) (S.state files.new) (Ok loaded.value)) }
+    ensures lacks { IfErr result (FailsBy Fault
+        (LacksMain main.now (S.state files.old) (S.state files.new))) }
+{
+    match load(alloc, files, main) {
+        Ok(loaded) => Ok(boxed(alloc, loaded)?),
+        Err(fault) => Err(Failure::of_fault(alloc, &fault)),
+    }
+}
+
+/// The same files on the heap.
+#[inline(never)]
+fn boxed(alloc: Global, loaded: Loaded) -> Result<Box<Loaded>, AllocError>
+    ensures { IfOk result (λ at. at.value ≡ loaded) }
+{
+    Ok(Box::new(alloc, loaded)?)
+}
+
+/// These files with the dyndep files that the options join.
+#[inline(never)]
+fn with_dyndeps<S: FileSource, T: FileTimes>(
+    alloc: Global,
+    files: &mut S,
+    times: &T,
+    asked: &GraphOptions,
+    loaded: Box<Loaded>,
+) -> Result<Loaded, GraphFault>
+    ensures { (before : SourceState)
+        → Loads (string_bytes asked.now.file) before (S.state files.old) (Ok loaded.value)
+        → ReadsManifest (asked_graph asked.now) (T.times times.now) before (S.state files.new)
+        result }
+{
+    let loaded = Box::into_inner(loaded);
+    if asked.dyndep {
+        return join_dyndeps(alloc, loaded, files);
+    }
+    if asks_discovered(asked) {
+        return join_present_dyndeps(alloc, loaded, files, times);
+    }
+    Ok(loaded)
+}
+
+/// Whether the inputs that builds discovered are requested.
+fn asks_discovered(asked: &GraphOptions) -> bool
+    ensures { result ≡ asks_discovered (asked_graph asked.now) }
+{
+    asked.deps || asked.log.is_some()
+}
+
+/// The path of the deps log that is named.
+fn named_log(asked: &GraphOptions) -> Option<&str>
+    ensures { option_copied result ≡ (asked_graph asked.now).log }
+{
+    match &asked.log {
+        Some(path) => Some(path.as_str()),
+        None => None,
+    }
+}
+
+/// The graph of these files, with what builds discovered if it is requested.
+#[inline(never)]
+fn logged_of<B: FileSource, T: FileTimes>(
+    alloc: Global,
+    loaded: Box<Loaded>,
+    keys: HashKeys,
+    built: &mut B,
+    times: &T,
+    asked: &GraphOptions,
+    finds_undeclared: bool,
+) -> Result<LoggedGraph, Failure>
+    ensures known { (old new : SourceState) → ReadsManifest (asked_graph asked.now)
+        (T.times times.now) old new (Ok loaded.value)
+        → IfOk result (λ logged. KnowsGraph (asked_graph asked.now) (T.times times.now)
+        (sources_of old (B.state built.old)) (sources_of new (B.state built.new)) logged.known) }
+    ensures edges { IfOk result (λ logged. HasEdges logged.known) }
+    ensures lacks { (old new : SourceState) → ReadsManifest (asked_graph asked.now)
+        (T.times times.now) old new (Ok loaded.value)
+        → IfErr result (FailsBy Fault (LacksGraph (asked_graph asked.now) (T.times times.now)
+        (sources_of old (B.state built.old)) (sources_of new (B.state built.new)))) }
+{
+    let graph = Box::into_inner(loaded).into_graph();
+    if !asks_discovered(asked) {
+        let known = undiscovered(alloc, graph, keys);
+        let undeclared = Vec::new(alloc);
+        return Ok(LoggedGraph { known, undeclared });
+    }
+    let log = match read_log(alloc, built, &graph, named_log(asked)) {
+        Ok(log) => log,
+        Err(failure) => return Err(failure),
+    };
+    let Ok(undeclared) = undeclared_of(alloc, &graph, &log.log, finds_undeclared) else {
+        return Err(Failure::OutOfMemory);
+    };
+    match discover(alloc, graph, log, built, times, keys) {
+        Ok(known) => Ok(LoggedGraph { known, undeclared }),
+        Err(failure) => Err(failure),
+    }
+}
+
+/// A graph without the inputs that builds discovered.
+fn undiscovered(alloc: Global, graph: Graph, keys: HashKeys) -> DiscoveredGraph
+    ensures declared { IsDeclared graph result }
+    ensures edges { HasEdges result }
+{
+    DiscoveredGraph {
+        graph,
+        has_discovered: false,
+        unknown: Vec::new(alloc),
+        faults: Vec::new(alloc),
+        caveats: Vec::new(alloc),
+        keys,
+    }
+}
+
+/// The inputs of the deps log that edges do not declare, if they are requested.
+#[inline(never)]
+fn undeclared_of(
+    alloc: Global,
+    graph: &Graph,
+    log: &DepsLog,
+    finds_undeclared: bool,
+) -> Result<Vec<UndeclaredInput>, AllocError>
+    ensures { finds_undeclared ≡ true → (stated : List ReadStatement)
+        → IsGraphOf graph.now stated → IfOk result (λ inputs. AreUndeclared log.now stated
+        (map (input_of_edge (files_of graph.now)) inputs.items)) }
+{
+    if finds_undeclared {
+        return undeclared_inputs(alloc, graph, log);
+    }
+    Ok(Vec::new(alloc))
+}
+
+/// The graph with the inputs that builds discovered, by this deps log and by depfiles and times.
+#[inline(never)]
+fn discover<B: FileSource, T: FileTimes>(
+    alloc: Global,
+    graph: Graph,
+    log: ReadLog,
+    built: &mut B,
+    times: &T,
+    keys: HashKeys,
+) -> Result<DiscoveredGraph, Failure>
+    ensures joins { (stated : List ReadStatement) → IsGraphOf graph stated
+        → IfOk result (Discovers (B.state built.old) (B.state built.new) (T.times times.now)
+        log.log log.caveat.items stated) }
+    ensures edges { IfOk result HasEdges }
+    ensures lacks { (stated : List ReadStatement) → IsGraphOf graph stated
+        → IfErr result (FailsBy Fault (LacksDiscovered (string_bytes log.path)
+        (B.state built.old) (B.state built.new) (T.times times.now) log.log stated)) }
+{
+    let ReadLog { path, log, caveat } = log;
+    match with_discovered(alloc, graph, &log, built, times) {
+        Ok(discovered) => Ok(with_doubts(discovered, caveat, keys)?),
+        Err(fault) => Err(of_discovered(alloc, &path, &fault)),
+    }
+}
+
+/// A graph with discovered inputs, and what is not known of these and of the deps log.
+fn with_doubts(
+    discovered: Discovered,
+    caveat: Vec<u8>,
+    keys: HashKeys,
+) -> Result<DiscoveredGraph, AllocError>
+    ensures { IfOk result (IsDiscovered discovered caveat.items) }
+{
+    let Discovered { graph, doubts } = discovered;
+    let Doubts {
+        edges,
+        faults,
+        lines,
+    } = doubts;
+    let mut caveats = caveat;
+    caveats.extend_from_slice(&lines)?;
+    Ok(DiscoveredGraph {
+        graph,
+        has_discovered: true,
+        unknown: edges,
+        faults,
+        caveats,
+        keys,
+    })
+}
+
+/// That the inputs of the deps log at a path and of depfiles make no graph.
+fn of_discovered(alloc: Global, path: &str, fault: &GraphFault) -> Failure
+    ensures { FailsBy Fault (λ line. line ≡ discovered_line path.now fault.now) result }
+{
+    if matches!(fault.cause, Cause::OutOfMemory) {
+        return Failure::OutOfMemory;
+    }
+    match discovered_text(alloc, path, fault) {
+        Ok(text) => refused(text, Status::Fault),
+        Err(_) => Failure::OutOfMemory,
+    }
+}
+
+/// The text that says so.
+fn discovered_text(alloc: Global, path: &str, fault: &GraphFault) -> Result<Vec<u8>, AllocError>
+    ensures { IfOk result (λ text. line text.items ≡ discovered_line path.now fault.now) }
+{
+    let mut text = fault.line_for(alloc, "ninja-graph")?;
+    let by = format!(in alloc; ", by the inputs of {path} and of depfiles")?;
+    text.extend_from_slice(by.as_bytes())?;
+    Ok(text)
+}

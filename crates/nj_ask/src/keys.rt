@@ -1,0 +1,213 @@
+//! The keys of commands, in pages.
+
+ghost use Rattle.std.specs.Prelude.{◌≡◌, ◌≢◌, ◌++◌, ◌∷◌, [], true, false, None, Ok, Some, IfErr, IfOk, OnOk, map, string_bytes, codes};
+ghost use Rattle.nj_needs.specs.MarkFaults.{fault_text};
+ghost use Rattle.nj_ask.specs.Cited.{Fault, Usage, OfStatements, clean_path_of, is_absolute, given_mark, leads, caveat_text, mark_line, program_line, AnswersKeys, FailsBy, Gives, IsPageOf, SaysErr, asked_mark, asked_targets, base_misuse, keys_misuse, keys_model};
+
+use crate::answer::Answer;
+use crate::depfiles::check_depfiles;
+use crate::discovered::DiscoveredGraph;
+use crate::failure::Failure;
+use crate::pages::mark_line;
+use crate::shape::caveat_lines;
+use crate::status::Status;
+use nj_graph::FileList;
+use nj_keys::{Bases, Page, page_from};
+use nj_needs::{Mark, MarkFault};
+use nj_questions::KeysOptions;
+use std::alloc::{AllocError, Global};
+
+/// What the options of `keys` say before any file is read.
+#[derive(Drop)]
+pub(crate) struct PageAsked {
+    /// The directories for which numbers stand.
+    pub bases: Bases,
+    /// Where the page begins.
+    pub mark: Mark,
+}
+
+// ---- the options
+
+/// The bases and the mark of the options: of the start without one.
+pub(crate) fn page_asked(alloc: Global, options: &KeysOptions) -> Result<PageAsked, Failure>
+    ensures allowed { IfOk result (λ _. keys_misuse (keys_model options.now) ≡ None) }
+    ensures bases { IfOk result (λ asked.
+        asked.bases ≡ map clean_path_of (keys_model options.now).bases) }
+    ensures mark { IfOk result (λ asked.
+        asked_mark (keys_model options.now) ≡ Some asked.mark) }
+    ensures refused { IfErr result (FailsBy Usage
+        (λ line. keys_misuse (keys_model options.now) ≡ Some line)) }
+{
+    let bases = match bases_of(alloc, &options.bases) {
+        Ok(bases) => bases,
+        Err(failure) => return Err(failure),
+    };
+    let text = match &options.resume {
+        Some(text) => text.as_str(),
+        None => "start",
+    };
+    match mark_of(alloc, text) {
+        Ok(mark) => Ok(PageAsked { bases, mark }),
+        Err(failure) => Err(failure),
+    }
+}
+
+/// The directories at these paths, which have to be absolute.
+fn bases_of(alloc: Global, paths: &[String]) -> Result<Bases, Failure>
+    ensures bases { IfOk result (λ bases.
+        bases ≡ map clean_path_of (map string_bytes paths.now)) }
+    ensures absolute { IfOk result (λ _. base_misuse (map string_bytes paths.now) ≡ None) }
+    ensures refused { IfErr result (FailsBy Usage
+        (λ line. base_misuse (map string_bytes paths.now) ≡ Some line)) }
+{
+    let mut bases = Bases::new(alloc);
+    'paths: for path in paths {
+        match add_base(alloc, &mut bases, path.as_bytes()) {
+            Ok(()) => {}
+            Err(failure) => return Err(failure),
+        }
+    }
+    Ok(bases)
+}
+
+/// Adds the directory at a path, which has to be absolute.
+fn add_base(alloc: Global, bases: &mut Bases, path: &[u8]) -> Result<(), Failure>
+    ensures added { OnOk result (bases.new ≡ bases.old ++ clean_path_of path.now ∷ []) }
+    ensures absolute { IfOk result (λ _. is_absolute path.now ≡ true) }
+    ensures refused { IfErr result (FailsBy Usage (λ line. (is_absolute path.now ≡ false)
+        × (line ≡ program_line
+        (codes "'" ++ path.now ++ codes "' of --base is not absolute")))) }
+{
+    if bases.add(alloc, path)? {
+        return Ok(());
+    }
+    Err(Failure::in_words(
+        alloc,
+        b"'",
+        path,
+        b"' of --base is not absolute",
+        Status::Usage,
+    ))
+}
+
+/// The mark in a text.
+fn mark_of(alloc: Global, text: &str) -> Result<Mark, Failure>
+    ensures mark { IfOk result (λ mark. given_mark text.now ≡ Some mark) }
+    ensures refused { IfErr result (FailsBy Usage (λ line. (given_mark text.now ≡ None)
+        × (line ≡ program_line (codes "bad mark")))) }
+{
+    match Mark::read(alloc, text) {
+        Ok(mark) => Ok(mark),
+        Err(fault) => Err(mark_failure(alloc, fault, Status::Usage)),
+    }
+}
+
+/// That a mark has this fault.
+fn mark_failure(alloc: Global, fault: MarkFault, status: Status) -> Failure
+    ensures { FailsBy status (λ line. (fault ≢ MarkFault.OutOfMemory)
+        × (line ≡ program_line (fault_text fault))) result }
+{
+    match fault {
+        MarkFault::BadMark => Failure::in_words(alloc, b"", b"bad mark", b"", status),
+        MarkFault::MarkOutOfRange => {
+            Failure::in_words(alloc, b"", b"mark out of range", b"", status)
+        }
+        MarkFault::OutOfMemory => Failure::OutOfMemory,
+    }
+}
+
+// ---- the page
+
+/// The page that the options request, from its mark on.
+pub(crate) fn answer_keys(
+    alloc: Global,
+    known: &DiscoveredGraph,
+    options: &KeysOptions,
+    asked: &PageAsked,
+) -> Result<Answer, Failure>
+    requires { asked.now.bases ≡ map clean_path_of (keys_model options.now).bases }
+    ensures { OfStatements known.now.graph (λ entries.
+        Gives (AnswersKeys known.now entries (keys_model options.now) asked.now.mark) result) }
+{
+    let targets = match targets_asked(alloc, known, &options.targets) {
+        Ok(targets) => targets,
+        Err(failure) => return Err(failure),
+    };
+    match check_depfiles(alloc, known, targets.numbers()) {
+        Ok(()) => {}
+        Err(failure) => return Err(failure),
+    }
+    let page = match page_of(alloc, asked, &targets, options.take) {
+        Ok(page) => page,
+        Err(failure) => return Err(failure),
+    };
+    Ok(page_answer(alloc, known, page)?)
+}
+
+/// The files that words mean; the default ones if there are none.
+fn targets_asked<'k>(
+    alloc: Global,
+    known: &'k DiscoveredGraph,
+    words: &[String],
+) -> Result<FileList<'k>, Failure>
+    ensures targets { IfOk result (λ files. asked_targets known.entry.now.graph
+        (map string_bytes words.now) ≡ Ok files.paths) }
+    ensures of { IfOk result (λ files. files.graph ≡ known.entry.now.graph) }
+    ensures refused { IfErr result (FailsBy Fault
+        (SaysErr (asked_targets known.entry.now.graph (map string_bytes words.now)))) }
+{
+    let texts = texts_of(alloc, words)?;
+    match known.graph.targets(alloc, &texts) {
+        Ok(targets) => Ok(targets),
+        Err(fault) => Err(Failure::of_fault(alloc, &fault)),
+    }
+}
+
+/// The texts of words.
+fn texts_of<'w>(alloc: Global, words: &'w [String]) -> Result<Vec<&'w str>, AllocError>
+    ensures { IfOk result (λ texts.
+        map (λ text. text.now) texts.items ≡ map string_bytes words.entry.now) }
+{
+    let mut texts = Vec::new(alloc);
+    'words: for word in words {
+        texts.push(word.as_str())?;
+    }
+    Ok(texts)
+}
+
+/// The page from a mark on.
+fn page_of(
+    alloc: Global,
+    asked: &PageAsked,
+    targets: &FileList<'_>,
+    take: Option<u64>,
+) -> Result<Page, Failure>
+    ensures page { OfStatements targets.now.graph (λ entries.
+        IfOk result (IsPageOf targets.now entries asked.now.bases asked.now.mark take)) }
+    ensures refused { IfErr result (FailsBy Fault
+        (λ line. (leads targets.now asked.now.mark ≡ false)
+        × (line ≡ program_line (codes "mark out of range")))) }
+{
+    match page_from(alloc, &asked.bases, targets, &asked.mark, take) {
+        Ok(page) => Ok(page),
+        Err(fault) => Err(mark_failure(alloc, fault, Status::Fault)),
+    }
+}
+
+/// The answer of a page.
+fn page_answer(alloc: Global, known: &DiscoveredGraph, page: Page) -> Result<Answer, AllocError>
+    ensures output { IfOk result (λ answer. answer.output ≡ page.lines) }
+    ensures looks { IfOk result (λ answer. answer.looks ≡ false) }
+    ensures warnings { OfStatements known.now.graph (λ entries.
+        IfOk result (λ answer. answer.warnings.items
+        ≡ mark_line page.mark ++ caveat_text known.now entries)) }
+{
+    let Page { lines, mark } = page;
+    let mut warnings = mark_line(alloc, mark.as_ref())?;
+    warnings.extend_from_slice(&caveat_lines(alloc, known)?)?;
+    Ok(Answer {
+        output: lines,
+        warnings,
+        looks: false,
+    })
+}
