@@ -70,7 +70,7 @@ PLACELESS_FAULTS = {
         *OF_BOTH,
         # of the directory of `-C`, and of standard input
         rb"cannot .*: .*",
-        rb".*: (?:there is no such file|not a regular file|the file could not be read|not a deps log)",
+        rb".*: (?:there is no such file|the file could not be read|not a deps log)",
         rb".*: deps log of version \d+",
         rb".*: (?:%b)" % DEPFILE_FAULT,
         rb"the path of the deps log is not UTF-8",

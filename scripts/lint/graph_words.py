@@ -1,35 +1,34 @@
 """Compares the subcommands and options of ninja-graph with its man page and its completions.
 
-The subcommands are those of lib/tools.py, and the options are read off the modules that name them to
-`clap`; smoke/graph.py compares them with the output of `--help`. The bash completion is run, if bash is
-installed; the other two are read.
+The subcommands are those of lib/tools.py, and the options those of lib/subcommands.py; smoke/graph.py
+compares them with the output of `--help`. The bash completion is run, if bash is installed; the other
+two are read.
 """
 
 import re
 
 from lib.checks import check
 from lib.options import END, compare, offered_by_bash
-from lib.programs import CRATES, ROOT
+from lib.programs import ROOT
+from lib.subcommands import subcommands
 from lib.tools import GRAPH, PROGRAMS
 
 NAME = GRAPH
 SUBCOMMANDS = list(PROGRAMS[GRAPH].tools)
-SOURCE = CRATES / "ninja_graph/src"
+OPTIONS, EVERY = subcommands()
 PAGE = ROOT / f"man/{NAME}.1"
 ZSH, FISH = ROOT / f"completions/_{NAME}", ROOT / f"completions/{NAME}.fish"
 HELP = {"-h", "--help"}
 VERSION = {"-V", "--version"}
-OPTION = re.compile(r'\b(?:option|repeated|flag|count|number)\(\s*alloc,\s*"([\w-]+)"|\.short\(\'(\w)\'\)')
 
 
-def options_in(module):
-    """The options that a module names."""
-    found = OPTION.findall((SOURCE / f"{module}.rt").read_text())
-    return {f"--{long}" if long else f"-{short}" for long, short in found}
+def options_in(name):
+    """The options of a subcommand."""
+    return set(OPTIONS[name])
 
 
 def every_subcommand():
-    return options_in("words") | HELP
+    return set(EVERY) | HELP
 
 
 def tagged(section):

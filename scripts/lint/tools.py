@@ -1,8 +1,8 @@
 """Compares the list of tools and subcommands (lib/tools.py) with the sources of both programs.
 
-Those of ninja-graph are read off the modules that name them to `clap`, and those of ninja-explain off
-`tool_named` and `options_of` in crates/nj_args/specs/Tools.antt. All runs of the list together have each
-tool, each subcommand and each option.
+Those of ninja-graph are read off the table of nj_questions (lib/subcommands.py), and those of
+ninja-explain off `tool_named` and `options_of` in crates/nj_args/specs/Tools.antt. All runs of the list
+together have each tool, each subcommand and each option.
 """
 
 import re
@@ -11,23 +11,14 @@ from lib.checks import check, expect
 from lib.options import compare, options_of_clap
 from lib.programs import CRATES
 from lib.projects import EVERY_PROJECT
+from lib.subcommands import subcommands, subcommands_in
 from lib.tools import EXPLAIN, GRAPH, PROGRAMS, Rows, Tool, run_of
 
 LIST = "lib/tools.py"
 ARGUMENTS = CRATES / "nj_args/specs"
-SOURCE = CRATES / "ninja_graph/src"
 NAMED_TOOL = re.compile(r'bytes_eq name \(codes "(\w+)"\) then Some (\w+)')
 OPTIONS_OF = re.compile(r"^options_of (\w+) (?:false|is_single) = (.*) \[\]$", re.M)
 OPTION_TEXT = re.compile(r'^option_text option\.(\w+) = codes "(--?[\w-]+)"$', re.M)
-ARGUMENT = re.compile(
-    r'\b(?:option|repeated|number|count)\(\s*alloc,\s*"([\w-]+)",\s*"(\w+)"'
-    r"|\bflag\(\s*alloc,\s*\"([\w-]+)\""
-    r"|\.short\('(\w)'\)\.value_name\(\"(\w+)\"\)"
-)
-# Each way in which a module names an option; `words.rt` has functions that get the name.
-ANY_ARGUMENT = re.compile(
-    r"\b(?:option|repeated|number|count|flag)\(\s*alloc,(?!\s*name,)|\.(?:short|long)\((?!name\))"
-)
 
 
 # ---- the sources
@@ -38,23 +29,6 @@ def tools_of_explain(text, texts):
     own = {tool: re.findall(r"\w+", options) for tool, options in OPTIONS_OF.findall(text)}
     names = dict(OPTION_TEXT.findall(texts))
     return {name: {names[it] for it in own.get(tool, [])} for name, tool in NAMED_TOOL.findall(text)}
-
-
-def arguments_in(text):
-    """The options that a module names, each with the name of its value, or `None`."""
-    found = {}
-    for valued, value, flag, short, of_short in ARGUMENT.findall(text):
-        name = f"-{short}" if short else f"--{valued or flag}"
-        found[name] = value or of_short or None
-    return found
-
-
-def subcommands(text, source_of):
-    """The subcommands that the program names to `clap`, each with the options of its module."""
-    for module in re.findall(r"\.subcommand\(of_graph\(\s*alloc,\s*(\w+)::command", text):
-        source = source_of(module)
-        for name in re.findall(r'^const NAME: &str = "(\w+)";', source, re.M):
-            yield name, arguments_in(source)
 
 
 # ---- the list beside them
@@ -84,41 +58,38 @@ def tools_of_ninja_explain():
 
 @check
 def subcommands_of_ninja_graph():
-    text, rows = (SOURCE / "words.rt").read_text(), PROGRAMS[GRAPH]
-    own = dict(subcommands(text, lambda module: (SOURCE / f"{module}.rt").read_text()))
-    yield from expect("subcommands that are found", len(own), text.count(".subcommand("))
-    yield from differences(rows, arguments_in(text), own)
-    yield from expect(f"{LIST}, values of every subcommand", rows.every, arguments_in(text))
+    (own, every), rows = subcommands(), PROGRAMS[GRAPH]
+    yield from differences(rows, every, own)
+    yield from expect(f"{LIST}, values of every subcommand", rows.every, every)
     for name, tool in rows.tools.items():
         yield from expect(f"{LIST}, values of {name}", tool.options, own.get(name))
 
 
-@check
-def each_option_is_found():
-    """No module names an option in a way that is not found above."""
-    for file in sorted(SOURCE.glob("*.rt")):
-        text = file.read_text()
-        found = len(ARGUMENT.findall(text))
-        yield from expect(f"{file.name}, the options", found, len(ANY_ARGUMENT.findall(text)))
-
-
 # ---- planted mistakes
 
-WORDS = """\
-    .subcommand(of_graph(alloc, one::command(alloc)?)?)?
-    .subcommand(of_graph(alloc, two::command(alloc)))
-"""
-MODULES = {
-    "one": """\
-const NAME: &str = "one";
-    .arg(flag(alloc, "a", "Do it"))
-    .arg(option(
-        alloc,
+TABLE = """\
+pub const GRAPH_OPTIONS: [Entry; 1] = [
+    ("file", Form::Short('f', "FILE"), "Read FILE"),
+];
+
+pub const ONE: Topic = Topic {
+    name: "one",
+};
+
+pub const ONE_OPTIONS: [Entry; 3] = [
+    ("a", Form::Flag, "Do it"),
+    (
         "b",
-        "N",
-""",
-    "two": 'const NAME: &str = "two";\n',
-}
+        Form::Long("N"),
+        "Do it N times",
+    ),
+    ("A", Form::Word, "A word"),
+];
+
+pub const TWO: Topic = Topic {
+    name: "two",
+};
+"""
 PLANTED = Rows(
     {"-f": "FILE"},
     {"one": Tool({"--a": None, "--b": "N"}), "two": Tool({})},
@@ -131,8 +102,9 @@ PLANTED = Rows(
 @check
 def planted_mistakes_are_seen():
     """A subcommand and an option without a row, rows without a source, and one that no run has."""
-    found = dict(subcommands(WORDS, MODULES.get))
+    found, every, others = subcommands_in(TABLE)
     yield from expect("found", found, {"one": {"--a": None, "--b": "N"}, "two": {}})
+    yield from expect("of every one", (every, others), ({"-f": "FILE"}, {}))
     yield from expect("none", list(differences(PLANTED, ["-f"], found)), [])
     planted = {
         "a subcommand": (["-f"], {**found, "three": {}}),

@@ -11,7 +11,7 @@ from lib.programs import ROOT
 
 VERSION = ROOT / "VERSION"
 CHANGES = ROOT / "CHANGELOG.md"
-WORDS = ROOT / "crates/ninja_graph/src/words.rt"
+WORDS = ROOT / "crates/nj_questions/src/command_line.rt"
 # The line of a man page with its name, section, date and foot.
 TITLE = re.compile(r'^\.TH \S+ 1 \d{4}-\d{2}-\d{2} "([^"]*)" "User Commands"$', re.M)
 

@@ -331,7 +331,7 @@ def logs_that_are_no_files(graph, folder):
         asked.append((["json", "--deps-log-file", path], path))
     for words, path in asked:
         ran = graph.run(words, folder, b"a.c\n", seconds=10).as_text()
-        yield from expect(words, ran, (FAULT, "", f"ninja-graph: {path}: not a regular file\n"))
+        yield from expect(words, ran, (FAULT, "", f"ninja-graph: {path}: the file could not be read\n"))
 
 
 def with_log(build, log):

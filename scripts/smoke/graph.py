@@ -79,7 +79,7 @@ def faults(graph, folder):
         yield from expect(f"{name}, its place", error.startswith("bad.ninja:1:"), True)
         status, output, error = run(graph, folder, [name, "-C", "none", *words])
         yield from expect(f"{name}, no folder", (status, output), (FAULT, ""))
-        start = "ninja-graph: cannot enter the folder of -C: "
+        start = "ninja-graph: cannot change to 'none': "
         yield from expect(f"{name}, its text", error.startswith(start), True)
 
 

@@ -226,18 +226,7 @@ def error_is_wrong(ran, way, usual):
     return not (ended and usual.error.startswith(ran.error) and ran.error != usual.error)
 
 
-def is_tried_again(runs, call, way):
-    """Whether ninja-graph tries an interrupted `write` again: it does so with faults and help, which are no
-    answers."""
-    if runs.name != GRAPH or way != "EINTR":
-        return False
-    helps = {"--help", "--version"} & {*runs.words}
-    return bool(helps) if call == "output" else call == "error" and runs.usual.status != LOOK
-
-
 def is_wrong(runs, call, way, failed, ran):
-    if is_tried_again(runs, call, way):
-        return ran != runs.usual
     if call == "open":
         return ran != wanted_open(runs, failed.opened, way)
     if call == "read":
