@@ -1,8 +1,8 @@
 //! The contents of deps logs.
 
-use crate::log_parts::log_of;
 use crate::printer::put_shown;
 use nj_deps::{DepsLog, DepsLogFault, LoggedOutput};
+use nj_rows::log_of;
 use std::alloc::{AllocError, Global};
 
 /// Appends an outcome for the deps log of these parts, or its fault: `deps-log`, its whole

@@ -1,49 +1,10 @@
 //! What builds discovered for the edges of the files of a row.
 
-ghost use Rattle.std.specs.Prelude.{None};
-
 use crate::graphs::put_edges;
-use crate::log_parts::log_of;
 use nj_deps::{DepsLog, DepsLogFault};
-use nj_graph::{
-    DepfileError, Discoveries, EdgeNo, FileTimes, Graph, GraphFault, SourceFault, Unknown, Verdict,
-    load,
-};
-use nj_rows::Given;
+use nj_graph::{DepfileError, Discoveries, EdgeNo, Graph, GraphFault, Unknown, Verdict, load};
+use nj_rows::{Given, Times, log_of};
 use std::alloc::{AllocError, Global};
-
-/// The times of the lines `TIME PATH` of the file `times`; `TIME` is a number, or `fails`.
-#[derive(Drop)]
-pub(crate) struct Times<'a> {
-    lines: &'a str,
-}
-
-impl<'a> Times<'a> {
-    /// The times of the files of a row.
-    pub(crate) fn of(given: &'a Given) -> Times<'a> {
-        Times {
-            lines: str::from_utf8(given.bytes("times")).unwrap_or(""),
-        }
-    }
-}
-
-impl<'a> FileTimes for Times<'a> {
-    ghost times = { λ _ path. None };
-
-    fn time(&self, path: &str) -> Result<Option<u64>, SourceFault> {
-        for line in self.lines.lines() {
-            if let Some((time, named)) = line.split_once(' ') {
-                if named == path {
-                    return match time.parse() {
-                        Ok(time) => Ok(Some(time)),
-                        Err(_) => Err(SourceFault::Io),
-                    };
-                }
-            }
-        }
-        Ok(None)
-    }
-}
 
 /// A graph, and what builds discovered for its edges.
 #[derive(Drop)]

@@ -2,11 +2,10 @@
 //! declare.
 
 use crate::graphs::put_edges;
-use crate::log_parts::log_of;
 use crate::printer::put_shown;
 use nj_deps::{DepsLog, DepsLogFault};
 use nj_graph::{Graph, GraphFault, UndeclaredInput, join_dyndeps, load, undeclared_inputs};
-use nj_rows::Given;
+use nj_rows::{Given, log_of};
 use std::alloc::{AllocError, Global};
 
 /// Appends the edges of `build.ninja`, to which its dyndep files and then the logs of these files

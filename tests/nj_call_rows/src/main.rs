@@ -14,7 +14,6 @@ mod joined_logs;
 mod keys;
 mod lexing;
 mod loads;
-mod log_parts;
 mod marks;
 mod present;
 mod printer;

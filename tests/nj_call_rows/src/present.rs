@@ -1,9 +1,8 @@
 //! The dyndep files that are there, joined to the graph of the files of a row.
 
-use crate::discovered::Times;
 use crate::graphs::put_edges;
 use nj_graph::{Graph, GraphFault, join_dyndeps, join_present_dyndeps, load};
-use nj_rows::Given;
+use nj_rows::{Given, Times};
 use std::alloc::{AllocError, Global};
 
 /// Appends the edges of `build.ninja`, to which the dyndep files are joined that have a time, and the

@@ -1,6 +1,7 @@
 //! The settings of rows: files, failures and limits.
 
 use crate::blocks::Block;
+use crate::log_parts::log_of;
 use crate::repeats::{Repeat, with_number};
 use nj_scope::MemoryFiles;
 use std::alloc::{AllocError, Global};
@@ -24,6 +25,10 @@ pub struct Given {
     pub files: Vec<GivenFile>,
     /// The reading that fails, counted from 1; 0: none does.
     pub failing: u64,
+    /// The same of the files that builds write, where these have a source of their own.
+    pub failing_built: u64,
+    /// Standard input.
+    pub input: Vec<u8>,
     /// How many bytes standard output takes; `None`: all.
     pub output: Option<usize>,
     /// How many bytes standard error takes; `None`: all.
@@ -36,6 +41,8 @@ impl Given {
         Given {
             files: Vec::new(alloc),
             failing: 0,
+            failing_built: 0,
+            input: Vec::new(alloc),
             output: None,
             error: None,
         }
@@ -49,7 +56,10 @@ impl Given {
             "file" => self.add(alloc, block.rest, text)?,
             "unended" => self.add(alloc, block.rest, without_end(text))?,
             "repeat" => self.repeat(alloc, block)?,
+            "log" => self.add_log(alloc, block)?,
+            "input" => self.input.extend_from_slice(text)?,
             "reading-fails" => self.failing = block.rest.parse().unwrap_or(0),
+            "built-reading-fails" => self.failing_built = block.rest.parse().unwrap_or(0),
             "output-takes" => self.output = block.rest.parse().ok(),
             "error-takes" => self.error = block.rest.parse().ok(),
             _ => return Ok(false),
@@ -60,6 +70,8 @@ impl Given {
     /// Forgets the settings for one row.
     pub fn end_row(&mut self) {
         self.failing = 0;
+        self.failing_built = 0;
+        self.input.clear();
         self.output = None;
         self.error = None;
     }
@@ -70,6 +82,12 @@ impl Given {
         let text = Vec::from_slice(alloc, text)?;
         self.files.push(GivenFile { name, text })?;
         Ok(())
+    }
+
+    /// Gives the deps log of the parts in the text of a block.
+    fn add_log(&mut self, alloc: Global, block: &Block<'_>) -> Result<(), AllocError> {
+        let parts = str::from_utf8(&block.text).unwrap_or("text not UTF-8");
+        self.add(alloc, block.rest, &log_of(alloc, parts)?)
     }
 
     /// Appends a text to the file of this name, which is empty at first.
@@ -97,11 +115,21 @@ impl Given {
 
     /// The files that are given.
     pub fn source(&self, alloc: Global) -> Result<MemoryFiles, AllocError> {
+        self.failing_source(alloc, self.failing)
+    }
+
+    /// The same as a source of files that builds write.
+    pub fn built(&self, alloc: Global) -> Result<MemoryFiles, AllocError> {
+        self.failing_source(alloc, self.failing_built)
+    }
+
+    /// The files, of which the reading of this number fails.
+    fn failing_source(&self, alloc: Global, failing: u64) -> Result<MemoryFiles, AllocError> {
         let mut source = MemoryFiles::new(alloc);
         for file in &self.files {
             source.add(file.name.as_str(), &file.text)?;
         }
-        source.fail_at(self.failing);
+        source.fail_at(failing);
         Ok(source)
     }
 

@@ -3,9 +3,13 @@
 
 mod blocks;
 mod given_files;
+mod log_parts;
 mod repeats;
 mod running;
+mod times;
 
 pub use blocks::{Block, bytes_of, first_of, words_of};
 pub use given_files::{Given, GivenFile};
+pub use log_parts::log_of;
 pub use running::{Outcomes, run_files};
+pub use times::Times;

@@ -4,7 +4,7 @@
 //! record of a path; `deps OUTPUT TIME INPUT..`, the record of an output; `words NUMBER..` and
 //! `bytes NUMBER..`, numbers of four bytes and of one; `text TEXT`, a text without its line end.
 
-use nj_rows::first_of;
+use crate::blocks::first_of;
 use std::alloc::{AllocError, Global};
 
 /// The bit by which records of outputs differ from those of paths.
