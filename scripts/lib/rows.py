@@ -15,7 +15,7 @@ INDENT = "    "
 WANTED = b"<wanted>\n"
 MARKED = re.compile(rb"<([0-9a-fA-F]*)>")
 # The settings for one row alone.
-LIMITS = "reading-fails", "output-takes", "error-takes"
+LIMITS = "reading-fails", "built-reading-fails", "output-takes", "error-takes"
 
 
 def plain(text):
@@ -31,14 +31,15 @@ def plain(text):
 
 @dataclass
 class Block:
-    """A line that is not indented, with the bytes of the lines that belong to it; of a row with limits
-    also these."""
+    """A line that is not indented, with the bytes of the lines that belong to it; of a row also its
+    limits and its standard input."""
 
     line: int
     kind: str
     rest: str
     text: bytes = b""
     limits: tuple = ()
+    input: bytes = b""
 
     def words(self):
         """The arguments in the rest of the line."""
@@ -77,22 +78,54 @@ def repeat(files, block, most):
         files[own] = files.get(own, b"") + with_number(block.text, number)
 
 
+def number(value, size=4):
+    return int(value).to_bytes(size, "little")
+
+
+def record(content, bit=0):
+    """A record of a deps log: the size of its content, with the bit of its kind, and the content."""
+    return number(len(content) | bit) + content
+
+
+def log_of(parts):
+    """The deps log of parts (tests/nj_call_rows/data/deps.rows describes them)."""
+    log = b""
+    for part in parts.decode().splitlines():
+        kind, *words = part.split(" ")
+        if kind == "open":
+            log += b"# ninjadeps\n" + number(words[0])
+        elif kind == "path":
+            path = words[1].encode()
+            log += record(path + bytes(-len(path) % 4) + number(~int(words[0]) % (1 << 32)))
+        elif kind == "deps":
+            log += record(number(words[0]) + number(words[1], 8) + b"".join(map(number, words[2:])), 1 << 31)
+        elif kind == "bytes":
+            log += bytes(map(int, words))
+        else:
+            raise ValueError(f"no part of a deps log: {part}")
+    return log
+
+
 def rows_of(text, most_repeated=None):
     """The rows of a file of rows, each with the files of its section so far, by their names."""
-    files, limits = {}, []
+    files, limits, given = {}, [], b""
     for block in blocks_of(text):
         if block.kind == "==":
             files = {}
         elif block.kind in ("file", "unended"):
             is_whole = block.kind == "file"
             files = {**files, block.rest: block.text if is_whole else block.text.removesuffix(b"\n")}
+        elif block.kind == "log":
+            files = {**files, block.rest: log_of(block.text)}
+        elif block.kind == "input":
+            given = block.text
         elif block.kind == "repeat":
             files = dict(files)
             repeat(files, block, most_repeated)
         elif block.kind in LIMITS:
             limits.append(block.kind)
         else:
-            block.limits, limits = tuple(limits), []
+            block.limits, block.input, limits, given = tuple(limits), given, [], b""
             yield files, block
 
 
