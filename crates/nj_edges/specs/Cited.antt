@@ -1,7 +1,7 @@
 -- What the contracts of this crate cite: each name comes from the module in its line.
 pub use Rattle.std.specs.List.Sorted.{IsStrictlyIncreasing}
 pub use Rattle.nj_edges.specs.Changes.{IsAffected, AffectedEdgesNeedTheFiles, IsOrNeeds}
-pub use Rattle.nj_edges.specs.Edges.{edges_from, counted_inputs_of, edge_at, outputs_of, maker_of, is_among, is_named, inputs_of, kind_at}
+pub use Rattle.nj_edges.specs.Edges.{edges_from, edge_at, counted_inputs_of, outputs_of, maker_of, is_among, is_named, inputs_of, kind_at}
 pub use Rattle.nj_edges.specs.Edges.{roots_of, users_of, validation_users_of, EdgePaths}
 pub use Rattle.nj_names.specs.Files.{path_at, AreFiles}
 pub use Rattle.nj_edges.specs.Inside.ChangesHeld.{FindsMore, HasInputOf}
@@ -9,11 +9,11 @@ pub use Rattle.nj_edges.specs.Inside.UsersHeld.{numbers_of, HaveUsers, HaveUsers
 pub use Rattle.nj_edges.specs.Inside.UsersHeld.{AreMarks, AreParts, ArePlaced, HaveCapacity, plus_use, plus_uses, span_of, starts_with}
 pub use Rattle.nj_edges.specs.Inside.UsersHeld.{users_before}
 pub use Rattle.nj_names.specs.NumberSets.{has, with_number}
-pub use Rattle.nj_edges.specs.Chains.{PathIs}
+pub use Rattle.nj_edges.specs.Chains.{PathIs, inputs_of_kinds}
 pub use Rattle.nj_edges.specs.Inside.ChainsHeld.{AddsMakers, ChainIs, ComeFromEarlier, MakesInput, StepIs, StepToIs, Traces, with_arrival}
+pub use Rattle.std.specs.List.{IsDistinct, list_any, filter, AllByRecursion}
 pub use Rattle.nj_edges.specs.Dirty.{IsDirty, OtherEdgesAreUntouched}
 pub use Rattle.nj_edges.specs.Inside.DirtyHeld.{HasOneIn, HaveUsersIn}
-pub use Rattle.std.specs.List.{IsDistinct, list_any, filter, AllByRecursion}
 pub use Rattle.nj_edges.specs.EdgeTables.{no_files, EndWithin, with_output, with_input, with_validation, is_made, is_named_so_far}
 pub use Rattle.nj_edges.specs.EdgeTables.{edge_read, plus_output}
 pub use Rattle.nj_edges.specs.Inside.EdgesHeld.{AreNumbers, HasFiles, EdgesAreHeld, edges_of, lists_of, no_lists, with_row, row_between}

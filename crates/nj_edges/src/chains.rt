@@ -1,20 +1,28 @@
 //! Chains of inputs by which a file needs another.
 
-ghost use Rattle.std.specs.Prelude.{◌≡◌, ◌<◌, ◌∷◌, [], None, option_map, length, slice_index, All, IfOk, IfSome, OnOk};
-ghost use Rattle.nj_edges.specs.Cited.{has, with_number, PathIs, path_at, AddsMakers, ChainIs, ComeFromEarlier, MakesInput, StepIs, StepToIs, Traces, with_arrival};
+ghost use Rattle.std.specs.Prelude.{◌≡◌, ◌<◌, ◌∷◌, [], None, option_map, bytes_eq, length, slice_index, All, IfOk, IfSome, OnOk};
+ghost use Rattle.nj_edges.specs.Cited.{has, with_number, PathIs, inputs_of_kinds, path_at, AreFiles, AddsMakers, ChainIs, ComeFromEarlier, MakesInput, StepIs, StepToIs, Traces, with_arrival, edge_at, IsDistinct};
 
 use crate::affected::edge_found;
 use crate::edges::{EdgeNo, Kind};
 use crate::graph::EdgeGraph;
-use crate::list_parts::part;
+use crate::list_parts::first;
 use nj_names::{FileNo, NumberSet};
 use std::alloc::{AllocError, Global};
+
+/// Which inputs a chain may go by, beside explicit and implicit ones.
+#[derive(Clone, Copy, Debug, PartialEq, Eq)]
+pub struct ChainKinds {
+    pub order_only: bool,
+    pub validations: bool,
+}
 
 /// A step of a chain: from an edge to one of its inputs, which the edge of the next step makes.
 #[derive(Clone, Copy, Debug, PartialEq, Eq)]
 pub struct Step {
     pub edge: EdgeNo,
-    /// Where the input is among the inputs of the edge; its validations come after these.
+    /// Where the input is among the inputs of the edge that count; validations that count come
+    /// after the other ones.
     pub index: usize,
     pub file: FileNo,
     /// `None` for a validation.
@@ -41,8 +49,9 @@ impl EdgeGraph {
     /// A shortest chain by which one file needs another: its first step goes from the edge that
     /// makes `from`, its last one to `to`, and each goes from the edge that makes the input of the
     /// step before it. Of several shortest ones it is the first when inputs are tried from left to
-    /// right. `None` if there is no chain, and from a file to itself. All kinds of inputs count
-    /// alike; with `with_validations` validations count as inputs too, after those of their edge.
+    /// right. `None` if there is no chain, and from a file to itself. Explicit and implicit inputs
+    /// count, and those of `kinds`: order-only inputs, and validations after the inputs of their
+    /// edge. All that count do so alike.
     ///
     /// Takes time in proportion to the edges that are no farther from `from` than `to` is, their
     /// inputs and their validations, but for a flag for each edge of the graph. Fails only if an
@@ -52,11 +61,11 @@ impl EdgeGraph {
         alloc: Global,
         from: FileNo,
         to: FileNo,
-        with_validations: bool,
+        kinds: ChainKinds,
     ) -> Result<Option<Vec<Step>>, AllocError>
         requires from { from.0 < length self.now.files }
         requires to { to.0 < length self.now.files }
-        ensures path { IfOk result (λ path. PathIs self.now with_validations from to
+        ensures path { IfOk result (λ path. PathIs self.now kinds from to
             (option_map (λ steps. steps.items) path)) }
         ensures edges_known { IfOk result (λ path. IfSome path (λ steps.
             All (λ step. step.edge.0 < length self.now.edges) steps.items)) }
@@ -67,7 +76,7 @@ impl EdgeGraph {
             return Ok(None);
         }
         match self.maker(from) {
-            Some(edge) => self.chain_from(alloc, edge, to, with_validations),
+            Some(edge) => self.chain_from(alloc, edge, to, kinds),
             None => Ok(None),
         }
     }
@@ -78,35 +87,35 @@ impl EdgeGraph {
         alloc: Global,
         first: EdgeNo,
         to: FileNo,
-        with_validations: bool,
+        kinds: ChainKinds,
     ) -> Result<Option<Vec<Step>>, AllocError>
         requires first { first.0 < length self.now.edges }
         requires to { to.0 < length self.now.files }
         ensures { IfOk result (λ path.
-            ChainIs self.now with_validations first.0 (path_at self.now.files to)
+            ChainIs self.now kinds first.0 (path_at self.now.files to)
             (option_map (λ steps. steps.items) path)) }
     {
         let mut search = Search::begun_at(alloc, self.edge_count(), first)?;
         let mut place = 0;
         'edges: while place < search.found.numbers().len() {
             let edge = edge_found(&search.found, place);
-            if let Some(last) = self.step_to(edge, to, with_validations) {
+            if let Some(last) = self.step_to(edge, to, kinds) {
                 return Ok(Some(traced(alloc, &search.arrivals, last, place)?));
             }
-            search.add_makers(self, edge, place, with_validations)?;
+            search.add_makers(self, edge, place, kinds)?;
             place += 1;
         }
         Ok(None)
     }
 
     // The first step from an edge to a file.
-    fn step_to(&self, edge: EdgeNo, to: FileNo, with_validations: bool) -> Option<Step>
+    fn step_to(&self, edge: EdgeNo, to: FileNo, kinds: ChainKinds) -> Option<Step>
         requires edge { edge.0 < length self.now.edges }
         requires to { to.0 < length self.now.files }
-        ensures { StepToIs self.now with_validations edge (path_at self.now.files to) result }
+        ensures { StepToIs self.now kinds edge (path_at self.now.files to) result }
     {
         let mut index = 0;
-        'inputs: while let Some(step) = self.step_at(edge, index, with_validations) {
+        'inputs: while let Some(step) = self.step_at(edge, index, kinds) {
             if step.file == to {
                 return Some(step);
             }
@@ -116,11 +125,11 @@ impl EdgeGraph {
     }
 
     // The step from an edge to its input at an index; `None` past the last one.
-    fn step_at(&self, edge: EdgeNo, index: usize, with_validations: bool) -> Option<Step>
+    fn step_at(&self, edge: EdgeNo, index: usize, kinds: ChainKinds) -> Option<Step>
         requires { edge.0 < length self.now.edges }
-        ensures { StepIs self.now with_validations edge index result }
+        ensures { StepIs self.now kinds edge index result }
     {
-        let inputs = self.edge_files(edge).inputs;
+        let inputs = self.inputs_of_kinds(edge, kinds);
         if index < inputs.len() {
             return Some(Step {
                 edge,
@@ -129,7 +138,7 @@ impl EdgeGraph {
                 kind: Some(self.input_kind(edge, index)),
             });
         }
-        if !with_validations {
+        if !kinds.validations {
             return None;
         }
         let file = *self.validations(edge).get(index - inputs.len())?;
@@ -139,6 +148,20 @@ impl EdgeGraph {
             file,
             kind: None,
         })
+    }
+
+    // The inputs of an edge that count, without its validations.
+    fn inputs_of_kinds(&self, edge: EdgeNo, kinds: ChainKinds) -> &[FileNo]
+        requires { edge.0 < length self.now.edges }
+        ensures files { AreFiles self.now.files result.now
+            (inputs_of_kinds kinds (edge_at self.now.edges edge.0)) }
+        ensures each_path_once { IsDistinct bytes_eq self.now.files }
+    {
+        let files = self.edge_files(edge);
+        if kinds.order_only {
+            return files.inputs;
+        }
+        first(files.inputs, files.kinds.implicit_inputs)
     }
 }
 
@@ -179,19 +202,19 @@ impl Search {
         graph: &EdgeGraph,
         edge: EdgeNo,
         place: usize,
-        with_validations: bool,
+        kinds: ChainKinds,
     ) -> Result<(), AllocError>
         requires limit { self.old.found.limit ≡ length graph.now.edges }
         requires count { length self.old.arrivals.items ≡ length self.old.found.numbers }
         requires place { place < length self.old.found.numbers }
         requires edge { edge.0 ≡ slice_index self.old.found.numbers place }
         requires known { edge.0 < length graph.now.edges }
-        ensures { OnOk result (AddsMakers graph.now with_validations
-            (MakesInput graph.now with_validations (slice_index self.old.found.numbers place)) place
+        ensures { OnOk result (AddsMakers graph.now kinds
+            (MakesInput graph.now kinds (slice_index self.old.found.numbers place)) place
             self.old.found self.new.found self.old.arrivals.items self.new.arrivals.items) }
     {
         let mut index = 0;
-        'inputs: while let Some(step) = graph.step_at(edge, index, with_validations) {
+        'inputs: while let Some(step) = graph.step_at(edge, index, kinds) {
             if let Some(maker) = graph.maker(step.file) {
                 self.add(maker, Some(Arrival { step, place }))?;
             }

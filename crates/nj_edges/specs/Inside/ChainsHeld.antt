@@ -2,6 +2,7 @@
 use Rattle.std.specs.Prelude.{◌≡◌, ℕ, suc, ◌+◌, ◌<◌, ◌≤◌, ◌^◌, Bool, if◌then◌else◌, Option, None, Some, List, [], ◌∷◌, ◌++◌, map, length, take, slice_index, slice_index_or, Contains}
 use Rattle.nj_names.specs.NumberSets.{NumberSetModel}
 use Rattle.nj_edges.specs.declared.chains.Arrival.{Arrival}
+use Rattle.nj_edges.specs.declared.chains.ChainKinds.{ChainKinds}
 use Rattle.nj_edges.specs.declared.chains.Step.{Step}
 use Rattle.nj_edges.specs.declared.edges.EdgeNo.{EdgeNo}
 use Rattle.nj_names.specs.declared.files.FileNo.{FileNo}
@@ -14,73 +15,73 @@ use Rattle.nj_edges.specs.Inside.ChangesHeld.{FindsMore}
 use Rattle.nj_edges.specs.Inside.SearchHeld.{IsSearched}
 
 -- an edge has a file as an input
-abbrev pub HasInput : EdgeGraph → (with_validations : Bool) → (path : List ℕ) → (edge : ℕ) → Type 0
-HasInput g with_validations path edge = Contains (inputs_with with_validations (edge_at g.edges edge)) path
+abbrev pub HasInput : EdgeGraph → (kinds : ChainKinds) → (path : List ℕ) → (edge : ℕ) → Type 0
+HasInput g kinds path edge = Contains (inputs_with kinds (edge_at g.edges edge)) path
 
 -- the step from an edge to its input at an index
-pub record IsStepAt (g : EdgeGraph) (with_validations : Bool) (edge : EdgeNo) (index : ℕ) (step : Step) : Type 0 where
+pub record IsStepAt (g : EdgeGraph) (kinds : ChainKinds) (edge : EdgeNo) (index : ℕ) (step : Step) : Type 0 where
   pub edge_is : step.edge ≡ edge
   pub index_is : step.index ≡ index
-  pub is_step : IsStep g with_validations step
+  pub is_step : IsStep g kinds step
   pub known : step.file.0 < length g.files
   pub only : (file : FileNo) → file.0 < length g.files → path_at g.files step.file ≡ path_at g.files file → step.file ≡ file
   pub fits : index + 1 < 2 ^ 64
 
 -- the first step from an edge to a file; none where it has no input there
-abbrev pub StepToIs : EdgeGraph → (with_validations : Bool) → EdgeNo → (to : List ℕ) → Option Step → Type 0
-StepToIs g with_validations edge to None = ¬ HasInput g with_validations to edge.0
-StepToIs g with_validations edge to (Some step) = (step.edge ≡ edge) × IsStep g with_validations step × (path_at g.files step.file ≡ to)
+abbrev pub StepToIs : EdgeGraph → (kinds : ChainKinds) → EdgeNo → (to : List ℕ) → Option Step → Type 0
+StepToIs g kinds edge to None = ¬ HasInput g kinds to edge.0
+StepToIs g kinds edge to (Some step) = (step.edge ≡ edge) × IsStep g kinds step × (path_at g.files step.file ≡ to)
 
 -- past the last input there is none
-abbrev pub StepIs : EdgeGraph → (with_validations : Bool) → EdgeNo → (index : ℕ) → Option Step → Type 0
-StepIs g with_validations edge index None = length (inputs_with with_validations (edge_at g.edges edge.0)) ≤ index
-StepIs g with_validations edge index (Some step) = IsStepAt g with_validations edge index step
+abbrev pub StepIs : EdgeGraph → (kinds : ChainKinds) → EdgeNo → (index : ℕ) → Option Step → Type 0
+StepIs g kinds edge index None = length (inputs_with kinds (edge_at g.edges edge.0)) ≤ index
+StepIs g kinds edge index (Some step) = IsStepAt g kinds edge index step
 
 -- ---- from edge to edge
 
 -- an edge makes one of the first inputs of another
-abbrev pub MakesInputBefore : EdgeGraph → (with_validations : Bool) → (index user edge : ℕ) → Type 0
-MakesInputBefore g with_validations index user edge =
-    Contains (map (maker_of g.edges) (take index (inputs_with with_validations (edge_at g.edges user)))) (Some edge)
+abbrev pub MakesInputBefore : EdgeGraph → (kinds : ChainKinds) → (index user edge : ℕ) → Type 0
+MakesInputBefore g kinds index user edge =
+    Contains (map (maker_of g.edges) (take index (inputs_with kinds (edge_at g.edges user)))) (Some edge)
 
 -- it makes one of them
-abbrev pub MakesInput : EdgeGraph → (with_validations : Bool) → (user edge : ℕ) → Type 0
-MakesInput g with_validations user edge =
-    Contains (map (maker_of g.edges) (inputs_with with_validations (edge_at g.edges user))) (Some edge)
+abbrev pub MakesInput : EdgeGraph → (kinds : ChainKinds) → (user edge : ℕ) → Type 0
+MakesInput g kinds user edge =
+    Contains (map (maker_of g.edges) (inputs_with kinds (edge_at g.edges user))) (Some edge)
 
-abbrev pub IsReachedFrom : EdgeGraph → (with_validations : Bool) → (first steps edge : ℕ) → Type 0
-IsReachedFrom g with_validations first steps edge = IsReachedIn (λ e. e ≡ first) (MakesInput g with_validations) steps edge
+abbrev pub IsReachedFrom : EdgeGraph → (kinds : ChainKinds) → (first steps edge : ℕ) → Type 0
+IsReachedFrom g kinds first steps edge = IsReachedIn (λ e. e ≡ first) (MakesInput g kinds) steps edge
 
 -- whatever file the first edge makes, the steps lead from it to a file
-abbrev pub LeadFrom : EdgeGraph → (with_validations : Bool) → (first : ℕ) → List Step → (to : List ℕ) → Type 0
-LeadFrom g with_validations first steps to = (from : List ℕ) → maker_of g.edges from ≡ Some first → IsChain g with_validations from steps to
+abbrev pub LeadFrom : EdgeGraph → (kinds : ChainKinds) → (first : ℕ) → List Step → (to : List ℕ) → Type 0
+LeadFrom g kinds first steps to = (from : List ℕ) → maker_of g.edges from ≡ Some first → IsChain g kinds from steps to
 
 -- no edge that is reached in fewer steps has the file as an input
-pub record IsShortestFrom (g : EdgeGraph) (with_validations : Bool) (first : ℕ) (to : List ℕ) (steps : List Step) : Type 0 where
-  pub leads : LeadFrom g with_validations first steps to
-  pub shortest : (n e : ℕ) → IsReachedFrom g with_validations first n e → HasInput g with_validations to e → length steps ≤ suc n
+pub record IsShortestFrom (g : EdgeGraph) (kinds : ChainKinds) (first : ℕ) (to : List ℕ) (steps : List Step) : Type 0 where
+  pub leads : LeadFrom g kinds first steps to
+  pub shortest : (n e : ℕ) → IsReachedFrom g kinds first n e → HasInput g kinds to e → length steps ≤ suc n
 
 -- a shortest chain from an edge's outputs to a file
-abbrev pub ChainIs : EdgeGraph → (with_validations : Bool) → (first : ℕ) → (to : List ℕ) → Option (List Step) → Type 0
-ChainIs g with_validations first to None = (n e : ℕ) → IsReachedFrom g with_validations first n e → ¬ HasInput g with_validations to e
-ChainIs g with_validations first to (Some steps) = IsShortestFrom g with_validations first to steps
+abbrev pub ChainIs : EdgeGraph → (kinds : ChainKinds) → (first : ℕ) → (to : List ℕ) → Option (List Step) → Type 0
+ChainIs g kinds first to None = (n e : ℕ) → IsReachedFrom g kinds first n e → ¬ HasInput g kinds to e
+ChainIs g kinds first to (Some steps) = IsShortestFrom g kinds first to steps
 
 -- ---- how the search came to edges
 
 -- the arrival at the edge at a place is a step from an edge at an earlier one
-pub record IsArrival (g : EdgeGraph) (with_validations : Bool) (numbers : List ℕ) (place : ℕ) (arrival : Arrival) : Type 0 where
+pub record IsArrival (g : EdgeGraph) (kinds : ChainKinds) (numbers : List ℕ) (place : ℕ) (arrival : Arrival) : Type 0 where
   pub earlier : arrival.place < place
   pub from : arrival.step.edge.0 ≡ slice_index numbers arrival.place
-  pub is_step : IsStep g with_validations arrival.step
+  pub is_step : IsStep g kinds arrival.step
   pub made : maker_of g.edges (path_at g.files arrival.step.file) ≡ Some (slice_index numbers place)
 
 -- its distance is one more; nothing came to the first edge
-abbrev pub Arrives : EdgeGraph → (with_validations : Bool) → (first : ℕ) → (distance : ℕ → ℕ) → (numbers : List ℕ)
+abbrev pub Arrives : EdgeGraph → (kinds : ChainKinds) → (first : ℕ) → (distance : ℕ → ℕ) → (numbers : List ℕ)
     → (place : ℕ) → Option Arrival → Type 0
-Arrives g with_validations first distance numbers place None =
+Arrives g kinds first distance numbers place None =
     (slice_index numbers place ≡ first) × (distance (slice_index numbers place) ≡ 0)
-Arrives g with_validations first distance numbers place (Some arrival) =
-    IsArrival g with_validations numbers place arrival
+Arrives g kinds first distance numbers place (Some arrival) =
+    IsArrival g kinds numbers place arrival
     × (distance (slice_index numbers place) ≡ suc (distance (slice_index numbers arrival.place)))
 
 -- each one comes from an earlier place
@@ -98,22 +99,22 @@ abbrev pub with_arrival : List (Option Arrival) → (known : Bool) → Option Ar
 with_arrival arrivals known arrival = if known then arrivals else arrivals ++ arrival ∷ []
 
 -- some makers of inputs of the edge at a place were found, and how the search came to these is known
-pub record AddsMakers (g : EdgeGraph) (with_validations : Bool) (P : ℕ → Type 0) (place : ℕ) (old new : NumberSetModel)
+pub record AddsMakers (g : EdgeGraph) (kinds : ChainKinds) (P : ℕ → Type 0) (place : ℕ) (old new : NumberSetModel)
     (before after : List (Option Arrival)) : Type 0 where
   pub finds : FindsMore P old new
   pub count : length after ≡ length new.numbers
   pub stays : (i : ℕ) → i < length old.numbers → slice_index_or after i None ≡ slice_index_or before i None
   pub added : (i : ℕ) → length old.numbers ≤ i → i < length new.numbers
       → (arrival : Arrival) × (slice_index_or after i None ≡ Some arrival) × (arrival.place ≡ place)
-      × IsArrival g with_validations new.numbers i arrival
+      × IsArrival g kinds new.numbers i arrival
 
 -- between two turns: no edge before the place has the file as an input
-pub record SearchesChain (g : EdgeGraph) (with_validations : Bool) (first : ℕ) (to : List ℕ) (found : NumberSetModel)
+pub record SearchesChain (g : EdgeGraph) (kinds : ChainKinds) (first : ℕ) (to : List ℕ) (found : NumberSetModel)
     (arrivals : List (Option Arrival)) (place : ℕ) : Type 0 where
   pub limit : found.limit ≡ length g.edges
   pub distance : (e : ℕ) → ℕ
-  pub searched : IsSearched (λ e. e ≡ first) (MakesInput g with_validations) distance found.numbers place
+  pub searched : IsSearched (λ e. e ≡ first) (MakesInput g kinds) distance found.numbers place
   pub count : length arrivals ≡ length found.numbers
   pub arrive : (i : ℕ) → i < length found.numbers
-      → Arrives g with_validations first distance found.numbers i (slice_index_or arrivals i None)
-  pub missed : (i : ℕ) → i < place → ¬ HasInput g with_validations to (slice_index found.numbers i)
+      → Arrives g kinds first distance found.numbers i (slice_index_or arrivals i None)
+  pub missed : (i : ℕ) → i < place → ¬ HasInput g kinds to (slice_index found.numbers i)

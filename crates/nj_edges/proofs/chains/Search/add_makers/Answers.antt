@@ -14,7 +14,7 @@ inputs-preserved c =
     let old = c.inputs.self in
     elim c.match-maker.branch [
       | in-Some-maker+in_ok-add w ↦
-          adds-maker-as g c.args.with_validations c.args.edge c.inputs.index c.args.place c.in-Some.step
+          adds-maker-as g c.args.kinds c.args.edge c.inputs.index c.args.place c.in-Some.step
           c.in-Some.ensures first.found old.found first.arrivals.items old.arrivals.items c.requires.place
           c.requires.edge
           c.inputs.invariant w.in-Some-maker.maker.0
@@ -23,7 +23,7 @@ inputs-preserved c =
           (ap (λ (s : Search). s.found) w.self-is ∙ w.in_ok-add.ensures.found)
           (ap (λ (s : Search). s.arrivals.items) w.self-is ∙ w.in_ok-add.ensures.arrivals)
       | in_default-maker w ↦
-          adds-source-as g c.args.with_validations c.args.edge c.inputs.index c.args.place c.in-Some.step
+          adds-source-as g c.args.kinds c.args.edge c.inputs.index c.args.place c.in-Some.step
           c.in-Some.ensures first.found old.found first.arrivals.items old.arrivals.items c.requires.place
           c.requires.edge
           c.inputs.invariant (sym c.maker.ensures.maker ∙ ap (option_map (λ e. e.0)) w.in_default-maker.is)
@@ -35,11 +35,11 @@ inputs-preserved c =
 pub returns : goal.returns
 returns c =
     let g = c.args.graph.now in
-    let past : length (inputs_with c.args.with_validations
+    let past : length (inputs_with c.args.kinds
     (edge_at g.edges (slice_index c.args.self.now.found.numbers c.args.place))) ≤ c.inputs.index
-    = subst (λ e. length (inputs_with c.args.with_validations (edge_at g.edges e)) ≤ c.inputs.index)
+    = subst (λ e. length (inputs_with c.args.kinds (edge_at g.edges e)) ≤ c.inputs.index)
     c.requires.edge c.in_default.ensures in
-    adds-all g c.args.with_validations (slice_index c.args.self.now.found.numbers c.args.place) c.args.place
+    adds-all g c.args.kinds (slice_index c.args.self.now.found.numbers c.args.place) c.args.place
     c.inputs.index c.args.self.now.found c.inputs.self.found c.args.self.now.arrivals.items
     c.inputs.self.arrivals.items past
     c.inputs.invariant

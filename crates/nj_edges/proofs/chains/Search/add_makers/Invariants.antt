@@ -7,9 +7,9 @@ use Rattle.nj_edges.proofs.chains.Search.add_makers.Given as goal
 
 abbrev pub invariant-inputs : goal.invariant-inputs
 invariant-inputs l =
-    AddsMakers l.graph l.with_validations (MakesInputBefore l.graph l.with_validations l.index
+    AddsMakers l.graph l.kinds (MakesInputBefore l.graph l.kinds l.index
     (slice_index l.fn.self.found.numbers l.fn.place)) l.fn.place
     l.fn.self.found l.self.found l.fn.self.arrivals.items l.self.arrivals.items
 
 abbrev pub decreases-inputs : goal.decreases-inputs
-decreases-inputs l = length (inputs_with l.with_validations (edge_at l.graph.edges l.edge.0)) - l.index
+decreases-inputs l = length (inputs_with l.kinds (edge_at l.graph.edges l.edge.0)) - l.index

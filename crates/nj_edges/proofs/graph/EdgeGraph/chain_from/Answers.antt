@@ -9,7 +9,7 @@ use Rattle.nj_edges.proofs.graph.EdgeGraph.chain_from.Goals as goal
 pub edges-init : goal.edges-init
 edges-init c =
     let first = c.args.first.0 in
-    chain-begins c.args.self.now c.args.with_validations first (path_at c.args.self.now.files c.args.to)
+    chain-begins c.args.self.now c.args.kinds first (path_at c.args.self.now.files c.args.to)
     c.in_ok-search.search.found c.in_ok-search.search.arrivals.items
     (c.in_ok-search.ensures.found ∙ ap (λ n. record { limit = n; numbers = first ∷ [] })
     c.edge_count.ensures.count) c.in_ok-search.ensures.arrivals
@@ -29,7 +29,7 @@ traced-requires-clause-place c = omega (
 pub traced-requires-clause-earlier : goal.traced-requires-clause-earlier
 traced-requires-clause-earlier c =
     subst ComeFromEarlier (sym c.deref.ensures.value)
-    (come-from-earlier c.args.self.now c.args.with_validations c.args.first.0
+    (come-from-earlier c.args.self.now c.args.kinds c.args.first.0
     (path_at c.args.self.now.files c.args.to) c.edges.search.found c.edges.search.arrivals.items
     c.edges.place c.edges.invariant)
 
@@ -38,7 +38,7 @@ returns-in-Some c =
     let below : c.edges.place < length c.edges.search.found.numbers =
     omega (arith, c.edges-test.true, ap length c.numbers.ensures.numbers) in
     let last = c.in-Some.ensures in
-    chain-found c.args.self.now c.args.with_validations c.args.first.0
+    chain-found c.args.self.now c.args.kinds c.args.first.0
     (path_at c.args.self.now.files c.args.to) c.edges.search.found c.edges.search.arrivals.items
     c.edges.place c.edges.invariant below c.in-Some.last
     c.in_ok-traced.field-0.items (ap (λ (e : EdgeNo). e.0) last.0 ∙ c.edge_found-edge.ensures.edge) last.1
@@ -70,16 +70,16 @@ edges-preserved c =
     let below : c.edges.place < length c.edges.search.found.numbers =
     omega (arith, c.edges-test.true, ap length c.numbers.ensures.numbers) in
     let to = path_at c.args.self.now.files c.args.to in
-    chain-continues c.args.self.now c.args.with_validations c.args.first.0 to c.edges.search.found
+    chain-continues c.args.self.now c.args.kinds c.args.first.0 to c.edges.search.found
     c.add_makers.new.self.found c.edges.search.arrivals.items c.add_makers.new.self.arrivals.items
     c.edges.place below
-    c.edges.invariant (subst (λ e. HasInput c.args.self.now c.args.with_validations to e → ⊥)
+    c.edges.invariant (subst (λ e. HasInput c.args.self.now c.args.kinds to e → ⊥)
     c.edge_found-edge.ensures.edge c.in_default.ensures) c.in_ok-add_makers.ensures
 
 pub returns : goal.returns
 returns c =
     let past : length c.edges.search.found.numbers ≤ c.edges.place =
     omega (arith, c.edges-test.false, ap length c.numbers.ensures.numbers) in
-    chain-none c.args.self.now c.args.with_validations c.args.first.0
+    chain-none c.args.self.now c.args.kinds c.args.first.0
     (path_at c.args.self.now.files c.args.to) c.edges.search.found c.edges.search.arrivals.items
     c.edges.place c.edges.invariant past

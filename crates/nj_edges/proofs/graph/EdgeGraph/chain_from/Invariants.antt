@@ -4,7 +4,7 @@ use Rattle.nj_edges.specs.Inside.ChainsHeld.{SearchesChain}
 use Rattle.nj_edges.proofs.graph.EdgeGraph.chain_from.Given as goal
 
 abbrev pub invariant-edges : goal.invariant-edges
-invariant-edges l = SearchesChain l.self l.with_validations l.fn.first.0 (path_at l.self.files l.to)
+invariant-edges l = SearchesChain l.self l.kinds l.fn.first.0 (path_at l.self.files l.to)
     l.search.found l.search.arrivals.items l.place
 
 abbrev pub decreases-edges : goal.decreases-edges
