@@ -78,89 +78,96 @@ no-kind n count k past = grind (arith, nat_tests)
 module _ (g : EdgeGraph) (distinct : IsDistinct bytes_eq g.files) (kinds : ChainKinds) (edge : EdgeNo)
     (index : ℕ)
     (inputs : List FileNo) (are : AreFiles g.files inputs (inputs_of_kinds kinds (edge_at g.edges edge.0)))
-        where
-  abbrev e : EdgePaths
-  e = edge_at g.edges edge.0
+  where
+    abbrev e : EdgePaths
+    e = edge_at g.edges edge.0
 
-  abbrev validations : List (List ℕ)
-  validations = cond kinds.validations (edge_at g.edges edge.0).validations []
+    abbrev validations : List (List ℕ)
+    validations = cond kinds.validations (edge_at g.edges edge.0).validations []
 
-  paths : map (path_at g.files) inputs ≡ inputs_of_kinds kinds (edge_at g.edges edge.0)
-  paths = files-paths g.files inputs (inputs_of_kinds kinds (edge_at g.edges edge.0)) are
+    paths : map (path_at g.files) inputs ≡ inputs_of_kinds kinds (edge_at g.edges edge.0)
+    paths = files-paths g.files inputs (inputs_of_kinds kinds (edge_at g.edges edge.0)) are
 
-  pub inputs-count : length inputs ≡ length (inputs_of_kinds kinds (edge_at g.edges edge.0))
-  inputs-count = sym (length-map inputs (path_at g.files)) ∙ ap length paths
+    pub inputs-count : length inputs ≡ length (inputs_of_kinds kinds (edge_at g.edges edge.0))
+    inputs-count = sym (length-map inputs (path_at g.files)) ∙ ap length paths
 
-  pub input-step : (d : FileNo) (kind : Kind) → All (λ file. file.0 < length g.files) inputs
-      → index < length inputs → index + 1 < 2 ^ 64 → kind ≡ kind_at (edge_at g.edges edge.0) index
-      → IsStepAt g kinds edge index (record {
-        edge = edge;
-        index = index;
-        file = get_or inputs index d;
-        kind =
-            Some kind;
-      })
-  input-step d kind known below fits kind_is =
-      let here : index < length (inputs_of_kinds kinds e) = omega (arith, below, inputs-count) in
-      let file_known = All-get_or (λ (file : FileNo). file.0 < length g.files) inputs index d below known in
-      record {
-        edge_is = refl;
-        index_is = refl;
-        is_step = record {
-          file = file_known;
-          input =
-              slice_get-get_or (inputs_of_kinds kinds e ++ validations) index []
-              (omega (arith, here, length-append (inputs_of_kinds kinds e) validations))
-              ∙ ap Some (get_or_append_left (inputs_of_kinds kinds e) validations [] index here
-              ∙ ap (λ ps. get_or ps index []) (sym paths)
-              ∙ get_or-map (path_at g.files) inputs index d [] below);
-          kind = ap Some kind_is ∙ sym (some-kind index (length (inputs_of_kinds kinds e))
-              (Some (kind_at e index)) here);
-        };
-        known = file_known;
-        only = λ file below'. only-file g.files distinct (get_or inputs index d) file file_known below';
-        fits = fits;
-      }
+    pub input-step : (d : FileNo) (kind : Kind) → All (λ file. file.0 < length g.files) inputs
+        → index < length inputs → index + 1 < 2 ^ 64 → kind ≡ kind_at (edge_at g.edges edge.0) index
+        → IsStepAt g kinds edge index (record {
+          edge = edge;
+          index = index;
+          file = get_or inputs index d;
+          kind =
+              Some kind;
+        })
+    input-step d kind known below fits kind_is =
+        let here : index < length (inputs_of_kinds kinds e) = omega (arith, below, inputs-count) in
+        let file_known = All-get_or (λ (file : FileNo). file.0 < length g.files) inputs index d below known in
+        record {
+          edge_is = refl;
+          index_is = refl;
+          is_step = record {
+            file = file_known;
+            input =
+                slice_get-get_or (inputs_of_kinds kinds e ++ validations) index []
+                (omega (arith, here, length-append (inputs_of_kinds kinds e) validations))
+                ∙ ap Some (get_or_append_left (inputs_of_kinds kinds e) validations [] index here
+                ∙ ap (λ ps. get_or ps index []) (sym paths)
+                ∙ get_or-map (path_at g.files) inputs index d [] below);
+            kind = ap Some kind_is ∙ sym (some-kind index (length (inputs_of_kinds kinds e))
+                (Some (kind_at e index)) here);
+          };
+          known = file_known;
+          only = λ file below'. only-file g.files distinct (get_or inputs index d) file file_known below';
+          fits = fits;
+        }
 
-  pub validation-step : (files : List FileNo) (file : FileNo)
-      → AreFiles g.files files (edge_at g.edges edge.0).validations
-      → All (λ file. file.0 < length g.files) files
-      → kinds.validations ≡ true → length inputs ≤ index → slice_get files (index - length inputs) ≡ Some file
-      → index + 1 < 2 ^ 64
-      → IsStepAt g kinds edge index (record { edge = edge; index = index; file = file; kind = None })
-  validation-step files file are' known with_them past got fits =
-      let below = slice_get_within files (index - length inputs) file got in
-      let is : get_or files (index - length inputs) file ≡ file =
-      get_or_from_slice_get files (index - length inputs) file file got in
-      let names = files-paths g.files files e.validations are' in
-      let counted : validations ≡ e.validations = ap (λ b. cond b e.validations []) with_them in
-      let count : length files ≡ length validations =
-      sym (length-map files (path_at g.files)) ∙ ap length names ∙ ap length (sym counted) in
-      let after : length (inputs_of_kinds kinds e) ≤ index = omega (arith, past, inputs-count) in
-      let file_known = subst (λ (f : FileNo). f.0 < length g.files) is
-      (All-get_or (λ (f : FileNo). f.0 < length g.files) files (index - length inputs) file below known)
-      in
-      record {
-        edge_is = refl;
-        index_is = refl;
-        is_step = record {
-          file = file_known;
-          input =
-              slice_get-get_or (inputs_of_kinds kinds e ++ validations) index []
-              (omega (arith, below, count, inputs-count, length-append (inputs_of_kinds kinds e) validations))
-              ∙ ap Some (
-              get_or-append_right (inputs_of_kinds kinds e) validations (length inputs) index []
-                  (sym inputs-count) past
-              ∙ ap (λ ps. get_or ps (index - length inputs) []) (counted ∙ sym names)
-              ∙ get_or-map (path_at g.files) files (index - length inputs) file [] below
-              ∙ ap (path_at g.files) is
-              );
-          kind = sym (no-kind index (length (inputs_of_kinds kinds e)) (Some (kind_at e index)) after);
-        };
-        known = file_known;
-        only = λ other below'. only-file g.files distinct file other file_known below';
-        fits = fits;
-      }
+    pub validation-step : (files : List FileNo) (file : FileNo)
+        → AreFiles g.files files (edge_at g.edges edge.0).validations
+        → All (λ file. file.0 < length g.files) files
+        → kinds.validations ≡ true → length inputs ≤ index
+        → slice_get files (index - length inputs) ≡ Some file
+        → index + 1 < 2 ^ 64
+        → IsStepAt g kinds edge index (record { edge = edge; index = index; file = file; kind = None })
+    validation-step files file are' known with_them past got fits =
+        let below = slice_get_within files (index - length inputs) file got in
+        let is : get_or files (index - length inputs) file ≡ file =
+        get_or_from_slice_get files (index - length inputs) file file got in
+        let names = files-paths g.files files e.validations are' in
+        let counted : validations ≡ e.validations = ap (λ b. cond b e.validations []) with_them in
+        let count : length files ≡ length validations =
+        sym (length-map files (path_at g.files)) ∙ ap length names ∙ ap length (sym counted) in
+        let after : length (inputs_of_kinds kinds e) ≤ index = omega (arith, past, inputs-count) in
+        let file_known = subst (λ (f : FileNo). f.0 < length g.files) is
+        (All-get_or (λ (f : FileNo). f.0 < length g.files) files (index - length inputs) file below known)
+        in
+        record {
+          edge_is = refl;
+          index_is = refl;
+          is_step = record {
+            file = file_known;
+            input =
+                slice_get-get_or (inputs_of_kinds kinds e ++ validations) index []
+                (omega (
+                  arith,
+                  below,
+                  count,
+                  inputs-count,
+                  length-append (inputs_of_kinds kinds e) validations,
+                ))
+                ∙ ap Some (
+                get_or-append_right (inputs_of_kinds kinds e) validations (length inputs) index []
+                (sym inputs-count) past
+                ∙ ap (λ ps. get_or ps (index - length inputs) []) (counted ∙ sym names)
+                ∙ get_or-map (path_at g.files) files (index - length inputs) file [] below
+                ∙ ap (path_at g.files) is
+                );
+            kind = sym (no-kind index (length (inputs_of_kinds kinds e)) (Some (kind_at e index)) after);
+          };
+          known = file_known;
+          only = λ other below'. only-file g.files distinct file other file_known below';
+          fits = fits;
+        }
 
 -- ---- files that chains reach
 
@@ -168,7 +175,7 @@ module _ (g : EdgeGraph) (kinds : ChainKinds) where
   abbrev inputs_at : (edge : ℕ) → List (List ℕ)
   inputs_at edge = inputs_with kinds (edge_at g.edges edge)
 
-  step-has : (s : Step) → IsStep g kinds s → HasInput g kinds (path_at g.files s.file) s.edge.0
+  pub step-has : (s : Step) → IsStep g kinds s → HasInput g kinds (path_at g.files s.file) s.edge.0
   step-has s step =
       let path = path_at g.files s.file in (
         s.index,
@@ -176,7 +183,7 @@ module _ (g : EdgeGraph) (kinds : ChainKinds) where
         get_or_from_slice_get (inputs_at s.edge.0) s.index path path step.input,
       )
 
-  step-makes : (s : Step) (maker : ℕ) → IsStep g kinds s
+  pub step-makes : (s : Step) (maker : ℕ) → IsStep g kinds s
       → maker_of g.edges (path_at g.files s.file) ≡ Some maker
       → MakesInput g kinds s.edge.0 maker
   step-makes s maker step made =
@@ -234,9 +241,15 @@ module _ (g : EdgeGraph) (kinds : ChainKinds) where
 
   pub path-some : (from to : FileNo) (first : ℕ) (steps : List Step) → from ≢ to
       → maker_of g.edges (path_at g.files from) ≡ Some first
-      → IsShortestFrom g kinds first (path_at g.files to) steps → PathIs g kinds from to (Some steps)
-  path-some from to first steps apart maker some =
-      (apart, record { chain = some.leads (path_at g.files from) maker; shortest = all })
+      → ChainIs g kinds first (path_at g.files to) (Some steps) → PathIs g kinds from to (Some steps)
+  path-some from to first steps apart maker (some, leftmost) = (
+    apart,
+    record {
+      chain = some.leads (path_at g.files from) maker;
+      shortest = all;
+      leftmost = λ others. leftmost (path_at g.files from) others maker;
+    },
+  )
     where
       all : (others : List Step) → IsChain g kinds (path_at g.files from) others (path_at g.files to)
           → length steps ≤ length others
@@ -245,8 +258,6 @@ module _ (g : EdgeGraph) (kinds : ChainKinds) where
           let reached = chain-reaches first (path_at g.files from) (path_at g.files to) maker s others chain
           in
           omega (arith, some.shortest (0 + length others) reached.edge reached.reached reached.has)
-
--- ---- the first step from an edge to a file
 
 -- ---- back to the beginning
 
@@ -273,7 +284,7 @@ module _ (g : EdgeGraph) (kinds : ChainKinds) (edge : EdgeNo) (index place : ℕ
     (at : IsStepAt g kinds edge index s) (first old : NumberSetModel) (before after : List (Option Arrival))
     (place_below : place < length first.numbers) (edge_is : edge.0 ≡ slice_index first.numbers place)
     (held : AddsMakers g kinds (MakesInputBefore g kinds index (slice_index first.numbers place)) place first
-        old
+    old
     before after) where
   abbrev user : ℕ
   user = slice_index first.numbers place
@@ -402,7 +413,7 @@ module _ (g : EdgeGraph) (kinds : ChainKinds) (edge : EdgeNo) (index place : ℕ
         new before now
     adds-maker-as new now is came =
         subst (λ f. AddsMakers g kinds (MakesInputBefore g kinds (index + 1)
-            (slice_index first.numbers place))
+        (slice_index first.numbers place))
         place first f before now) (sym is)
         (subst (λ arrivals. AddsMakers g kinds (MakesInputBefore g kinds (index + 1)
         (slice_index first.numbers place)) place first
@@ -433,7 +444,7 @@ module _ (g : EdgeGraph) (kinds : ChainKinds) (first : ℕ) (to : List ℕ) wher
         distance = λ e. 0;
         searched =
             search-begins (λ e. e ≡ first) (MakesInput g kinds)
-                (record { limit = length g.edges; numbers = [] })
+            (record { limit = length g.edges; numbers = [] })
             (record { limit = length g.edges; numbers = first ∷ [] }) refl
             (finds-one (record { limit = length g.edges; numbers = [] }) first);
         count = refl;
@@ -550,7 +561,7 @@ module _ (g : EdgeGraph) (kinds : ChainKinds) (first : ℕ) (to : List ℕ) wher
         (subst (λ e. LeadFrom g kinds e steps to) arrives.0 leads, omega (arith, arrives.1))
     traces-lead p steps whole within (back arrival came rest) leads =
         let arrives = subst (Arrives g kinds first held.distance found.numbers p) came (held.arrive p within)
-            in
+        in
         let arrived = arrives.0 in
         let more = traces-lead arrival.place (arrival.step ∷ steps) whole
         (omega (arith, within, arrived.earlier)) rest
@@ -565,7 +576,7 @@ module _ (g : EdgeGraph) (kinds : ChainKinds) (first : ℕ) (to : List ℕ) wher
     module _ (below : place < length found.numbers) (last : Step) (steps : List Step)
         (edge_is : last.edge.0 ≡ slice_index found.numbers place) (step : IsStep g kinds last)
         (ends : path_at g.files last.file ≡ to) (traced : Traces arrivals place (last ∷ []) steps) where
-      lead : LeadFrom g kinds first steps to × (length steps
+      pub lead : LeadFrom g kinds first steps to × (length steps
           ≡ length (last ∷ []) + held.distance (slice_index found.numbers place))
       lead = traces-lead place (last ∷ []) steps below traced
           (λ from maker. (maker ∙ ap Some (sym edge_is), step, ends))

@@ -1,13 +1,13 @@
 -- Chains of inputs, worked out on a small graph.
 use Rattle.std.proofs.Common.{◌≡◌, ℕ, false, true, List, [], ◌∷◌, Option, Some, None, slice_get, refl, subst}
-use Rattle.std.proofs.Common.{ap, length}
+use Rattle.std.proofs.Common.{ap, length, inl, inr}
 use Rattle.std.proofs.Common.{arith}
 use Rattle.std.proofs.lemmas.Option.{slice_get_within}
 use Rattle.nj_edges.specs.declared.chains.ChainKinds.{ChainKinds}
 use Rattle.nj_edges.specs.declared.chains.Step.{Step}
 use Rattle.nj_edges.specs.declared.edges.Kind.{Kind}
 use Rattle.nj_edges.specs.declared.edges.Kind.TheVariants.{Explicit, OrderOnly}
-use Rattle.nj_edges.specs.Chains.{inputs_with, IsChain}
+use Rattle.nj_edges.specs.Chains.{inputs_with, IsChain, IsNotAfter, PathIs}
 use Rattle.nj_edges.specs.Edges.{edge_at, maker_of}
 use Rattle.nj_edges.specs.EdgeGraphs.{EdgeGraph}
 use Rattle.nj_names.specs.Files.{path_at}
@@ -90,3 +90,38 @@ past-order-only = (refl, record { file = omega arith; input = refl; kind = refl 
 
 after-order-only : IsChain validated and_validations a (step_by 0 2 3 None ∷ []) v
 after-order-only = (refl, record { file = omega arith; input = refl; kind = refl }, refl)
+
+-- ---- `build a: cc p v`; `build p: cc s`; `build v: cc s`: of two chains the one by the first input counts
+
+abbrev diamond : EdgeGraph
+diamond = record {
+  files = a ∷ p ∷ v ∷ s ∷ [];
+  edges = build a (p ∷ v ∷ []) [] [] false ∷ build p (s ∷ []) [] [] false ∷ build v (s ∷ []) [] [] false ∷ [];
+}
+
+abbrev by_first : List Step
+by_first = step_by 0 0 1 (Some Explicit) ∷ step_by 1 0 3 (Some Explicit) ∷ []
+
+abbrev by_second : List Step
+by_second = step_by 0 1 2 (Some Explicit) ∷ step_by 2 0 3 (Some Explicit) ∷ []
+
+first-leads : IsChain diamond inputs a by_first s
+first-leads = (
+  refl,
+  record { file = omega arith; input = refl; kind = refl },
+  (refl, record { file = omega arith; input = refl; kind = refl }, refl),
+)
+
+second-leads : IsChain diamond inputs a by_second s
+second-leads = (
+  refl,
+  record { file = omega arith; input = refl; kind = refl },
+  (refl, record { file = omega arith; input = refl; kind = refl }, refl),
+)
+
+not-by-second : PathIs diamond inputs (record { 0 = 0 }) (record { 0 = 3 }) (Some by_second) → ⊥
+not-by-second (apart, shortest) = is-after (shortest.leftmost by_first first-leads refl)
+  where
+    is-after : IsNotAfter by_second by_first → ⊥
+    is-after (inl less) = absurd (omega (arith, less))
+    is-after (inr (same, rest)) = absurd (omega (arith, same))

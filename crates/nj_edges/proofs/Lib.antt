@@ -1,6 +1,7 @@
 pub mod AddLemmas
 pub mod ChangeRows
 pub mod ChainLemmas
+pub mod ChainOrder
 mod ChainRows
 pub mod ChangeLaws
 pub mod ChangeLemmas

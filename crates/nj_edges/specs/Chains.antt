@@ -1,5 +1,6 @@
 -- Chains of inputs by which a file needs another.
-use Rattle.std.specs.Prelude.{◌≡◌, ◌≢◌, ◌⊎◌, ℕ, ◌<◌, ◌≤◌, if◌then◌else◌, Option, None, Some, List, [], ◌∷◌, ◌++◌, length, slice_get, nat_lt}
+use Rattle.std.specs.Prelude.{◌≡◌, ◌≢◌, ◌⊎◌, ℕ, ◌<◌, ◌≤◌, if◌then◌else◌, Option, None, Some, List, [], ◌∷◌, ◌++◌, bytes_eq, length, slice_get, nat_lt, ⊤}
+use Rattle.std.specs.List.{IsDistinct}
 use Rattle.nj_edges.specs.declared.chains.ChainKinds.{ChainKinds}
 use Rattle.nj_edges.specs.declared.chains.Step.{Step}
 use Rattle.nj_edges.specs.declared.edges.Kind.{Kind}
@@ -38,10 +39,18 @@ abbrev pub IsChain : EdgeGraph → (kinds : ChainKinds) → (from : List ℕ) �
 IsChain g kinds from [] to = ⊥
 IsChain g kinds from (step ∷ steps) to = Lead g kinds from (step ∷ steps) to
 
--- no chain has fewer steps
+-- steps are not after as many others: where the inputs by which they go first differ, theirs comes first
+abbrev pub IsNotAfter : (steps others : List Step) → Type 0
+IsNotAfter [] others = ⊤
+IsNotAfter (step ∷ steps) [] = ⊥
+IsNotAfter (step ∷ steps) (other ∷ others) =
+    (step.index < other.index) ⊎ ((step.index ≡ other.index) × IsNotAfter steps others)
+
+-- no chain has fewer steps, and it is the first of those that have as many
 pub record IsShortest (g : EdgeGraph) (kinds : ChainKinds) (from : List ℕ) (steps : List Step) (to : List ℕ) : Type 0 where
   pub chain : IsChain g kinds from steps to
   pub shortest : (others : List Step) → IsChain g kinds from others to → length steps ≤ length others
+  pub leftmost : (others : List Step) → IsChain g kinds from others to → length others ≡ length steps → IsNotAfter steps others
 
 -- the requested chain; there is none from a file to itself
 abbrev pub PathIs : EdgeGraph → (kinds : ChainKinds) → (from to : FileNo) → Option (List Step) → Type 0
@@ -49,3 +58,8 @@ PathIs g kinds from to None =
     (from ≡ to) ⊎ ((steps : List Step) → ¬ IsChain g kinds (path_at g.files from) steps (path_at g.files to))
 PathIs g kinds from to (Some steps) =
     (from ≢ to) × IsShortest g kinds (path_at g.files from) steps (path_at g.files to)
+
+-- where no two files have one path, at most one answer is right
+abbrev pub OnePathIsRight : Type 0
+OnePathIsRight = (g : EdgeGraph) (kinds : ChainKinds) (from to : FileNo) (path other : Option (List Step))
+    → IsDistinct bytes_eq g.files → PathIs g kinds from to path → PathIs g kinds from to other → path ≡ other

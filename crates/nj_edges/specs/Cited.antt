@@ -8,9 +8,10 @@ pub use Rattle.nj_edges.specs.Inside.ChangesHeld.{FindsMore, HasInputOf}
 pub use Rattle.nj_edges.specs.Inside.UsersHeld.{numbers_of, HaveUsers, HaveUsersIfAny, using_edges, AreCounted, AreCounts, AreEnds}
 pub use Rattle.nj_edges.specs.Inside.UsersHeld.{AreMarks, AreParts, ArePlaced, HaveCapacity, plus_use, plus_uses, span_of, starts_with}
 pub use Rattle.nj_edges.specs.Inside.UsersHeld.{users_before}
+pub use Rattle.nj_edges.specs.Inside.ChainsHeld.{AddsInOrder, AddsMakers, ChainIs, ComeFromEarlier, MakesInput, StepIs, StepToIs, Traces}
+pub use Rattle.nj_edges.specs.Inside.ChainsHeld.{with_arrival}
+pub use Rattle.nj_edges.specs.Chains.{inputs_with, OnePathIsRight, PathIs, inputs_of_kinds}
 pub use Rattle.nj_names.specs.NumberSets.{has, with_number}
-pub use Rattle.nj_edges.specs.Chains.{PathIs, inputs_of_kinds}
-pub use Rattle.nj_edges.specs.Inside.ChainsHeld.{AddsMakers, ChainIs, ComeFromEarlier, MakesInput, StepIs, StepToIs, Traces, with_arrival}
 pub use Rattle.std.specs.List.{IsDistinct, list_any, filter, AllByRecursion}
 pub use Rattle.nj_edges.specs.Dirty.{IsDirty, OtherEdgesAreUntouched}
 pub use Rattle.nj_edges.specs.Inside.DirtyHeld.{HasOneIn, HaveUsersIn}

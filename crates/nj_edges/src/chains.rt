@@ -1,7 +1,7 @@
 //! Chains of inputs by which a file needs another.
 
 ghost use Rattle.std.specs.Prelude.{◌≡◌, ◌<◌, ◌∷◌, [], None, option_map, bytes_eq, length, slice_index, All, IfOk, IfSome, OnOk};
-ghost use Rattle.nj_edges.specs.Cited.{has, with_number, PathIs, inputs_of_kinds, path_at, AreFiles, AddsMakers, ChainIs, ComeFromEarlier, MakesInput, StepIs, StepToIs, Traces, with_arrival, edge_at, IsDistinct};
+ghost use Rattle.nj_edges.specs.Cited.{AddsInOrder, inputs_with, OnePathIsRight, has, with_number, PathIs, inputs_of_kinds, path_at, AreFiles, AddsMakers, ChainIs, ComeFromEarlier, MakesInput, StepIs, StepToIs, Traces, with_arrival, edge_at, IsDistinct};
 
 use crate::affected::edge_found;
 use crate::edges::{EdgeNo, Kind};
@@ -209,9 +209,13 @@ impl Search {
         requires place { place < length self.old.found.numbers }
         requires edge { edge.0 ≡ slice_index self.old.found.numbers place }
         requires known { edge.0 < length graph.now.edges }
-        ensures { OnOk result (AddsMakers graph.now kinds
+        ensures adds { OnOk result (AddsMakers graph.now kinds
             (MakesInput graph.now kinds (slice_index self.old.found.numbers place)) place
             self.old.found self.new.found self.old.arrivals.items self.new.arrivals.items) }
+        ensures in_order { OnOk result (AddsInOrder graph.now kinds
+            (slice_index self.old.found.numbers place) (length (inputs_with kinds
+            (edge_at graph.now.edges (slice_index self.old.found.numbers place))))
+            self.old.found self.new.found self.new.arrivals.items) }
     {
         let mut index = 0;
         'inputs: while let Some(step) = graph.step_at(edge, index, kinds) {
@@ -245,3 +249,8 @@ fn traced(
     steps.reverse();
     Ok(steps)
 }
+
+/// On a graph there is one right answer to which chain leads from a file to another.
+pub fn path_law()
+    ensures { OnePathIsRight }
+{}

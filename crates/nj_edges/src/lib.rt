@@ -22,7 +22,7 @@ mod search_state;
 mod users;
 
 pub use affected::affected_law;
-pub use chains::{ChainKinds, Step};
+pub use chains::{ChainKinds, Step, path_law};
 pub use dirty::dirty_law;
 pub use dyndep_edges::JoiningEdges;
 pub use edges::{EdgeNo, Edges, Kind, KindEnds};

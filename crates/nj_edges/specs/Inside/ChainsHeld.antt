@@ -1,12 +1,12 @@
 -- How a shortest chain is found.
-use Rattle.std.specs.Prelude.{◌≡◌, ℕ, suc, ◌+◌, ◌<◌, ◌≤◌, ◌^◌, Bool, if◌then◌else◌, Option, None, Some, List, [], ◌∷◌, ◌++◌, map, length, take, slice_index, slice_index_or, Contains}
+use Rattle.std.specs.Prelude.{◌≡◌, ◌⊎◌, ℕ, suc, ◌+◌, ◌<◌, ◌≤◌, ◌^◌, Bool, if◌then◌else◌, Option, None, Some, List, [], ◌∷◌, ◌++◌, map, length, take, slice_get, slice_index, slice_index_or, Contains, ⊤}
 use Rattle.nj_names.specs.NumberSets.{NumberSetModel}
 use Rattle.nj_edges.specs.declared.chains.Arrival.{Arrival}
 use Rattle.nj_edges.specs.declared.chains.ChainKinds.{ChainKinds}
 use Rattle.nj_edges.specs.declared.chains.Step.{Step}
 use Rattle.nj_edges.specs.declared.edges.EdgeNo.{EdgeNo}
 use Rattle.nj_names.specs.declared.files.FileNo.{FileNo}
-use Rattle.nj_edges.specs.Chains.{inputs_with, IsChain, IsStep}
+use Rattle.nj_edges.specs.Chains.{inputs_with, IsChain, IsNotAfter, IsStep}
 use Rattle.nj_edges.specs.Distances.{IsReachedIn}
 use Rattle.nj_edges.specs.Edges.{edge_at, maker_of}
 use Rattle.nj_edges.specs.EdgeGraphs.{EdgeGraph}
@@ -31,6 +31,7 @@ pub record IsStepAt (g : EdgeGraph) (kinds : ChainKinds) (edge : EdgeNo) (index 
 abbrev pub StepToIs : EdgeGraph → (kinds : ChainKinds) → EdgeNo → (to : List ℕ) → Option Step → Type 0
 StepToIs g kinds edge to None = ¬ HasInput g kinds to edge.0
 StepToIs g kinds edge to (Some step) = (step.edge ≡ edge) × IsStep g kinds step × (path_at g.files step.file ≡ to)
+    × ((i : ℕ) → slice_get (inputs_with kinds (edge_at g.edges edge.0)) i ≡ Some to → step.index ≤ i)
 
 -- past the last input there is none
 abbrev pub StepIs : EdgeGraph → (kinds : ChainKinds) → EdgeNo → (index : ℕ) → Option Step → Type 0
@@ -61,10 +62,16 @@ pub record IsShortestFrom (g : EdgeGraph) (kinds : ChainKinds) (first : ℕ) (to
   pub leads : LeadFrom g kinds first steps to
   pub shortest : (n e : ℕ) → IsReachedFrom g kinds first n e → HasInput g kinds to e → length steps ≤ suc n
 
--- a shortest chain from an edge's outputs to a file
+-- no chain from a file that the first edge makes is before the steps if it has as many
+abbrev pub IsLeftmostFrom : EdgeGraph → (kinds : ChainKinds) → (first : ℕ) → (to : List ℕ) → List Step → Type 0
+IsLeftmostFrom g kinds first to steps =
+    (from : List ℕ) (others : List Step) → maker_of g.edges from ≡ Some first → IsChain g kinds from others to
+    → length others ≡ length steps → IsNotAfter steps others
+
+-- the first of the shortest chains from an edge's outputs to a file
 abbrev pub ChainIs : EdgeGraph → (kinds : ChainKinds) → (first : ℕ) → (to : List ℕ) → Option (List Step) → Type 0
 ChainIs g kinds first to None = (n e : ℕ) → IsReachedFrom g kinds first n e → ¬ HasInput g kinds to e
-ChainIs g kinds first to (Some steps) = IsShortestFrom g kinds first to steps
+ChainIs g kinds first to (Some steps) = IsShortestFrom g kinds first to steps × IsLeftmostFrom g kinds first to steps
 
 -- ---- how the search came to edges
 
@@ -118,3 +125,46 @@ pub record SearchesChain (g : EdgeGraph) (kinds : ChainKinds) (first : ℕ) (to 
   pub arrive : (i : ℕ) → i < length found.numbers
       → Arrives g kinds first distance found.numbers i (slice_index_or arrivals i None)
   pub missed : (i : ℕ) → i < place → ¬ HasInput g kinds to (slice_index found.numbers i)
+
+-- ---- in which order it came to them
+
+-- an edge makes the input of another at an index
+abbrev pub MakesInputAt : EdgeGraph → (kinds : ChainKinds) → (user index edge : ℕ) → Type 0
+MakesInputAt g kinds user index edge =
+    (path : List ℕ) × (slice_get (inputs_with kinds (edge_at g.edges user)) index ≡ Some path) × (maker_of g.edges path ≡ Some edge)
+
+abbrev pub arrival_index : Option Arrival → ℕ
+arrival_index None = 0
+arrival_index (Some arrival) = arrival.step.index
+
+-- the edges that were added came in the order of the inputs before an index, each by the first one that it makes
+pub record AddsInOrder (g : EdgeGraph) (kinds : ChainKinds) (user index : ℕ) (old new : NumberSetModel)
+    (after : List (Option Arrival)) : Type 0 where
+  pub before : (i : ℕ) → length old.numbers ≤ i → i < length new.numbers → arrival_index (slice_index_or after i None) < index
+  pub rises : (i j : ℕ) → length old.numbers ≤ i → i < j → j < length new.numbers
+      → arrival_index (slice_index_or after i None) < arrival_index (slice_index_or after j None)
+  pub earliest : (i k : ℕ) → length old.numbers ≤ i → i < length new.numbers → k < index
+      → MakesInputAt g kinds user k (slice_index new.numbers i) → arrival_index (slice_index_or after i None) ≤ k
+
+-- an arrival was before a step by the input at an index of the edge at a place; nothing came to the first edge
+abbrev pub ComesSooner : Option Arrival → (place index : ℕ) → Type 0
+ComesSooner None place index = ⊤
+ComesSooner (Some arrival) place index = (arrival.place < place) ⊎ ((arrival.place ≡ place) × (arrival.step.index < index))
+
+abbrev pub ComesBefore : (arrival later : Option Arrival) → Type 0
+ComesBefore arrival None = ⊥
+ComesBefore arrival (Some later) = ComesSooner arrival later.place later.step.index
+
+-- an arrival comes from an edge before a place
+abbrev pub ComesFromBefore : (place : ℕ) → Option Arrival → Type 0
+ComesFromBefore place None = ⊤
+ComesFromBefore place (Some arrival) = arrival.place < place
+
+-- between two turns: the search came to edges in the order in which it found them, and to each by the first step that leads there
+-- from an edge before the place
+pub record SearchesInOrder (g : EdgeGraph) (kinds : ChainKinds) (numbers : List ℕ) (arrivals : List (Option Arrival))
+    (place : ℕ) : Type 0 where
+  pub behind : (i : ℕ) → i < length numbers → ComesFromBefore place (slice_index_or arrivals i None)
+  pub rises : (i j : ℕ) → i < j → j < length numbers → ComesBefore (slice_index_or arrivals i None) (slice_index_or arrivals j None)
+  pub earliest : (i p k : ℕ) → i < length numbers → p < place → MakesInputAt g kinds (slice_index numbers p) k (slice_index numbers i)
+      → ComesSooner (slice_index_or arrivals i None) p (suc k)
