@@ -1,11 +1,12 @@
 -- The contents of a deps log.
-use Rattle.std.specs.Prelude.{◌≡◌, ◌≢◌, ℕ, ◌+◌, ◌*◌, ◌<◌, ◌^◌, Bool, if◌then◌else◌, nat_eq, Option, List, [], ◌∷◌, ◌++◌, length, fold, codes}
+use Rattle.std.specs.Prelude.{◌≡◌, ◌≢◌, ℕ, ◌+◌, ◌*◌, ◌<◌, ◌^◌, Bool, if◌then◌else◌, nat_eq, Option, List, [], ◌∷◌, ◌++◌, length, map, fold, codes}
 use Rattle.std.specs.List.{flat_map, find, AllByRecursion}
 use Rattle.nj_deps.specs.LogRecords.{LogRecord, word, bytes_of, path_in, Counts}
 use Rattle.nj_deps.specs.LogRecords.LogRecord.{path, dependencies}
 use Rattle.nj_deps.specs.declared.log_fault.DepsLogFault.{DepsLogFault}
 use Rattle.nj_deps.specs.declared.log_fault.DepsLogFault.TheVariants.{NoDepsLog, OtherVersion, OutOfMemory}
 use Rattle.nj_deps.specs.declared.logged_outputs.LoggedOutput.{LoggedOutput}
+use Rattle.nj_deps.specs.declared.path_no.PathNo.{PathNo}
 
 -- ---- of records
 
@@ -20,10 +21,14 @@ pub record IsOfPaths (count : ℕ) (o : OutputModel) : Type 0 where
   pub output : o.output < count
   pub inputs : AllByRecursion (λ number. number < count) o.inputs
 
+-- numbers of paths, as plain numbers
+abbrev pub numbers_of : List PathNo → List ℕ
+numbers_of numbers = map (λ n. n.0) numbers
+
 -- an output with its inputs and its time
 abbrev pub output_model : LoggedOutput → OutputModel
 output_model logged =
-    record { output = logged.output; time = logged.time; inputs = logged.inputs.now }
+    record { output = logged.output.0; time = logged.time; inputs = numbers_of logged.inputs.now }
 
 -- the paths with the one that a record names
 abbrev pub with_path : List (List ℕ) → LogRecord → List (List ℕ)

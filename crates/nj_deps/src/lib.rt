@@ -29,6 +29,8 @@ mod log;
 mod log_fault;
 mod log_table;
 mod logged_outputs;
+mod path_no;
+mod paths;
 mod records;
 
 pub use laws::{bytes_say_one_thing, each_output_once, good_logs_are_read, last_record_counts};
@@ -36,3 +38,5 @@ pub use log::DepsLog;
 pub use log_fault::DepsLogFault;
 pub use logged_outputs::LoggedOutput;
 pub use nj_names::HashKeys;
+pub use path_no::PathNo;
+pub use paths::Paths;

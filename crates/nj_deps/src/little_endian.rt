@@ -1,8 +1,9 @@
 //! Numbers of 32 bits in bytes, the lowest byte first.
 
 ghost use Rattle.std.specs.Prelude.{◌≡◌, ◌<◌, ◌≤◌, ◌%◌, ◌^◌, ◌++◌, length, MatchOption, IfOk};
-ghost use Rattle.nj_deps.specs.Cited.{word, AppendsNumbers, BeginsWith};
+ghost use Rattle.nj_deps.specs.Cited.{numbers_of, word, AppendsNumbers, BeginsWith};
 
+use crate::path_no::PathNo;
 use std::alloc::AllocError;
 
 /// The number at the front, and the bytes after it; `None` if there are fewer than four bytes.
@@ -40,15 +41,16 @@ fn number(bytes: &[u8; 4]) -> u32
 /// Appends the numbers that the bytes are. Returns whether all are below the count; if one is not,
 /// or if memory runs out, only some of them have been appended.
 pub(crate) fn push_numbers(
-    numbers: &mut Vec<u32>,
+    numbers: &mut Vec<PathNo>,
     bytes: &[u8],
     count: usize,
 ) -> Result<bool, AllocError>
     requires words { length bytes.now % 4 ≡ 0 }
     requires count { count ≤ 2 ^ 32 }
-    ensures appended { IfOk result (λ all. AppendsNumbers count bytes.now numbers.old.items
-        numbers.new.items all) }
-    ensures grown { BeginsWith numbers.old.items numbers.new.items }
+    ensures appended { IfOk result (λ all. AppendsNumbers count bytes.now
+        (numbers_of numbers.old.items) (numbers_of numbers.new.items) all) }
+    ensures grown { BeginsWith (numbers_of numbers.old.items)
+        (numbers_of numbers.new.items) }
 {
     numbers.reserve(bytes.len() / 4)?;
     let mut rest = bytes;
@@ -56,7 +58,7 @@ pub(crate) fn push_numbers(
         if number as usize >= count {
             return Ok(false);
         }
-        numbers.push(number)?;
+        numbers.push(PathNo(number))?;
         rest = others;
     }
     Ok(true)

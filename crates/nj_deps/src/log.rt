@@ -6,6 +6,8 @@ ghost use Rattle.nj_deps.specs.Cited.{IsDistinct, IsLogOf, IsLogFault, opening, 
 use crate::log_fault::DepsLogFault;
 use crate::log_table::LogTable;
 use crate::logged_outputs::LoggedOutput;
+use crate::path_no::PathNo;
+use crate::paths::Paths;
 use crate::records::split_opening;
 use nj_names::HashKeys;
 use std::alloc::Global;
@@ -92,20 +94,27 @@ impl DepsLog {
         self.table.paths.count()
     }
 
-    /// The path of this number, as the log has it.
-    pub fn path(&self, number: usize) -> &[u8]
-        requires { number < length self.now.paths }
-        ensures { slice_get self.now.paths number ≡ Some result.now }
+    /// All paths, in the order of their numbers.
+    pub fn paths(&self) -> Paths<'_>
+        ensures { result ≡ self.now.paths }
     {
-        self.table.paths.name(number)
+        Paths::new(&self.table.paths)
+    }
+
+    /// The path of this number, as the log has it.
+    pub fn path(&self, number: PathNo) -> &[u8]
+        requires { number.0 < length self.now.paths }
+        ensures { slice_get self.now.paths number.0 ≡ Some result.now }
+    {
+        self.table.paths.name(number.0 as usize)
     }
 
     /// The number of this path, which must be as the log has it; `None` if the log does not name
     /// it.
-    pub fn number(&self, path: &[u8]) -> Option<usize>
-        ensures { result ≡ position (bytes_eq path.now) self.now.paths }
+    pub fn number(&self, path: &[u8]) -> Option<PathNo>
+        ensures { option_map (λ n. n.0) result ≡ position (bytes_eq path.now) self.now.paths }
     {
-        self.table.paths.number(path)
+        self.table.number(path)
     }
 
     /// The number of outputs with dependencies.
@@ -127,8 +136,8 @@ impl DepsLog {
 
     /// The output with the path of this number; `None` if the path is not of an output.
     #[tactic(auto, using(crate::proofs::OutputLemmas::paths_at))]
-    pub fn output_of(&self, number: usize) -> Option<LoggedOutput<'_>>
-        ensures output { option_map output_model result ≡ output_of self.now.outputs number }
+    pub fn output_of(&self, number: PathNo) -> Option<LoggedOutput<'_>>
+        ensures output { option_map output_model result ≡ output_of self.now.outputs number.0 }
         ensures known { IfSome result (λ o. IsOfPaths (length self.now.paths) (output_model o)) }
     {
         match self.table.index_of(number) {

@@ -1,10 +1,11 @@
 //! The table that the records of a deps log fill.
 
-ghost use Rattle.std.specs.Prelude.{◌≡◌, ◌≢◌, ◌<◌, ◌≤◌, ◌+◌, ◌^◌, [], Some, None, true, false, length, slice_get, IfOk, MatchOption};
+ghost use Rattle.std.specs.Prelude.{◌≡◌, ◌≢◌, ◌<◌, ◌≤◌, ◌+◌, ◌^◌, [], Some, None, true, false, length, slice_get, IfOk, MatchOption, bytes_eq, option_map, position};
 ghost use Rattle.nj_deps.specs.Cited.{AllByRecursion, list_any, MayBeNamed, is_never_named, IsOfPaths, output_of, output_model, Adds, AddsAs, AddsPath, TakesRecord, TakesNone, IsTimed};
 
 use crate::little_endian::{split_last_number, split_number};
 use crate::logged_outputs::{LoggedOutput, OutputTable};
+use crate::path_no::PathNo;
 use crate::records::{DEPENDENCIES, path_in, split_record};
 use nj_names::{HashKeys, Names};
 use std::alloc::{AllocError, Global};
@@ -119,13 +120,21 @@ impl LogTable {
         }
     }
 
-    /// The index of the output with the path of this number; `None` if there is none.
-    pub(crate) fn index_of(&self, number: usize) -> Option<usize>
-        ensures { MatchOption result (output_of self.now.outputs number ≡ None)
-            (λ index. (index < length self.now.outputs)
-            × (slice_get self.now.outputs index ≡ output_of self.now.outputs number)) }
+    /// The number of this path; `None` if no record named it.
+    pub(crate) fn number(&self, path: &[u8]) -> Option<PathNo>
+        ensures { option_map (λ n. n.0) result ≡ position (bytes_eq path.now) self.now.paths }
     {
-        if number < self.outputs.path_count() {
+        let number = self.paths.number(path)?;
+        Some(PathNo(number as u32))
+    }
+
+    /// The index of the output with the path of this number; `None` if there is none.
+    pub(crate) fn index_of(&self, number: PathNo) -> Option<usize>
+        ensures { MatchOption result (output_of self.now.outputs number.0 ≡ None)
+            (λ index. (index < length self.now.outputs)
+            × (slice_get self.now.outputs index ≡ output_of self.now.outputs number.0)) }
+    {
+        if (number.0 as usize) < self.outputs.path_count() {
             self.outputs.index_of(number)
         } else {
             None

@@ -4,6 +4,7 @@ ghost use Rattle.std.specs.Prelude.{◌≡◌, ◌<◌, ◌≤◌, ◌+◌, ◌%
 ghost use Rattle.nj_deps.specs.Cited.{AllByRecursion, output_of, output_model, IsOfPaths, Keeps, ArePlaces, with_held};
 
 use crate::little_endian::push_numbers;
+use crate::path_no::PathNo;
 use nj_names::short_number;
 use std::alloc::{AllocError, Global};
 use std::marker::Model;
@@ -12,18 +13,18 @@ use std::marker::Model;
 #[derive(Clone, Copy, Debug)]
 pub struct LoggedOutput<'a> {
     /// The number of its path.
-    pub output: usize,
+    pub output: PathNo,
     /// The time of the output when it was built, in nanoseconds since 1970.
     pub time: u64,
     /// The numbers of the paths on which it depends, in the log's order.
-    pub inputs: &'a [u32],
+    pub inputs: &'a [PathNo],
 }
 
 /// Outputs and their dependencies, by the numbers of paths.
 #[derive(Drop)]
 pub(crate) struct OutputTable {
     // the inputs of all outputs
-    inputs: Vec<u32>,
+    inputs: Vec<PathNo>,
     outputs: Vec<HeldOutput>,
     // for each path the place of its output, counted from 1; 0 if it is none
     places: Vec<u32>,
@@ -31,16 +32,18 @@ pub(crate) struct OutputTable {
 
 impl Model for OutputTable {
     ghost use Rattle.std.specs.Prelude.{length};
+    ghost use Rattle.nj_deps.specs.Logs.{numbers_of};
     ghost use Rattle.nj_deps.specs.Inside.OutputsHeld.{OutputsModel, AreOutputsHeld, all_logged};
 
     ghost Value = { OutputsModel };
 
     ghost view = { λ t. record {
       count = length t.places.items;
-      outputs = all_logged t.inputs.items t.outputs.items;
+      outputs = all_logged (numbers_of t.inputs.items) t.outputs.items;
     } };
 
-    ghost invariant = { λ t. AreOutputsHeld t.inputs.items t.outputs.items t.places.items };
+    ghost invariant = { λ t. AreOutputsHeld (numbers_of t.inputs.items) t.outputs.items
+        t.places.items };
 }
 
 // An output. Its inputs are a part of all inputs.
@@ -122,20 +125,20 @@ impl OutputTable {
     {
         let held = &self.outputs[index];
         LoggedOutput {
-            output: held.output as usize,
+            output: PathNo(held.output),
             time: held.time,
             inputs: &self.inputs.as_slice()[held.start as usize..held.end as usize],
         }
     }
 
     /// The index of the output with the path of this number; `None` if there is none.
-    pub(crate) fn index_of(&self, number: usize) -> Option<usize>
-        requires { number < self.now.count }
-        ensures { MatchOption result (output_of self.now.outputs number ≡ None)
+    pub(crate) fn index_of(&self, number: PathNo) -> Option<usize>
+        requires { number.0 < self.now.count }
+        ensures { MatchOption result (output_of self.now.outputs number.0 ≡ None)
             (λ index. (index < length self.now.outputs)
-            × (slice_get self.now.outputs index ≡ output_of self.now.outputs number)) }
+            × (slice_get self.now.outputs index ≡ output_of self.now.outputs number.0)) }
     {
-        match self.places[number] {
+        match self.places[number.0 as usize] {
             0 => None,
             place => Some(place as usize - 1),
         }

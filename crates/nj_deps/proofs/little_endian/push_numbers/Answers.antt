@@ -1,3 +1,4 @@
+use Rattle.nj_deps.specs.Logs.{numbers_of}
 use Rattle.nj_deps.proofs.WordLemmas.{all_read, one_past, shorter-by}
 use Rattle.nj_deps.proofs.little_endian.push_numbers.Goals as goal
 
@@ -6,11 +7,13 @@ numbers-smaller c = shorter-by c.numbers.rest.now c.in-Some.number c.in-Some.oth
 
 pub returns-then-number-count-clause-appended : goal.returns-then-number-count-clause-appended
 returns-then-number-count-clause-appended c =
-    one_past c.args.count c.args.bytes.now c.numbers.rest.now c.args.numbers.now.items c.numbers.numbers.items
+    one_past c.args.count c.args.bytes.now c.numbers.rest.now (numbers_of c.args.numbers.now.items)
+    (numbers_of c.numbers.numbers.items)
     c.in-Some.number c.in-Some.others.now
     c.numbers.invariant c.requires.count c.in-Some.ensures.0 c.in-Some.ensures.1 c.if-number-count.true
 
 pub returns-clause-appended : goal.returns-clause-appended
 returns-clause-appended c =
-    all_read c.args.count c.args.bytes.now c.numbers.rest.now c.args.numbers.now.items c.numbers.numbers.items
+    all_read c.args.count c.args.bytes.now c.numbers.rest.now (numbers_of c.args.numbers.now.items)
+    (numbers_of c.numbers.numbers.items)
     c.numbers.invariant c.requires.words c.in_default.ensures

@@ -9,5 +9,5 @@ returns-else-number-path_count c =
     let outputs = c.self.inside.outputs in
     let count = c.path_count.ensures.count in
     let past = c.if-number-path_count.false in
-    subst (λ (t : TableModel). output_of t.outputs c.args.number ≡ None) c.self.view_is
-    (unknown-output outputs.count c.args.number outputs.outputs c.path_count.ensures.known (omega arith))
+    subst (λ (t : TableModel). output_of t.outputs c.args.number.0 ≡ None) c.self.view_is
+    (unknown-output outputs.count c.args.number.0 outputs.outputs c.path_count.ensures.known (omega arith))
