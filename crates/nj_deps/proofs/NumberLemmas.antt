@@ -1,9 +1,10 @@
 -- Lemmas on the numbers of paths.
 use Rattle.std.proofs.lemmas.Grind.{common_steps}
-use Rattle.std.proofs.Common.{◌≡◌, ◌+◌, ℕ, zero, suc, Some, List, [], ◌∷◌}
+use Rattle.std.proofs.Common.{◌≡◌, ◌<◌, ◌+◌, ℕ, zero, suc, Some, List, [], ◌∷◌}
 use Rattle.std.proofs.Common.{length, drop, slice_get, slice_range, refl, sym, ap}
 use Rattle.std.proofs.Common.{arith, add-one, true≢false}
-use Rattle.std.specs.Prelude.{take, is_some, unwrap_or}
+use Rattle.std.specs.List.{AllByRecursion}
+use Rattle.std.specs.Prelude.{slice_index_or, take, is_some, unwrap_or}
 use Rattle.nj_deps.specs.Logs.{numbers_of}
 use Rattle.nj_deps.specs.declared.path_no.PathNo.{PathNo}
 
@@ -34,3 +35,12 @@ first-left paths n path at = rw (add-one n) (from paths n at)
     from [] i none = absurd (true≢false (sym (ap is_some none)))
     from (p ∷ ps) zero first = ap (λ q. q ∷ ps) (ap (λ o. unwrap_or o p) first)
     from (p ∷ ps) (suc i) more = from ps i more
+
+-- each of some numbers that are below a count
+pub number-below : (count : ℕ) (numbers : List PathNo) (i : ℕ) (d : PathNo)
+    → AllByRecursion (λ n. n < count) (numbers_of numbers) → i < length numbers
+    → (slice_index_or numbers i d).0 < count
+number-below count [] i d below within = absurd (omega (arith, within))
+number-below count (p ∷ numbers) zero d below within = below.0
+number-below count (p ∷ numbers) (suc i) d below within =
+    number-below count numbers i d below.1 (omega (arith, within))

@@ -8,7 +8,7 @@ pub use Rattle.nj_discovered.specs.Discovered.TextFound.{Text}
 pub use Rattle.nj_discovered.specs.declared.verdict.Verdict.TheVariants.{Faulty}
 pub use Rattle.nj_discovered.specs.Inside.Finding.{Finds}
 pub use Rattle.nj_discovered.specs.Inside.Numbers.{Appends, AreBelow, AreCleanNumbers}
-pub use Rattle.nj_deps.specs.Logs.{IsOfPaths, output_model}
+pub use Rattle.nj_deps.specs.Logs.{IsOfPaths, numbers_of, output_model}
 pub use Rattle.nj_discovered.specs.Discoveries.{found_at, AddsEdge}
 pub use Rattle.std.specs.List.{AllByRecursion}
 pub use Rattle.nj_depfiles.specs.Faults.{fault_text}

@@ -1,13 +1,13 @@
 //! What a deps log says about an edge.
 
 ghost use Rattle.std.specs.Prelude.{◌≡◌, ℕ, List, ◌<◌, ◌++◌, [], length, map, option_map, slice_index, IfOk, IfSome, OnOk};
-ghost use Rattle.nj_discovered.specs.Cited.{IsOfPaths, output_model, edge_at, doubt_of, is_newer, record_of, IsByLog, Finds, AreBelow, AreCleanNumbers};
+ghost use Rattle.nj_discovered.specs.Cited.{IsOfPaths, numbers_of, output_model, edge_at, doubt_of, is_newer, record_of, IsByLog, Finds, AreBelow, AreCleanNumbers};
 
 use crate::names::add_clean;
 use crate::outputs::first_output;
 use crate::times::{FileTimes, TimeFound, time_of};
 use crate::verdict::{Unknown, Verdict};
-use nj_deps::{DepsLog, LoggedOutput};
+use nj_deps::{DepsLog, LoggedOutput, PathNo};
 use nj_edges::{EdgeGraph, EdgeNo};
 use nj_names::Names;
 use std::alloc::{AllocError, Global};
@@ -27,8 +27,8 @@ pub(crate) fn numbers_of_paths(
 {
     let mut buffer = Vec::new(alloc);
     let mut numbers = Vec::with_capacity(alloc, log.path_count())?;
-    'paths: for number in 0..log.path_count() {
-        add_clean(names, &mut numbers, &mut buffer, log.path(number))?;
+    'paths: for path in log.paths() {
+        add_clean(names, &mut numbers, &mut buffer, path)?;
     }
     Ok(numbers)
 }
@@ -92,14 +92,15 @@ fn is_newer(time: Option<u64>, recorded: u64) -> bool
 fn push_logged(
     numbers: &mut Vec<u32>,
     log_numbers: &[u32],
-    inputs: &[u32],
+    inputs: &[PathNo],
 ) -> Result<(), AllocError>
-    requires { AreBelow (length log_numbers.now) inputs.now }
+    requires { AreBelow (length log_numbers.now) (numbers_of inputs.now) }
     ensures { OnOk result (numbers.new.items
-        ≡ numbers.old.items ++ map (λ input. slice_index log_numbers.now input) inputs.now) }
+        ≡ numbers.old.items
+        ++ map (λ input. slice_index log_numbers.now input) (numbers_of inputs.now)) }
 {
     'inputs: for input in inputs {
-        numbers.push(log_numbers[*input as usize])?;
+        numbers.push(log_numbers[input.0 as usize])?;
     }
     Ok(())
 }

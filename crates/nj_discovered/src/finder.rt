@@ -68,7 +68,8 @@ impl<'a> Finder<'a> {
         })
     }
 
-    /// Finds what the next edge discovers, whose values of `deps` and `depfile` these are.
+    /// Finds what this edge discovers, whose values of `deps` and `depfile` these are. The edges come
+    /// in the order of their numbers.
     ///
     /// # Errors
     ///
@@ -78,16 +79,17 @@ impl<'a> Finder<'a> {
         alloc: Global,
         files: &mut S,
         times: &T,
+        edge: EdgeNo,
         deps: &[u8],
         depfile: &[u8],
     ) -> Result<Finder<'a>, AllocError>
-        requires { length self.found.edges < length self.edges }
+        requires next { edge.0 ≡ length self.found.edges }
+        requires edge { edge.0 < length self.edges }
         ensures later { IsLater (S.state files.old) (S.state files.new) }
         ensures edges { IfOk result (λ finder. finder.edges ≡ self.entry.edges) }
         ensures log { IfOk result (λ finder. finder.log ≡ self.entry.log) }
         ensures added { IfOk result (λ finder. AddsEdge (S.state files.old) (S.state files.new)
-            (T.times times.now) self.entry.log
-            (edge_at self.entry.edges (length self.entry.found.edges))
+            (T.times times.now) self.entry.log (edge_at self.entry.edges edge.0)
             deps.now depfile.now self.entry.found finder.found) }
     {
         let Finder {
@@ -98,7 +100,6 @@ impl<'a> Finder<'a> {
             mut inputs,
             mut edges,
         } = self;
-        let edge = EdgeNo(edges.as_slice().len());
         let start = inputs.as_slice().len();
         let verdict = if !deps.is_empty() {
             find_by_log(&mut inputs, log, &log_numbers, times, graph, edge)?

@@ -1,12 +1,11 @@
-use Rattle.std.proofs.Common.{◌≡◌, ◌∙◌, length, ap, refl, subst, sym}
+use Rattle.std.proofs.Common.{length, ap, refl, subst, sym}
 use Rattle.nj_edges.specs.Edges.{edge_at}
 use Rattle.nj_discovered.specs.Discovered.{IsByLog, IsByText, IsDiscovered}
 use Rattle.nj_discovered.specs.Discovered.IsDiscovered.{from_depfile, from_log, from_neither}
 use Rattle.nj_discovered.specs.declared.discoveries.FoundEdge.{FoundEdge}
 use Rattle.nj_discovered.specs.declared.verdict.Verdict.TheVariants.{Known}
-use Rattle.std.proofs.lemmas.List.{length-map}
-use Rattle.nj_discovered.specs.Discoveries.{AddsEdge, FinderModel, discovery_at}
-use Rattle.nj_discovered.specs.Inside.Finding.{Finds, found_held, found_of}
+use Rattle.nj_discovered.specs.Discoveries.{AddsEdge, FinderModel}
+use Rattle.nj_discovered.specs.Inside.Finding.{Finds, found_held}
 use Rattle.nj_discovered.specs.Inside.Numbers.{AreCleanNumbers}
 use Rattle.nj_discovered.proofs.FinderLemmas.{count-with, empty-by_length, finds-moved, finds-none}
 use Rattle.nj_discovered.proofs.FinderLemmas.{finds-weaker, found-with, held-with, kept-with}
@@ -20,7 +19,7 @@ found : (g : given.Over) (c : goal.In_ok-push g)
     → Finds (IsDiscovered (g.S.FileSource.state c.args.files.now)
     (g.S.FileSource.state c.if-not-is_empty.files) (g.T.FileTimes.times c.args.times.now)
     c.self.inside.log.now
-    (edge_at c.self.inside.graph.now.edges (length c.as_slice.result.now)) c.args.deps.now c.args.depfile.now)
+    (edge_at c.self.inside.graph.now.edges c.args.edge.0) c.args.deps.now c.args.depfile.now)
     c.self.inside.names c.if-not-is_empty.names c.self.inside.inputs.items c.if-not-is_empty.inputs.items
     c.if-not-is_empty.verdict
 found g c =
@@ -28,7 +27,7 @@ found g c =
     let times = g.T.FileTimes.times c.args.times.now in
     let before = g.S.FileSource.state c.args.files.now in
     let log = own.log.now in
-    let edge = edge_at own.graph.now.edges (length c.as_slice.result.now) in
+    let edge = edge_at own.graph.now.edges c.args.edge.0 in
     let deps = c.args.deps.now in
     let depfile = c.args.depfile.now in
     let P = IsDiscovered before (g.S.FileSource.state c.if-not-is_empty.files) times log edge deps depfile in
@@ -69,7 +68,7 @@ invariant_of-result g c =
     let own = c.self.inside in
     let P = IsDiscovered (g.S.FileSource.state c.args.files.now)
     (g.S.FileSource.state c.if-not-is_empty.files) (g.T.FileTimes.times c.args.times.now) own.log.now
-    (edge_at own.graph.now.edges (length c.as_slice.result.now)) c.args.deps.now c.args.depfile.now in
+    (edge_at own.graph.now.edges c.args.edge.0) c.args.deps.now c.args.depfile.now in
     held-with P own.log.now.paths own.names c.if-not-is_empty.names own.log_numbers.items own.inputs.items
     c.if-not-is_empty.inputs.items own.edges.items c.push.new.self.items
     (record {
@@ -91,7 +90,7 @@ returns-clause-added g c =
     let edges = own.graph.now.edges in
     let old = found_held own.names own.inputs.items own.edges.items in
     let new = found_held c.if-not-is_empty.names c.if-not-is_empty.inputs.items c.push.new.self.items in
-    let P = IsDiscovered before after times log (edge_at edges (length c.as_slice.result.now)) c.args.deps.now
+    let P = IsDiscovered before after times log (edge_at edges c.args.edge.0) c.args.deps.now
     c.args.depfile.now in
     let edge : FoundEdge = record {
       verdict = c.if-not-is_empty.verdict;
@@ -99,9 +98,7 @@ returns-clause-added g c =
           length c.as_slice-start.result.now;
       end = length c.as_slice-end.result.now;
     } in
-    let same : length c.as_slice.result.now ≡ length old.edges =
-    ap length c.as_slice.ensures.value ∙ sym (length-map own.edges.items (found_of own.inputs.items)) in
-    subst (λ (m : FinderModel). AddsEdge before after times m.log (edge_at m.edges (length m.found.edges))
+    subst (λ (m : FinderModel). AddsEdge before after times m.log (edge_at m.edges c.args.edge.0)
     c.args.deps.now c.args.depfile.now m.found new) c.self.view_is
     (record {
       count = count-with P log.paths own.names c.if-not-is_empty.names own.log_numbers.items own.inputs.items
@@ -112,10 +109,8 @@ returns-clause-added g c =
           c.if-not-is_empty.inputs.items own.edges.items c.push.new.self.items edge
           c.self.invariant (found g c) (ap length c.as_slice-start.ensures.value)
           (ap length c.as_slice-end.ensures.value) c.in_ok-push.ensures.items;
-      added = subst (λ n. IsDiscovered before after times log (edge_at edges n) c.args.deps.now
-          c.args.depfile.now (discovery_at new (length old.edges))) same
-          (found-with P log.paths own.names c.if-not-is_empty.names own.log_numbers.items own.inputs.items
+      added = found-with P log.paths own.names c.if-not-is_empty.names own.log_numbers.items own.inputs.items
           c.if-not-is_empty.inputs.items own.edges.items c.push.new.self.items edge
           c.self.invariant (found g c) (ap length c.as_slice-start.ensures.value)
-          (ap length c.as_slice-end.ensures.value) c.in_ok-push.ensures.items);
+          (ap length c.as_slice-end.ensures.value) c.in_ok-push.ensures.items;
     })
