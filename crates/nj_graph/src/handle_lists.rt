@@ -1,6 +1,6 @@
 //! Lists of a graph's files and edges.
 
-ghost use Rattle.std.specs.Prelude.{◌≡◌, ◌<◌, ℕ, List, All, length, map, option_map, slice_get};
+ghost use Rattle.std.specs.Prelude.{◌≡◌, ◌<◌, ℕ, List, All, drop, length, map, option_map, slice_get, take};
 ghost use Rattle.nj_graph.specs.Cited.{YieldsFirstBy, item_count, is_empty, AreFiles, path_at, GraphModel, edges_of, files_of, edge_of, edges_in, file_of, files_in};
 
 use crate::graph::Graph;
@@ -68,6 +68,22 @@ impl<'g> Files<'g> {
         ensures { result ≡ is_empty self.now }
     {
         self.left.is_empty()
+    }
+
+    /// The first so many, and the others. If there are fewer, the first list has all of them.
+    pub fn split_at(&self, count: usize) -> (Files<'g>, Files<'g>)
+        ensures first { result.0 ≡ take count self.now }
+        ensures others { result.1 ≡ drop count self.now }
+    {
+        let (first, others) = self.left.split_at(count.min(self.left.len()));
+        let graph = self.graph;
+        (
+            Files { graph, left: first },
+            Files {
+                graph,
+                left: others,
+            },
+        )
     }
 
     /// The first one, if there is any.
