@@ -54,7 +54,7 @@ pub use laws::{
 pub use loading::{Loaded, load};
 pub use needed_commands::NeededCommands;
 pub use nj_discovered::{DepfileError, Discoveries, FileTimes, TimeFound, Unknown, Verdict};
-pub use nj_edges::{EdgeGraph, EdgeNo, FileNo, Kind, NeedsSearch, Step};
+pub use nj_edges::{ChainKinds, EdgeGraph, EdgeNo, FileNo, Kind, NeedsSearch, Step};
 pub use nj_faults::{Cause, GraphFault, Name, Place, PlaceRef};
 pub use nj_manifest::{Spot, SyntaxCause, Wanted};
 pub use nj_scope::{
