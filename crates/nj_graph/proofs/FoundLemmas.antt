@@ -16,6 +16,8 @@ use Rattle.nj_names.specs.NameTables.{name_at}
 use Rattle.nj_names.specs.NumberSets.{NumberSetModel, has}
 use Rattle.nj_names.proofs.NameLemmas.{found-at}
 use Rattle.nj_names.proofs.NumberLemmas.{contains-has, has-contains}
+use Rattle.nj_deps.specs.Logs.{numbers_of}
+use Rattle.nj_deps.specs.declared.path_no.PathNo.{PathNo}
 use Rattle.nj_edges.specs.Changes.{IsOrNeeds}
 use Rattle.nj_edges.specs.EdgeGraphs.{EdgeGraph}
 use Rattle.nj_edges.specs.Edges.{EdgePaths, is_among, maker_of}
@@ -235,15 +237,15 @@ module _ (g : EdgeGraph) (edge : ℕ) (before : List InputOfEdge) (paths : List 
 
 -- ---- an edge
 
-pub cleans-more : (paths : List (List ℕ)) (numbers : List ℕ) (i : ℕ) → i < length numbers
-    → map clean_path_of (map (name_at paths) (take (i + 1) numbers))
-    ≡ map clean_path_of (map (name_at paths) (take i numbers))
-    ++ clean_path_of (name_at paths (get_or numbers i 0)) ∷ []
-cleans-more paths numbers i below = grind (arith, common_steps)
+pub cleans-more : (paths : List (List ℕ)) (numbers : List PathNo) (i : ℕ) (d : PathNo) → i < length numbers
+    → map clean_path_of (map (name_at paths) (numbers_of (take (i + 1) numbers)))
+    ≡ map clean_path_of (map (name_at paths) (numbers_of (take i numbers)))
+    ++ clean_path_of (name_at paths (get_or numbers i d).0) ∷ []
+cleans-more paths numbers i d below = grind (arith, common_steps)
 
-pub cleans-all : (paths : List (List ℕ)) (numbers : List ℕ) (i : ℕ) → length numbers ≤ i
-    → map clean_path_of (map (name_at paths) (take i numbers))
-    ≡ map clean_path_of (map (name_at paths) numbers)
+pub cleans-all : (paths : List (List ℕ)) (numbers : List PathNo) (i : ℕ) → length numbers ≤ i
+    → map clean_path_of (map (name_at paths) (numbers_of (take i numbers)))
+    ≡ map clean_path_of (map (name_at paths) (numbers_of numbers))
 cleans-all paths numbers i past = grind (arith, common_steps)
 
 -- the search for the next ones makes no difference

@@ -38,6 +38,12 @@ pub path-found : (files : List (List ℕ)) (path : List ℕ) (file : FileNo)
     → position (bytes_eq path) files ≡ Some file.0 → path_at files file ≡ path
 path-found files path file is = ap (λ o. unwrap_or o []) (found-at path files file.0 is)
 
+-- the path after those that were taken
+pub named-next : (taken rest : List (List ℕ)) (path : List ℕ)
+    → name_at (taken ++ path ∷ rest) (length taken) ≡ path
+named-next [] rest path = refl
+named-next (t ∷ taken) rest path = named-next taken rest path
+
 module _ (g : EdgeGraph) (paths : List (List ℕ)) (made : List (Option MadeFile)) (next : Option MadeFile)
     (n : ℕ) where
   pub made-push : AreMade g paths made → length made ≡ n → MadeIs g (clean_path_of (name_at paths n)) next

@@ -5,8 +5,9 @@ use Rattle.std.proofs.Common.{Option, Some, None, List, [], ◌∷◌, ◌++◌,
 use Rattle.std.proofs.Common.{nat_eq, refl, sym, ap, subst, ◌∙◌, arith}
 use Rattle.std.specs.Prelude.{position, slice_index_or}
 use Rattle.std.specs.List.{AllByRecursion, IsDistinct, flat_map, range_with_len}
+use Rattle.std.proofs.lemmas.Bool.{eqb-true}
 use Rattle.std.proofs.lemmas.Bool.Decides.{eqb_tells}
-use Rattle.std.proofs.lemmas.List.{flat_map_more, length-map, take_all}
+use Rattle.std.proofs.lemmas.List.{flat_map_more, get_or-map, length-map, take_all}
 use Rattle.std.proofs.lemmas.Option.{get_or_from_slice_get, same_Some, slice_get-get_or, unwrap_or-slice_get}
 use Rattle.std.proofs.lemmas.Slice.Eq.{bytes_eq-Decides}
 use Rattle.nj_names.specs.NameTables.{is_among, name_at}
@@ -16,7 +17,9 @@ use Rattle.nj_names.proofs.NumberLemmas.{contains-has}
 use Rattle.nj_cycles.proofs.Places.{contains_at}
 use Rattle.nj_scope.specs.ReadingList.{ReadStatement}
 use Rattle.nj_edges.specs.Edges.{EdgePaths}
-use Rattle.nj_deps.specs.Logs.{LogModel}
+use Rattle.nj_deps.specs.Logs.{LogModel, numbers_of}
+use Rattle.nj_deps.specs.declared.path_no.PathNo.{PathNo}
+use Rattle.nj_deps.proofs.NumberLemmas.{numbers-length}
 use Rattle.nj_statements.specs.EdgeList.{edges_read, paths_of_edges}
 use Rattle.nj_graph.specs.DepsLogs.{number_logged}
 use Rattle.nj_graph.specs.Graph.{GraphModel, IsGraphOf, edges_of}
@@ -75,17 +78,22 @@ module _ (paths : List (List ℕ)) (distinct : IsDistinct bytes_eq paths) (path 
 
 -- ---- a number among others
 
-pub has-more : (numbers : List ℕ) (i wanted : ℕ) → i < length numbers → has (take i numbers) wanted ≡ false
-    → get_or numbers i 0 ≢ wanted → has (take (i + 1) numbers) wanted ≡ false
-has-more numbers i wanted below before apart = grind (arith, common_steps)
+pub has-more : (numbers : List PathNo) (i wanted : ℕ) (d : PathNo) → i < length numbers
+    → has (numbers_of (take i numbers)) wanted ≡ false → nat_eq (get_or numbers i d).0 wanted ≡ false
+    → has (numbers_of (take (i + 1) numbers)) wanted ≡ false
+has-more numbers i wanted d below before apart = grind (arith, common_steps)
 
-pub has-at : (numbers : List ℕ) (i wanted : ℕ) → i < length numbers → get_or numbers i 0 ≡ wanted
-    → true ≡ has numbers wanted
-has-at numbers i wanted below is = sym (contains-has numbers wanted (contains_at numbers i wanted below is))
+pub has-at : (numbers : List PathNo) (i wanted : ℕ) (d : PathNo) → i < length numbers
+    → nat_eq (get_or numbers i d).0 wanted ≡ true → true ≡ has (numbers_of numbers) wanted
+has-at numbers i wanted d below is =
+    sym (contains-has (numbers_of numbers) wanted (contains_at (numbers_of numbers) i wanted
+    (subst (λ k. i < k) (sym (numbers-length numbers)) below)
+    (get_or-map (λ n. n.0) numbers i d 0 below ∙ eqb-true (get_or numbers i d).0 wanted is)))
 
-pub has-none : (numbers : List ℕ) (i wanted : ℕ) → length numbers ≤ i → has (take i numbers) wanted ≡ false
-    → false ≡ has numbers wanted
-has-none numbers i wanted past none = sym (sym (ap (λ ns. has ns wanted) (take_all i numbers past)) ∙ none)
+pub has-none : (numbers : List PathNo) (i wanted : ℕ) → length numbers ≤ i
+    → has (numbers_of (take i numbers)) wanted ≡ false → false ≡ has (numbers_of numbers) wanted
+has-none numbers i wanted past none =
+    sym (sym (ap (λ ns. has (numbers_of ns) wanted) (take_all i numbers past)) ∙ none)
 
 -- ---- edge by edge
 

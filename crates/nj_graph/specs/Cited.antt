@@ -26,7 +26,8 @@ pub use Rattle.nj_edges.specs.Edges.{roots_of}
 pub use Rattle.nj_edges.specs.MoreInputs.{with_new_input}
 pub use Rattle.nj_graph.specs.DepsLogs.{JoinsLog, inputs_logged, number_logged, JoinsNamed, SameLogChangesNothing}
 pub use Rattle.nj_graph.specs.Inside.InputSteps.{joined_edges, AreFilesOf, inputs_found}
-pub use Rattle.nj_graph.specs.Inside.LogSteps.{AreNumbersLogged, inputs_by_numbers}
+pub use Rattle.nj_graph.specs.Inside.LogSteps.{AreNumbersLogged, inputs_by_numbers, numbers_if_any}
+pub use Rattle.nj_deps.specs.Logs.{numbers_of}
 pub use Rattle.nj_discovered.specs.Discoveries.{discovery_at}
 pub use Rattle.nj_discovered.specs.Discovered.{IsLater}
 pub use Rattle.nj_graph.specs.Discovering.{AreDiscovered}

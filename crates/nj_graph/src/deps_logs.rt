@@ -1,11 +1,11 @@
 //! Joins deps logs to the graph of a run.
 
-ghost use Rattle.std.specs.Prelude.{◌≡◌, List, ◌<◌, fold, length, map, position, bytes_eq, option_and_then, IfOk, OnOk};
-ghost use Rattle.nj_graph.specs.Cited.{OfStatements, AllByRecursion, clean_path_of, name_at, ReadStatement, IsPrefix, edge_at, first_output, with_new_input, edges_of, files_of, IsGraphOf, JoinsLog, inputs_logged, number_logged, joined_edges, AreNumbersLogged, inputs_by_numbers};
+ghost use Rattle.std.specs.Prelude.{◌≡◌, List, ◌<◌, fold, length, map, position, bytes_eq, option_and_then, option_map, IfOk, OnOk};
+ghost use Rattle.nj_graph.specs.Cited.{OfStatements, AllByRecursion, clean_path_of, name_at, ReadStatement, IsPrefix, edge_at, first_output, with_new_input, edges_of, files_of, IsGraphOf, JoinsLog, inputs_logged, number_logged, joined_edges, AreNumbersLogged, inputs_by_numbers, numbers_if_any, numbers_of};
 
 use crate::edge_inputs::{EdgeInputs, join_built};
 use crate::graph::Graph;
-use nj_deps::DepsLog;
+use nj_deps::{DepsLog, PathNo};
 use nj_discovered::clean;
 use nj_edges::{EdgeGraph, EdgeNo, JoiningInputs};
 use nj_faults::GraphFault;
@@ -49,11 +49,12 @@ impl Graph {
         &self,
         alloc: Global,
         log: &DepsLog,
-    ) -> Result<Vec<Option<usize>>, AllocError>
+    ) -> Result<Vec<Option<PathNo>>, AllocError>
         ensures count { IfOk result (λ numbers.
             length numbers.items ≡ length (edges_of self.now)) }
         ensures numbers { OfStatements self.now (λ entries.
-            IfOk result (λ numbers. AreNumbersLogged log.now entries numbers.items)) }
+            IfOk result (λ numbers.
+            AreNumbersLogged log.now entries (numbers_if_any numbers.items))) }
     {
         let edge_count = self.edge_count();
         let mut numbers = Vec::with_capacity(alloc, edge_count)?;
@@ -72,10 +73,11 @@ impl Graph {
         log: &DepsLog,
         deps: &mut Vec<u8>,
         edge: EdgeNo,
-    ) -> Result<Option<usize>, AllocError>
+    ) -> Result<Option<PathNo>, AllocError>
         requires { edge.0 < length (edges_of self.now) }
         ensures { OfStatements self.now (λ entries.
-            IfOk result (λ number. number ≡ number_logged log.now entries edge.0)) }
+            IfOk result (λ number.
+            option_map (λ n. n.0) number ≡ number_logged log.now entries edge.0)) }
     {
         deps.clear();
         self.edge_at(edge).append_variable(deps, b"deps")?;
@@ -87,9 +89,10 @@ impl Graph {
 }
 
 // The number under which the log has the first output of an edge.
-fn first_output_number(graph: &EdgeGraph, log: &DepsLog, edge: EdgeNo) -> Option<usize>
+fn first_output_number(graph: &EdgeGraph, log: &DepsLog, edge: EdgeNo) -> Option<PathNo>
     requires { edge.0 < length graph.now.edges }
-    ensures { result ≡ option_and_then (λ path. position (bytes_eq path) log.now.paths)
+    ensures { option_map (λ n. n.0) result
+        ≡ option_and_then (λ path. position (bytes_eq path) log.now.paths)
         (first_output (edge_at graph.now.edges edge.0)) }
 {
     let output = graph.outputs(edge).first()?;
@@ -100,13 +103,13 @@ fn first_output_number(graph: &EdgeGraph, log: &DepsLog, edge: EdgeNo) -> Option
 #[derive(Drop)]
 struct LoggedInputs<'a> {
     log: &'a DepsLog,
-    numbers: &'a [Option<usize>],
+    numbers: &'a [Option<PathNo>],
 }
 
 impl<'a> EdgeInputs for LoggedInputs<'a> {
-    ghost use Rattle.nj_graph.specs.Inside.LogSteps.{inputs_by_numbers};
+    ghost use Rattle.nj_graph.specs.Inside.LogSteps.{inputs_by_numbers, numbers_if_any};
 
-    ghost inputs = { λ l. inputs_by_numbers l.log.now l.numbers.now };
+    ghost inputs = { λ l. inputs_by_numbers l.log.now (numbers_if_any l.numbers.now) };
 
     fn join(&self, alloc: Global, joining: &mut JoiningInputs) -> Result<(), AllocError> {
         join_edges(alloc, joining, self.log, self.numbers)
@@ -118,12 +121,12 @@ fn join_edges(
     alloc: Global,
     joining: &mut JoiningInputs,
     log: &DepsLog,
-    numbers: &[Option<usize>],
+    numbers: &[Option<PathNo>],
 ) -> Result<(), AllocError>
     requires count { length numbers.now ≡ length joining.old.table.stated }
     requires start { joining.old.edge ≡ 0 }
     ensures { OnOk result (joining.new
-        ≡ joined_edges (inputs_by_numbers log.now numbers.now) joining.old) }
+        ≡ joined_edges (inputs_by_numbers log.now (numbers_if_any numbers.now)) joining.old) }
 {
     let mut buffer = Vec::new(alloc);
     'numbers: for number in numbers {
@@ -138,10 +141,11 @@ fn add_logged(
     joining: &mut JoiningInputs,
     log: &DepsLog,
     buffer: &mut Vec<u8>,
-    number: Option<usize>,
+    number: Option<PathNo>,
 ) -> Result<(), AllocError>
     ensures { OnOk result (joining.new
-        ≡ fold with_new_input joining.old (inputs_logged log.now number)) }
+        ≡ fold with_new_input joining.old
+        (inputs_logged log.now (option_map (λ n. n.0) number))) }
 {
     let Some(number) = number else {
         return Ok(());
@@ -157,14 +161,14 @@ fn add_inputs(
     joining: &mut JoiningInputs,
     log: &DepsLog,
     buffer: &mut Vec<u8>,
-    numbers: &[u32],
+    numbers: &[PathNo],
 ) -> Result<(), AllocError>
-    requires { AllByRecursion (λ number. number < length log.now.paths) numbers.now }
+    requires { AllByRecursion (λ number. number < length log.now.paths) (numbers_of numbers.now) }
     ensures { OnOk result (joining.new ≡ fold with_new_input joining.old
-        (map clean_path_of (map (name_at log.now.paths) numbers.now))) }
+        (map clean_path_of (map (name_at log.now.paths) (numbers_of numbers.now)))) }
 {
     'inputs: for number in numbers {
-        joining.add_input(clean(buffer, log.path(*number as usize))?)?;
+        joining.add_input(clean(buffer, log.path(*number))?)?;
     }
     Ok(())
 }

@@ -50,7 +50,7 @@ impl Graph {
             edge.append_variable(&mut deps, b"deps")?;
             depfile.clear();
             edge.append_variable(&mut depfile, b"depfile")?;
-            finder = finder.with_edge(alloc, files, times, &deps, &depfile)?;
+            finder = finder.with_edge(alloc, files, times, edge.number, &deps, &depfile)?;
         }
         Ok(finder.finish())
     }

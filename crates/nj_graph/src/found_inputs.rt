@@ -1,10 +1,11 @@
 //! The undeclared inputs that were found so far.
 
 ghost use Rattle.std.specs.Prelude.{◌≡◌, ◌<◌, ◌∷◌, ◌++◌, ℕ, List, Some, [], length, map, All, IfOk, OnOk, bytes_eq};
-ghost use Rattle.nj_graph.specs.Cited.{clean_path_of, name_at, EdgeGraph, each_once, AreThose, InputOfEdge, IsUndeclared, input_of_edge, inputs_of_edge, AddsFile, AreMade, FindsAt, IsFound, IsKnownIfAny, MadeIs};
+ghost use Rattle.nj_graph.specs.Cited.{clean_path_of, name_at, EdgeGraph, each_once, AreThose, InputOfEdge, IsUndeclared, input_of_edge, inputs_of_edge, AddsFile, AreMade, FindsAt, IsFound, IsKnownIfAny, MadeIs, numbers_of};
 
 use crate::made_files::MadeFile;
 use crate::undeclared::UndeclaredInput;
+use nj_deps::PathNo;
 use nj_edges::{EdgeGraph, EdgeNo, NeedsSearch};
 use nj_names::RoundSet;
 use std::alloc::{AllocError, Global};
@@ -41,12 +42,12 @@ impl<'a> FoundInputs<'a> {
         graph: &EdgeGraph,
         edge: EdgeNo,
         made: &[Option<MadeFile>],
-        numbers: &[u32],
+        numbers: &[PathNo],
     ) -> Result<(), AllocError>
         requires found { IsFound graph.now self.old }
         requires edge { edge.0 < length graph.now.edges }
         requires made { All (IsKnownIfAny graph.now) made.now }
-        requires numbers { All (λ number. number < length made.now) numbers.now }
+        requires numbers { All (λ number. number.0 < length made.now) numbers.now }
         ensures found { OnOk result (IsFound graph.now self.new) }
         ensures added { (paths : List (List ℕ)) (before : List InputOfEdge)
             → AreMade graph.now paths made.now
@@ -54,12 +55,13 @@ impl<'a> FoundInputs<'a> {
             (map (input_of_edge graph.now.files) self.old.inputs.items)
             → OnOk result (AreThose (IsUndeclared graph.now.edges)
             (before ++ inputs_of_edge edge.0
-            (each_once bytes_eq (map clean_path_of (map (name_at paths) numbers.now))))
+            (each_once bytes_eq
+            (map clean_path_of (map (name_at paths) (numbers_of numbers.now)))))
             (map (input_of_edge graph.now.files) self.new.inputs.items)) }
     {
         self.files.clear();
         'numbers: for number in numbers {
-            self.add_input(graph, edge, made[*number as usize])?;
+            self.add_input(graph, edge, made[number.0 as usize])?;
         }
         Ok(())
     }

@@ -26,12 +26,11 @@ pub(crate) fn made_files(
     ensures known { IfOk result (λ made. All (IsKnownIfAny graph.now) made.items) }
     ensures each_path_once { OnOk result (IsDistinct bytes_eq log.now.paths) }
 {
-    let count = log.path_count();
-    let mut made = Vec::with_capacity(alloc, count)?;
+    let mut made = Vec::with_capacity(alloc, log.path_count())?;
     let mut buffer = Vec::new(alloc);
-    'paths: for number in 0..count {
-        let path = clean(&mut buffer, log.path(number))?;
-        made.push(made_file(graph, path))?;
+    'paths: for path in log.paths() {
+        let clean_path = clean(&mut buffer, path)?;
+        made.push(made_file(graph, clean_path))?;
     }
     Ok(made)
 }

@@ -1,12 +1,12 @@
 //! Inputs that deps logs name for edges, and that these do not declare.
 
-ghost use Rattle.std.specs.Prelude.{◌≡◌, ◌<◌, [], length, map, All, IfOk, OnOk, bytes_eq};
-ghost use Rattle.nj_graph.specs.Cited.{OfStatements, AllByRecursion, IsDistinct, clean_path_of, is_among, name_at, has, each_once, edges_of, files_of, AreThose, AreUndeclared, IsUndeclared, input_of_edge, paths_of_output, AreMade, IsFound, IsKnownIfAny, inputs_by_number};
+ghost use Rattle.std.specs.Prelude.{◌≡◌, ◌<◌, [], length, map, option_map, All, IfOk, OnOk, bytes_eq};
+ghost use Rattle.nj_graph.specs.Cited.{OfStatements, AllByRecursion, IsDistinct, clean_path_of, is_among, name_at, has, each_once, edges_of, files_of, AreThose, AreUndeclared, IsUndeclared, input_of_edge, paths_of_output, AreMade, IsFound, IsKnownIfAny, inputs_by_number, numbers_if_any, numbers_of};
 
 use crate::found_inputs::FoundInputs;
 use crate::graph::Graph;
 use crate::made_files::{MadeFile, made_files};
-use nj_deps::DepsLog;
+use nj_deps::{DepsLog, PathNo};
 use nj_edges::{EdgeGraph, EdgeNo, FileNo};
 use std::alloc::{AllocError, Global};
 
@@ -52,7 +52,7 @@ fn add_edges(
     found: &mut FoundInputs<'_>,
     graph: &EdgeGraph,
     log: &DepsLog,
-    numbers: &[Option<usize>],
+    numbers: &[Option<PathNo>],
     made: &[Option<MadeFile>],
 ) -> Result<(), AllocError>
     requires found { IsFound graph.now found.old }
@@ -64,7 +64,7 @@ fn add_edges(
     requires each_path_once { IsDistinct bytes_eq log.now.paths }
     ensures found { OnOk result (IsFound graph.now found.new) }
     ensures undeclared { OnOk result (AreThose (IsUndeclared graph.now.edges)
-        (inputs_by_number log.now numbers.now)
+        (inputs_by_number log.now (numbers_if_any numbers.now))
         (map (input_of_edge graph.now.files) found.new.inputs.items)) }
 {
     'edges: for (edge, number) in numbers.iter().enumerate() {
@@ -74,11 +74,13 @@ fn add_edges(
 }
 
 // The numbers of the paths that a log names for the output of a number.
-fn paths_named(log: &DepsLog, output: Option<usize>) -> &[u32]
+fn paths_named(log: &DepsLog, output: Option<PathNo>) -> &[PathNo]
     requires { IsDistinct bytes_eq log.now.paths }
-    ensures named { each_once bytes_eq (map clean_path_of (map (name_at log.now.paths) result.now))
-        ≡ paths_of_output log.now output }
-    ensures known { AllByRecursion (λ number. number < length log.now.paths) result.now }
+    ensures named { each_once bytes_eq
+        (map clean_path_of (map (name_at log.now.paths) (numbers_of result.now)))
+        ≡ paths_of_output log.now (option_map (λ n. n.0) output) }
+    ensures known { AllByRecursion (λ number. number < length log.now.paths)
+        (numbers_of result.now) }
 {
     let Some(output) = output else {
         return &[];
@@ -96,10 +98,11 @@ fn paths_named(log: &DepsLog, output: Option<usize>) -> &[u32]
 }
 
 // Whether one of the paths of these numbers is this.
-fn has_path(log: &DepsLog, numbers: &[u32], path: &[u8]) -> bool
+fn has_path(log: &DepsLog, numbers: &[PathNo], path: &[u8]) -> bool
     requires each_path_once { IsDistinct bytes_eq log.now.paths }
-    requires known { AllByRecursion (λ number. number < length log.now.paths) numbers.now }
-    ensures { result ≡ is_among (map (name_at log.now.paths) numbers.now) path.now }
+    requires known { AllByRecursion (λ number. number < length log.now.paths)
+        (numbers_of numbers.now) }
+    ensures { result ≡ is_among (map (name_at log.now.paths) (numbers_of numbers.now)) path.now }
 {
     match log.number(path) {
         Some(wanted) => has_number(numbers, wanted),
@@ -108,11 +111,11 @@ fn has_path(log: &DepsLog, numbers: &[u32], path: &[u8]) -> bool
 }
 
 // Whether this is one of the numbers.
-fn has_number(numbers: &[u32], wanted: usize) -> bool
-    ensures { result ≡ has numbers.now wanted }
+fn has_number(numbers: &[PathNo], wanted: PathNo) -> bool
+    ensures { result ≡ has (numbers_of numbers.now) wanted.0 }
 {
     'numbers: for number in numbers {
-        if *number as usize == wanted {
+        if *number == wanted {
             return true;
         }
     }

@@ -1,7 +1,7 @@
 //! The contents of deps logs.
 
 use crate::printer::put_shown;
-use nj_deps::{DepsLog, DepsLogFault, LoggedOutput};
+use nj_deps::{DepsLog, DepsLogFault, LoggedOutput, PathNo};
 use nj_rows::log_of;
 use std::alloc::{AllocError, Global};
 
@@ -117,15 +117,15 @@ fn put_output(
     text.extend_from_slice(format!(in alloc; " at {}:\n", output.time)?.as_bytes())?;
     for input in output.inputs {
         text.extend_from_slice(b"  ")?;
-        text.extend_from_slice(path_of(log, *input as usize))?;
+        text.extend_from_slice(path_of(log, *input))?;
         text.push(b'\n')?;
     }
     Ok(())
 }
 
 /// The path of this number; `?` if the log has none.
-fn path_of(log: &DepsLog, number: usize) -> &[u8] {
-    if number < log.path_count() {
+fn path_of(log: &DepsLog, number: PathNo) -> &[u8] {
+    if (number.0 as usize) < log.path_count() {
         log.path(number)
     } else {
         b"?"

@@ -1,8 +1,13 @@
 -- How the code finds what a deps log names for edges. Nothing here has to be believed.
-use Rattle.std.specs.Prelude.{◌≡◌, ℕ, ◌<◌, Option, Some, List, length, map, slice_get}
+use Rattle.std.specs.Prelude.{◌≡◌, ℕ, ◌<◌, Option, Some, option_map, List, length, map, slice_get}
 use Rattle.nj_scope.specs.ReadingList.{ReadStatement}
 use Rattle.nj_deps.specs.Logs.{LogModel}
+use Rattle.nj_deps.specs.declared.path_no.PathNo.{PathNo}
 use Rattle.nj_graph.specs.DepsLogs.{inputs_logged, number_logged}
+
+-- numbers of paths, where there are any, as plain numbers
+abbrev pub numbers_if_any : List (Option PathNo) → List (Option ℕ)
+numbers_if_any numbers = map (option_map (λ n. n.0)) numbers
 
 -- the numbers that a log has for the first outputs of edges, by edge
 abbrev pub AreNumbersLogged : LogModel → List ReadStatement → (numbers : List (Option ℕ)) → Type 0

@@ -2,6 +2,7 @@ use Rattle.std.proofs.Common.{◌<◌, ◌∙◌, ◌++◌, ap, bytes_eq, get_or
 use Rattle.nj_text.specs.Paths.{clean_path_of}
 use Rattle.nj_names.specs.NameTables.{name_at}
 use Rattle.nj_names.specs.NumberSets.{NumberSetModel}
+use Rattle.nj_deps.specs.Logs.{numbers_of}
 use Rattle.nj_edges.specs.Repeats.{each_once}
 use Rattle.nj_graph.specs.Undeclared.{AreThose, IsUndeclared, input_of_edge, inputs_of_edge}
 use Rattle.nj_graph.specs.Inside.UndeclaredFound.{FindsAt}
@@ -25,14 +26,14 @@ numbers-preserved c =
     let made = c.args.made.now in
     let numbers = c.args.numbers.now in
     let i = c.numbers.number-index in
-    let n = get_or numbers i 0 in
-    let below : n < length made = c.requires.numbers i 0 c.numbers-test.true in
+    let n = (get_or numbers i (record { 0 = 0 })).0 in
+    let below : n < length made = c.requires.numbers i (record { 0 = 0 }) c.numbers-test.true in
     record {
       found = c.in_ok-add_input.ensures.found;
       added = λ paths before are those.
-          let so_far = map clean_path_of (map (name_at paths) (take i numbers)) in
+          let so_far = map clean_path_of (map (name_at paths) (numbers_of (take i numbers))) in
           subst (λ ps. FindsAt g c.args.edge.0 before ps c.add_input.new.self)
-          (sym (cleans-more paths numbers i c.numbers-test.true))
+          (sym (cleans-more paths numbers i (record { 0 = 0 }) c.numbers-test.true))
           (c.in_ok-add_input.ensures.added before so_far (clean_path_of (name_at paths n)) (are n below)
           (c.numbers.invariant.added paths before are those));
     }

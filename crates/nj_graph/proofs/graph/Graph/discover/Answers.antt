@@ -39,7 +39,9 @@ edges-preserved g c =
           (subst (λ edges. AddsEdge before after times log (edge_at edges (length old.edges)) deps depfile old
           new) (c.edges.invariant.edges ∙ is.built.paths)
           (subst (λ l. AddsEdge before after times l (edge_at c.edges.finder.edges (length old.edges)) deps
-          depfile old new) c.edges.invariant.log adds));
+          depfile old new) c.edges.invariant.log
+          (subst (λ n. AddsEdge before after times c.edges.finder.log (edge_at c.edges.finder.edges n) deps
+          depfile old new) (sym c.edges.invariant.count) adds)));
     }
 
 pub returns-clause-count : goal.returns-clause-count

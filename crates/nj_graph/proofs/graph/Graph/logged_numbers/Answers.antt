@@ -1,5 +1,5 @@
 use Rattle.std.proofs.Common.{◌∙◌, ◌+◌, ◌∷◌, [], ap, length, length-append, subst, sym}
-use Rattle.nj_graph.specs.Inside.LogSteps.{AreNumbersLogged}
+use Rattle.nj_graph.specs.Inside.LogSteps.{AreNumbersLogged, numbers_if_any}
 use Rattle.nj_graph.proofs.LogLemmas.{numbers-push}
 use Rattle.nj_graph.proofs.graph.Graph.logged_numbers.Goals as goal
 
@@ -11,7 +11,8 @@ edges-preserved c =
       count = ap length c.in_ok-push.ensures.items ∙ length-append numbers (number ∷ [])
           ∙ ap (λ n. n + 1) c.edges.invariant.count;
       numbers = λ entries is.
-          subst (AreNumbersLogged c.args.log.now entries) (sym c.in_ok-push.ensures.items)
+          subst (λ ns. AreNumbersLogged c.args.log.now entries (numbers_if_any ns))
+          (sym c.in_ok-push.ensures.items)
           (numbers-push c.args.log.now entries numbers number c.edges.edge
           (c.edges.invariant.numbers entries is) c.edges.invariant.count
           (c.in_ok-number.ensures entries is));
