@@ -38,8 +38,9 @@ abbrev keyed : (bases : List (List ℕ)) (take : Option ℕ) (resume : Option (L
     → KeysModel
 keyed bases take resume targets = record { bases = bases; take = take; resume = resume; targets = targets }
 
-abbrev chain : (start end : List ℕ) (validations : Bool) → WhyModel
-chain start end validations = record { start = start; end = end; validations = validations }
+abbrev chain : (start end : List ℕ) (validations no_order_only : Bool) → WhyModel
+chain start end validations no_order_only =
+    record { start = start; end = end; validations = validations; no_order_only = no_order_only }
 
 -- ---- each subcommand
 
@@ -64,7 +65,7 @@ unfolding question_of command clap_on_literals
 keys_row = refl
 
 why_row : question_of (codes "why" ∷ codes "a" ∷ codes "b" ∷ [])
-    ≡ asks (why (chain (codes "a") (codes "b") false))
+    ≡ asks (why (chain (codes "a") (codes "b") false false))
 unfolding question_of command clap_on_literals
 why_row = refl
 
@@ -110,13 +111,13 @@ keys_options_row : question_of (codes "keys" ∷ codes "--take" ∷ codes "5" �
 unfolding question_of command clap_on_literals
 keys_options_row = refl
 
-why_options_row : question_of (codes "why" ∷ codes "a" ∷ codes "--validations" ∷
-    codes "b" ∷ []) ≡ asks (why (chain (codes "a") (codes "b") true))
+why_options_row : question_of (codes "why" ∷ codes "--validations" ∷ codes "a" ∷ codes "--no-order-only" ∷
+    codes "b" ∷ []) ≡ asks (why (chain (codes "a") (codes "b") true true))
 unfolding question_of command clap_on_literals
 why_options_row = refl
 
 validations_row : question_of (codes "why" ∷ codes "--validations" ∷ codes "a" ∷ codes "b" ∷ [])
-    ≡ asks (why (chain (codes "a") (codes "b") true))
+    ≡ asks (why (chain (codes "a") (codes "b") true false))
 unfolding question_of command clap_on_literals
 validations_row = refl
 
@@ -173,7 +174,7 @@ no_digits_row = refl
 -- ---- words after `--`
 
 ended_row : question_of (codes "why" ∷ codes "--" ∷ codes "-h" ∷ codes "--help" ∷ [])
-    ≡ asks (why (chain (codes "-h") (codes "--help") false))
+    ≡ asks (why (chain (codes "-h") (codes "--help") false false))
 unfolding question_of command clap_on_literals
 ended_row = refl
 

@@ -68,7 +68,7 @@ keys_options = repeated (codes "base") ∷ number (codes "take") ∷ long_option
 
 -- the options of `why`
 abbrev pub why_options : List Rule
-why_options = flag (codes "validations") ∷ word (codes "A") ∷ word (codes "B") ∷ []
+why_options = flag (codes "validations") ∷ flag (codes "no-order-only") ∷ word (codes "A") ∷ word (codes "B") ∷ []
 
 -- all of them
 abbrev pub subcommands : List Shape

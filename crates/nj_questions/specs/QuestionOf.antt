@@ -68,6 +68,7 @@ why_in rows = record {
   start = text_or (codes "A") [] rows;
   end = text_or (codes "B") [] rows;
   validations = is_on (codes "validations") rows;
+  no_order_only = is_on (codes "no-order-only") rows;
 }
 
 -- what the subcommand of this name asks

@@ -57,6 +57,7 @@ pub record WhyModel : Type 0 where
   pub start : List ℕ
   pub end : List ℕ
   pub validations : Bool
+  pub no_order_only : Bool
 
 -- each subcommand with its options
 pub data SubjectModel : Type 0 where
@@ -129,6 +130,7 @@ why_model options = record {
   start = string_bytes options.from;
   end = string_bytes options.to;
   validations = options.validations;
+  no_order_only = options.no_order_only;
 }
 
 -- what is asked

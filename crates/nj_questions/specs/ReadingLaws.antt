@@ -24,7 +24,7 @@ asks subject = Ok (record {
 -- the two arguments after `--` are the files of `why`, even if they look like options
 abbrev pub FilesAfterDashes : Type 0
 FilesAfterDashes = (start end : List ℕ) → question_of (codes "why" ∷ codes "--" ∷ start ∷ end ∷ [])
-    ≡ asks (why (record { start = start; end = end; validations = false }))
+    ≡ asks (why (record { start = start; end = end; validations = false; no_order_only = false }))
 
 -- an option that gives a base
 abbrev pub base_word : (base : List ℕ) → List ℕ

@@ -106,4 +106,6 @@ pub struct WhyOptions {
     pub to: String,
     /// `--validations`: validations are inputs too.
     pub validations: bool,
+    /// `--no-order-only`: chains go by no order-only input.
+    pub no_order_only: bool,
 }

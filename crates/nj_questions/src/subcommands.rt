@@ -197,11 +197,16 @@ next input. Of several shortest chains it is the first when inputs are tried fro
 Status 3 means that there is none; nothing is written then.",
 };
 
-pub const WHY_OPTIONS: [Entry; 3] = [
+pub const WHY_OPTIONS: [Entry; 4] = [
     (
         "validations",
         Form::Flag,
         "Take validations as inputs too, after those of their edge",
+    ),
+    (
+        "no-order-only",
+        Form::Flag,
+        "Leave out order-only inputs",
     ),
     ("A", Form::Word, "The file that needs the other"),
     ("B", Form::Word, "The file that is needed"),

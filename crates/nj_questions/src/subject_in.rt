@@ -97,5 +97,6 @@ fn why_in(alloc: Global, options: &ArgMatches<'_>) -> Result<WhyOptions, AllocEr
         from: text_or(alloc, options, "A", "")?,
         to: text_or(alloc, options, "B", "")?,
         validations: is_on(options, "validations"),
+        no_order_only: is_on(options, "no-order-only"),
     })
 }
