@@ -5,14 +5,14 @@ use Rattle.std.proofs.Common.{String, Global}
 use Rattle.std.specs.Prelude.{codes, string_bytes}
 use Rattle.std.specs.Str.{bytes_eq}
 use Rattle.std.proofs.lemmas.List.{at_drop_more}
-use Rattle.nj_questions.specs.QuestionOf.{has_old_option}
+use Rattle.nj_questions.specs.QuestionOf.{has_old_option, is_old_option}
 
 skipped : (word : List ℕ) (words : List (List ℕ)) → bytes_eq word (codes "--") ≡ false
-    → bytes_eq word (codes "--deps-log") ≡ false → has_old_option (word ∷ words) ≡ has_old_option words
+    → is_old_option word ≡ false → has_old_option (word ∷ words) ≡ has_old_option words
 skipped word words ends is = rw (ends, is) refl
 
 met : (word : List ℕ) (words : List (List ℕ)) → bytes_eq word (codes "--") ≡ false
-    → bytes_eq word (codes "--deps-log") ≡ true → has_old_option (word ∷ words) ≡ true
+    → is_old_option word ≡ true → has_old_option (word ∷ words) ≡ true
 met word words ends is = rw (ends, is) refl
 
 abbrev left : List (String Global) → List (List ℕ)
@@ -28,7 +28,7 @@ from words i word below is = at_drop_more (λ rest. has_old_option (left rest)) 
 pub next-skipped : (words : List (String Global)) (i : ℕ) (word : String Global) → i < length words
     → word ≡ slice_index_or words i word
     → bytes_eq (string_bytes word) (codes "--") ≡ false
-    → bytes_eq (string_bytes word) (codes "--deps-log") ≡ false
+    → is_old_option (string_bytes word) ≡ false
     → has_old_option (left words) ≡ has_old_option (left (drop i words))
     → has_old_option (left words) ≡ has_old_option (left (drop (i + 1) words))
 next-skipped words i word below is ends old so_far =
@@ -37,7 +37,7 @@ next-skipped words i word below is ends old so_far =
 pub next-met : (words : List (String Global)) (i : ℕ) (word : String Global) → i < length words
     → word ≡ slice_index_or words i word
     → bytes_eq (string_bytes word) (codes "--") ≡ false
-    → bytes_eq (string_bytes word) (codes "--deps-log") ≡ true
+    → is_old_option (string_bytes word) ≡ true
     → has_old_option (left words) ≡ has_old_option (left (drop i words))
     → true ≡ has_old_option (left words)
 next-met words i word below is ends old so_far =

@@ -185,6 +185,10 @@ ended_twice_row = refl
 
 -- ---- the old option
 
+old_value_row : question_of (codes "json" ∷ codes "--deps-log=x" ∷ []) ≡ Err old_option
+unfolding question_of command clap_on_literals
+old_value_row = refl
+
 old_row : question_of (codes "--deps-log" ∷ []) ≡ Err old_option
 unfolding question_of command clap_on_literals
 old_row = refl

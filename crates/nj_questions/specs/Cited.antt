@@ -6,8 +6,8 @@ pub use Rattle.nj_questions.specs.Inside.Held.{rule_at, without_subcommands, sub
 pub use Rattle.std.specs.Option.{option_copied}
 pub use Rattle.nj_questions.specs.Fields.{is_on, text_or, values_in, number_in, given_number}
 pub use Rattle.nj_questions.specs.ReadingLaws.{SubcommandIsRequired, TakenIsQuestion, FilesAfterDashes, KeysKeepOrder}
-pub use Rattle.nj_questions.specs.QuestionOf.{has_old_option, question_of, refusal_model, asked, refused_by, question_in, subject_in}
-pub use Rattle.nj_questions.specs.QuestionOf.{graph_in, affected_in, audit_in, draw_in, keys_in, why_in}
+pub use Rattle.nj_questions.specs.QuestionOf.{has_old_option, is_old_option, question_of, refusal_model, asked, refused_by, question_in}
+pub use Rattle.nj_questions.specs.QuestionOf.{subject_in, graph_in, affected_in, audit_in, draw_in, keys_in, why_in}
 pub use Rattle.nj_questions.specs.Questions.{question_model, asked_graph, subject_model, affected_model, audit_model, draw_model}
 pub use Rattle.nj_questions.specs.Questions.{keys_model, why_model}
 pub use Rattle.nj_questions.specs.declared.refusals.Refusal.TheVariants.{OutOfMemory}

@@ -1,6 +1,7 @@
 -- The question of a command line's arguments.
-use Rattle.std.specs.Prelude.{ℕ, ◌||◌, ◌&&◌, Bool, true, false, not, if◌then◌else◌, List, [], ◌∷◌, codes}
+use Rattle.std.specs.Prelude.{ℕ, ◌||◌, ◌&&◌, Bool, true, false, not, if◌then◌else◌, List, [], ◌∷◌, codes, nat_eq}
 use Rattle.std.specs.Prelude.{Option, Some, None, option_map, ok_or, Result, Err}
+use Rattle.std.specs.List.{starts_with}
 use Rattle.std.specs.Str.{bytes_eq}
 use Rattle.clap.specs.Words.{Kinds, Row, fault_of, first_of, subcommand_of}
 use Rattle.clap.specs.declared.error.kind.ErrorKind.{ErrorKind}
@@ -106,10 +107,14 @@ refusal_model refusal.OldOption = old_option
 refusal_model (refusal.Help text) = shows_help
 refusal_model (refusal.Unparsed text) = unparsed
 
--- an argument before the first `--` is the option that `--deps` has replaced
+-- an argument is the option that `--deps` has replaced, alone or with a value
+abbrev pub is_old_option : (word : List ℕ) → Bool
+is_old_option word = bytes_eq word (codes "--deps-log") || starts_with nat_eq word (codes "--deps-log=")
+
+-- an argument before the first `--` is this option
 abbrev pub has_old_option : (words : List (List ℕ)) → Bool
 has_old_option [] = false
-has_old_option (word ∷ words) = not (bytes_eq word (codes "--")) && (bytes_eq word (codes "--deps-log") || has_old_option words)
+has_old_option (word ∷ words) = not (bytes_eq word (codes "--")) && (is_old_option word || has_old_option words)
 
 -- an error that only asks for help or the version
 abbrev pub is_help : ErrorKind → Bool

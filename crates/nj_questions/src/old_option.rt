@@ -1,10 +1,10 @@
 //! An option that another has replaced.
 
 ghost use Rattle.std.specs.Prelude.{◌≡◌, map, string_bytes};
-ghost use Rattle.nj_questions.specs.Cited.{has_old_option};
+ghost use Rattle.nj_questions.specs.Cited.{has_old_option, is_old_option};
 
-/// Whether one of these words is the option that `--deps` has replaced. Words after `--` are not
-/// options.
+/// Whether one of these words is the option that `--deps` has replaced, alone or with a value. Words
+/// after `--` are not options.
 pub fn has_old_option(words: &[String]) -> bool
     ensures { result ≡ has_old_option (map string_bytes words.now) }
 {
@@ -13,9 +13,16 @@ pub fn has_old_option(words: &[String]) -> bool
         if word == "--" {
             return false;
         }
-        if word == "--deps-log" {
+        if is_old_option(word) {
             return true;
         }
     }
     false
+}
+
+// Whether a word is that option.
+fn is_old_option(word: &str) -> bool
+    ensures { result ≡ is_old_option word.now }
+{
+    word == "--deps-log" || word.starts_with("--deps-log=")
 }

@@ -203,11 +203,7 @@ pub const WHY_OPTIONS: [Entry; 4] = [
         Form::Flag,
         "Take validations as inputs too, after those of their edge",
     ),
-    (
-        "no-order-only",
-        Form::Flag,
-        "Leave out order-only inputs",
-    ),
+    ("no-order-only", Form::Flag, "Leave out order-only inputs"),
     ("A", Form::Word, "The file that needs the other"),
     ("B", Form::Word, "The file that is needed"),
 ];
