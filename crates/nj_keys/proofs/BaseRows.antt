@@ -52,3 +52,16 @@ folders_agree = refl
 with_blank : mapped (codes "/home/a b" ∷ []) (codes "cc '/home/a b/x.c'")
     ≡ codes "cc '" ++ first (codes "/x.c'")
 with_blank = refl
+
+-- a directory after a letter, one that ends with a digit, one given twice, and an empty text in place of one
+after_letter : mapped (codes "/a" ∷ []) (codes "x/a x/b/a") ≡ codes "x" ++ first (codes " x/b/a")
+after_letter = refl
+
+after_digits : mapped (codes "/a1" ∷ []) (codes "/a1/1 /a12 /a1") ≡ first (codes "/1 /a12 " ++ first [])
+after_digits = refl
+
+given_twice : mapped (codes "/b" ∷ codes "/a" ∷ codes "/a" ∷ []) (codes "/a/x") ≡ second (codes "/x")
+given_twice = refl
+
+empty_folder : mapped ([] ∷ codes "/a" ∷ []) (codes "x /a") ≡ codes "x " ++ second []
+empty_folder = refl

@@ -1,3 +1,4 @@
+mod BaseLaws
 mod BaseLemmas
 mod BaseRows
 mod FieldLaws

@@ -1,7 +1,7 @@
 -- Base directories: those that differ between places where the same build lies. In a text a zero byte and a number
 -- stand for them.
-use Rattle.std.specs.Prelude.{ℕ, zero, suc, ◌-◌, ◌==◌, Bool, true, false, ◌&&◌, ◌||◌, not, if◌then◌else◌, unwrap_or, List, [], ◌∷◌, ◌++◌}
-use Rattle.std.specs.Prelude.{length, take, drop, reverse, max, position, bytes_eq, nat_eq, decimal}
+use Rattle.std.specs.Prelude.{◌≡◌, ◌≢◌, ◌<◌, ◌^◌, ℕ, zero, suc, ◌-◌, ◌==◌, Bool, true, false, ◌&&◌, ◌||◌, not, if◌then◌else◌}
+use Rattle.std.specs.Prelude.{unwrap_or, List, [], ◌∷◌, ◌++◌, length, take, drop, reverse, max, position, bytes_eq, nat_eq, decimal, All}
 use Rattle.std.specs.List.{list_any, starts_with, take_while}
 use Rattle.nj_text.specs.Paths.{is_slash}
 
@@ -71,3 +71,14 @@ mapped_after folders before zero (b ∷ text) =
 -- a text with a token in place of each directory that counts
 abbrev pub mapped : (folders : List (List ℕ)) → (text : List ℕ) → List ℕ
 mapped folders text = mapped_after folders [] 0 text
+
+-- ---- a law
+
+-- no zero byte stands in a text, as in none of a manifest and in no word of a command line
+abbrev pub HasNoZero : (text : List ℕ) → Type 0
+HasNoZero text = All (λ b. b ≢ 0) text
+
+-- Other texts are mapped to other texts, whatever the directories are. There are fewer of them than 2^64, as memory holds.
+abbrev pub MappedTells : Type 0
+MappedTells = (folders : List (List ℕ)) (one other : List ℕ) → length folders < 2 ^ 64 → HasNoZero one → HasNoZero other
+    → mapped folders one ≡ mapped folders other → one ≡ other

@@ -1,7 +1,7 @@
 -- What the contracts of this crate cite: each name comes from the module in its line.
 pub use Rattle.nj_text.specs.Paths.{clean_path_of, is_absolute}
 pub use Rattle.nj_keys.specs.Bases.{is_quote, is_separator, is_path_byte, ends_before, begins_with_quote, stands_at, longest_at}
-pub use Rattle.nj_keys.specs.Bases.{front_mapped, mapped}
+pub use Rattle.nj_keys.specs.Bases.{front_mapped, mapped, MappedTells}
 pub use Rattle.nj_keys.specs.Inside.Folders.{may_begin_after, paths}
 pub use Rattle.nj_graph.specs.Graph.{edges_of, OfStatements}
 pub use Rattle.nj_graph.specs.Handles.{OfEdge, edge_of, file_of, paths_of, GraphEdge}

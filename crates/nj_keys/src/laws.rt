@@ -1,6 +1,12 @@
 //! Laws of keys and their lines.
 
-ghost use Rattle.nj_keys.specs.Cited.{EdgesHaveKeys, KeysAreUnique, LinesAreUnique, PagesOfLinesJoin, TextsTellFields};
+ghost use Rattle.nj_keys.specs.Cited.{EdgesHaveKeys, KeysAreUnique, LinesAreUnique, PagesOfLinesJoin, TextsTellFields, MappedTells};
+
+/// Bases lose nothing: texts that agree once numbers stand for the same directories are the same, if
+/// no zero byte stands in them.
+pub fn bases_law()
+    ensures { MappedTells }
+{}
 
 /// Edges with other fields have keys of other texts: the text of an edge's fields tells its command,
 /// its response file, its outputs and its inputs, with their kinds and the keys of the edges that
