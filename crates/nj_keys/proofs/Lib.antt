@@ -1,10 +1,12 @@
 mod BaseLaws
 mod BaseLemmas
 mod BaseRows
+mod EdgeLaws
 mod FieldLaws
 mod InputLemmas
 mod KeyLaws
 mod LineLaws
 mod MakerLemmas
 mod OpenLemmas
+mod PageLaws
 mod PageLemmas

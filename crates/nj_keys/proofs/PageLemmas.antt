@@ -11,7 +11,7 @@ use Rattle.nj_keys.specs.Pages.{BeginsAfter, leads, left_at, makers_of_files}
 
 module _ (files : GraphFiles) (graph : GraphModel) (numbers : List FileNo) (of : graph ≡ files.graph)
     (are : map (path_at (files_of files.graph)) numbers ≡ files.paths) where
-  row-is : row_of files.graph.built.graph numbers ≡ makers_of_files files
+  pub row-is : row_of files.graph.built.graph numbers ≡ makers_of_files files
   row-is = ap (row_of_paths (edges_of files.graph)) are
 
   pub leads-is : (mark : List ℕ) (b : Bool)

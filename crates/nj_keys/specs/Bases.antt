@@ -1,7 +1,8 @@
 -- Base directories: those that differ between places where the same build lies. In a text a zero byte and a number
 -- stand for them.
 use Rattle.std.specs.Prelude.{◌≡◌, ◌≢◌, ◌<◌, ◌^◌, ℕ, zero, suc, ◌-◌, ◌==◌, Bool, true, false, ◌&&◌, ◌||◌, not, if◌then◌else◌}
-use Rattle.std.specs.Prelude.{unwrap_or, List, [], ◌∷◌, ◌++◌, length, take, drop, reverse, max, position, bytes_eq, nat_eq, decimal, All}
+use Rattle.std.specs.Prelude.{unwrap_or, List, [], ◌∷◌, ◌++◌, length, take, drop, reverse, max, position, bytes_eq, nat_eq}
+use Rattle.std.specs.Prelude.{decimal, All}
 use Rattle.std.specs.List.{list_any, starts_with, take_while}
 use Rattle.nj_text.specs.Paths.{is_slash}
 

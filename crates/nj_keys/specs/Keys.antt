@@ -1,5 +1,6 @@
 -- Keys of edges, which are made of their commands and files and of the keys of the edges that make their inputs.
-use Rattle.std.specs.Prelude.{◌≡◌, ◌<◌, ◌^◌, ℕ, Option, Some, None, unwrap_or, if◌then◌else◌, List, [], ◌∷◌, ◌++◌, map, length, Contains, codes, decimal}
+use Rattle.std.specs.Prelude.{◌≡◌, ◌≢◌, ◌<◌, ◌^◌, ◌⊎◌, ℕ, Option, Some, None, unwrap_or, if◌then◌else◌, List, [], ◌∷◌, ◌++◌}
+use Rattle.std.specs.Prelude.{map, length, All, Contains, codes, decimal}
 use Rattle.std.specs.List.{flat_map, AllByRecursion}
 use Rattle.sha2.specs.Sha256.{sha256}
 use Rattle.hex.specs.Hex.{encode_lower}
@@ -8,7 +9,7 @@ use Rattle.nj_graph.specs.declared.Kind.{Kind}
 use Rattle.nj_graph.specs.declared.Kind.TheVariants.{Explicit, Implicit, OrderOnly}
 use Rattle.nj_graph.specs.Edges.{EdgePaths, edge_at, inputs_of, outputs_of, first_output, maker_of}
 use Rattle.nj_graph.specs.Graph.{edges_of, late_text_of, GraphModel, IsGraphOf}
-use Rattle.nj_keys.specs.Bases.{mapped}
+use Rattle.nj_keys.specs.Bases.{mapped, HasNoZero}
 
 -- ---- the contents of a key
 
@@ -137,6 +138,91 @@ pub record AreShort (f : Fields) : Type 0 where
 -- other fields have another text: their text tells each command, response file, output and input, with its kind and key
 abbrev pub TextsTellFields : Type 0
 TextsTellFields = (one other : Fields) → AreShort one → AreShort other → fields_text one ≡ fields_text other → one ≡ other
+
+-- an edge: the edges of its graph, their statements, and its number
+pub record StatedEdge : Type 0 where
+  pub edges : List EdgePaths
+  pub entries : List ReadStatement
+  pub number : ℕ
+
+-- its fields
+abbrev pub fields_in : (folders : List (List ℕ)) → (keys : ℕ → List ℕ) → StatedEdge → Fields
+fields_in folders keys e = fields_of folders e.edges e.entries keys e.number
+
+-- the texts and the paths of an edge
+pub record EdgeTexts : Type 0 where
+  pub command : List ℕ
+  pub response_file : List ℕ
+  pub response : List ℕ
+  pub outputs : List (List ℕ)
+  pub explicit_inputs : List (List ℕ)
+  pub implicit_inputs : List (List ℕ)
+  pub order_only_inputs : List (List ℕ)
+
+abbrev pub texts_of : StatedEdge → EdgeTexts
+texts_of e = record {
+  command = variable_of e.edges e.entries e.number (codes "command");
+  response_file = variable_of e.edges e.entries e.number (codes "rspfile");
+  response = response_of e.edges e.entries e.number;
+  outputs = outputs_of (edge_at e.edges e.number);
+  explicit_inputs = (edge_at e.edges e.number).explicit_inputs;
+  implicit_inputs = (edge_at e.edges e.number).implicit_inputs;
+  order_only_inputs = (edge_at e.edges e.number).order_only_inputs;
+}
+
+-- with tokens in place of the directories that count
+abbrev pub texts_mapped : (folders : List (List ℕ)) → EdgeTexts → EdgeTexts
+texts_mapped folders t = record {
+  command = mapped folders t.command;
+  response_file = mapped folders t.response_file;
+  response = mapped folders t.response;
+  outputs = map (mapped folders) t.outputs;
+  explicit_inputs = map (mapped folders) t.explicit_inputs;
+  implicit_inputs = map (mapped folders) t.implicit_inputs;
+  order_only_inputs = map (mapped folders) t.order_only_inputs;
+}
+
+-- no zero byte stands in any of them
+pub record HaveNoZero (t : EdgeTexts) : Type 0 where
+  pub command : HasNoZero t.command
+  pub response_file : HasNoZero t.response_file
+  pub response : HasNoZero t.response
+  pub outputs : All HasNoZero t.outputs
+  pub explicit_inputs : All HasNoZero t.explicit_inputs
+  pub implicit_inputs : All HasNoZero t.implicit_inputs
+  pub order_only_inputs : All HasNoZero t.order_only_inputs
+
+-- edges whose fields have one text agree but for what tokens stand for, whatever graphs and directories they have
+abbrev pub OneTextOneMapped : Type 0
+OneTextOneMapped = (folders others : List (List ℕ)) (e f : StatedEdge) (keys more : ℕ → List ℕ)
+    → AreShort (fields_in folders keys e) → AreShort (fields_in others more f)
+    → fields_text (fields_in folders keys e) ≡ fields_text (fields_in others more f)
+    → texts_mapped folders (texts_of e) ≡ texts_mapped others (texts_of f)
+
+-- with the same directories, their texts and paths are the same
+abbrev pub OneTextOneEdge : Type 0
+OneTextOneEdge = (folders : List (List ℕ)) (e f : StatedEdge) (keys more : ℕ → List ℕ)
+    → length folders < 2 ^ 64 → HaveNoZero (texts_of e) → HaveNoZero (texts_of f)
+    → AreShort (fields_in folders keys e) → AreShort (fields_in folders more f)
+    → fields_text (fields_in folders keys e) ≡ fields_text (fields_in folders more f) → texts_of e ≡ texts_of f
+
+-- an edge's fields, with the keys of the edges that make its inputs
+pub record AreFieldsOf (folders : List (List ℕ)) (e : StatedEdge) (fields : Fields) : Type 0 where
+  pub keys : ℕ → List ℕ
+  pub are_keys : (f : ℕ) → Needs e.edges e.number f → IsKey folders e.edges e.entries f (keys f)
+  pub fields_are : fields ≡ fields_in folders keys e
+
+-- two different texts with one SHA-256
+pub record AreConfused (one other : List ℕ) : Type 0 where
+  pub differ : one ≢ other
+  pub same : sha256 one ≡ sha256 other
+
+-- edges with one key have the same fields, unless SHA-256 confuses the texts of theirs
+abbrev pub KeysTellFields : Type 0
+KeysTellFields = (folders others : List (List ℕ)) (e f : StatedEdge) (key : List ℕ) (one other : Fields)
+    → IsKey folders e.edges e.entries e.number key → IsKey others f.edges f.entries f.number key
+    → AreFieldsOf folders e one → AreFieldsOf others f other → AreShort one → AreShort other
+    → (one ≡ other) ⊎ AreConfused (fields_text one) (fields_text other)
 
 -- an edge has one key only
 abbrev pub KeysAreUnique : Type 0

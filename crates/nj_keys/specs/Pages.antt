@@ -1,12 +1,15 @@
 -- The commands that files need and that are left after a mark.
-use Rattle.std.specs.Prelude.{◌≡◌, ℕ, Bool, Option, List, map}
+use Rattle.std.specs.Prelude.{◌≡◌, ℕ, Bool, true, Option, Some, None, IfSome, List, [], ◌++◌, map}
 use Rattle.nj_needs.specs.Graphs.{count_of, is_phony, makers_of, row_of_paths}
 use Rattle.nj_needs.specs.Marks.{is_valid, rest}
+use Rattle.nj_needs.specs.PageWalks.{written, StopsAt}
 use Rattle.nj_needs.specs.Walks.{BeginsAt, WalkState}
+use Rattle.nj_graph.specs.ReadingList.{ReadStatement}
 use Rattle.nj_graph.specs.declared.FileNo.{FileNo}
 use Rattle.nj_graph.specs.Files.{path_at}
-use Rattle.nj_graph.specs.Graph.{edges_of, files_of}
+use Rattle.nj_graph.specs.Graph.{edges_of, files_of, IsGraphOf}
 use Rattle.nj_graph.specs.Handles.{GraphFiles}
+use Rattle.nj_keys.specs.Keys.{ListsKeys}
 
 -- the edges that make the files, one for each; a source has none
 abbrev pub makers_of_files : GraphFiles → List (Option ℕ)
@@ -27,3 +30,32 @@ pub record BeginsAfter (files : GraphFiles) (mark : List ℕ) (walk : WalkState)
   pub numbers : List FileNo
   pub are_files : map (path_at (files_of files.graph)) numbers ≡ files.paths
   pub begins : BeginsAt files.graph.built.graph numbers mark walk
+
+-- ---- laws
+
+-- what is left at the mark at which a page stopped; nothing is if it stopped at none
+abbrev pub left_from : GraphFiles → (mark : Option (List ℕ)) → List ℕ
+left_from files None = []
+left_from files (Some mark) = left_at files mark
+
+-- a page from a mark on, which stopped at another
+pub record StopsFrom (files : GraphFiles) (mark : List ℕ) (limit : Option ℕ) (next : Option (List ℕ)) : Type 0 where
+  pub valid : leads files mark ≡ true
+  pub walk : WalkState
+  pub begins : BeginsAfter files mark walk
+  pub stops : StopsAt walk limit next
+
+-- a page's edges, and then those that are left where it stopped, are all that were left before it; and another page can begin there
+abbrev pub PagesAreAll : Type 0
+PagesAreAll = (files : GraphFiles) (entries : List ReadStatement) → IsGraphOf files.graph entries
+    → (mark : List ℕ) (limit : Option ℕ) (next : Option (List ℕ)) → StopsFrom files mark limit next
+    → IfSome next (λ m. leads files m ≡ true) × (left_at files mark ≡ written limit (left_at files mark) ++ left_from files next)
+
+-- so the text of a page, and then that of what is left where it stopped, are the text of all that was left before it
+abbrev pub PagesOfKeysJoin : Type 0
+PagesOfKeysJoin = (files : GraphFiles) (entries : List ReadStatement) → IsGraphOf files.graph entries
+    → (mark : List ℕ) (limit : Option ℕ) (next : Option (List ℕ)) → StopsFrom files mark limit next
+    → (folders : List (List ℕ)) (text rest : List ℕ)
+    → ListsKeys folders (edges_of files.graph) entries (written limit (left_at files mark)) text
+    → ListsKeys folders (edges_of files.graph) entries (left_from files next) rest
+    → ListsKeys folders (edges_of files.graph) entries (left_at files mark) (text ++ rest)

@@ -1,6 +1,6 @@
 //! Laws of keys and their lines.
 
-ghost use Rattle.nj_keys.specs.Cited.{EdgesHaveKeys, KeysAreUnique, LinesAreUnique, PagesOfLinesJoin, TextsTellFields, MappedTells};
+ghost use Rattle.nj_keys.specs.Cited.{EdgesHaveKeys, KeysAreUnique, LinesAreUnique, PagesOfLinesJoin, TextsTellFields, MappedTells, OneTextOneEdge, OneTextOneMapped, KeysTellFields, PagesAreAll, PagesOfKeysJoin};
 
 /// Bases lose nothing: texts that agree once numbers stand for the same directories are the same, if
 /// no zero byte stands in them.
@@ -15,6 +15,17 @@ pub fn fields_law()
     ensures { TextsTellFields }
 {}
 
+/// Two edges whose fields have one text, of two graphs and with bases of their own, have the same
+/// command, response file, outputs and inputs but for what their bases stand for; with the same
+/// bases, and where no zero byte stands in them, they have the same ones. Two edges with one key
+/// have the same fields, unless SHA-256 gives the two texts of these one digest. The keys of the
+/// edges that make the inputs are among the fields, so this is true of those edges too.
+pub fn edges_law()
+    ensures agree { OneTextOneMapped }
+    ensures same { OneTextOneEdge }
+    ensures keys { KeysTellFields }
+{}
+
 /// An edge has one key only, and each edge of a graph has one.
 pub fn keys_law()
     ensures unique { KeysAreUnique }
@@ -25,4 +36,11 @@ pub fn keys_law()
 pub fn lines_law()
     ensures unique { LinesAreUnique }
     ensures join { PagesOfLinesJoin }
+{}
+
+/// The edges of a page, and then those that are left at its mark, are those that were left before
+/// it, and that mark leads to an edge. So the lines of pages, one after another, are those of all.
+pub fn pages_law()
+    ensures all { PagesAreAll }
+    ensures join { PagesOfKeysJoin }
 {}

@@ -8,5 +8,5 @@ mod laws;
 mod pages;
 
 pub use bases::Bases;
-pub use laws::{bases_law, fields_law, keys_law, lines_law};
+pub use laws::{bases_law, edges_law, fields_law, keys_law, lines_law, pages_law};
 pub use pages::{Page, page_from};
