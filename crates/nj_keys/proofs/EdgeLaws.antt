@@ -12,7 +12,7 @@ use Rattle.nj_graph.specs.Edges.{edge_at, EdgePaths}
 use Rattle.nj_keys.specs.Bases.{mapped, HasNoZero}
 use Rattle.nj_keys.specs.Keys.{fields_in, fields_text, input_fields, inputs_with_keys, texts_mapped, texts_of}
 use Rattle.nj_keys.specs.Keys.{AreFieldsOf, EdgeTexts, Fields, HaveNoZero, InputFields, IsKey, KeysTellFields}
-use Rattle.nj_keys.specs.Keys.{OneTextOneEdge, OneTextOneMapped, StatedEdge}
+use Rattle.nj_keys.specs.Keys.{TextsTellEdges, TextsTellMapped, StatedEdge}
 use Rattle.nj_keys.specs.Keys.IsKey.{digest}
 use Rattle.nj_keys.proofs.BaseLaws.{tells}
 use Rattle.nj_keys.proofs.FieldLaws.{one-way}
@@ -114,7 +114,7 @@ module _ (folders : List (List ℕ)) (edges : List EdgePaths) (keys : ℕ → Li
 
 -- ---- edges of one text
 
-pub agree : OneTextOneMapped
+pub agree : TextsTellMapped
 agree folders others e f keys more short also is =
     let one = fields_in folders keys e in
     let other = fields_in others more f in
@@ -183,7 +183,7 @@ module _ (folders : List (List ℕ)) (few : length folders < 2 ^ 64) where
         order_only_inputs = order_only i;
       }
 
-pub alike : OneTextOneEdge
+pub alike : TextsTellEdges
 alike folders e f keys more few none never short also is =
     texts-told folders few (texts_of e) (texts_of f) none never
     (agree folders folders e f keys more short also is)

@@ -193,15 +193,15 @@ pub record HaveNoZero (t : EdgeTexts) : Type 0 where
   pub order_only_inputs : All HasNoZero t.order_only_inputs
 
 -- edges whose fields have one text agree but for what tokens stand for, whatever graphs and directories they have
-abbrev pub OneTextOneMapped : Type 0
-OneTextOneMapped = (folders others : List (List ℕ)) (e f : StatedEdge) (keys more : ℕ → List ℕ)
+abbrev pub TextsTellMapped : Type 0
+TextsTellMapped = (folders others : List (List ℕ)) (e f : StatedEdge) (keys more : ℕ → List ℕ)
     → AreShort (fields_in folders keys e) → AreShort (fields_in others more f)
     → fields_text (fields_in folders keys e) ≡ fields_text (fields_in others more f)
     → texts_mapped folders (texts_of e) ≡ texts_mapped others (texts_of f)
 
 -- with the same directories, their texts and paths are the same
-abbrev pub OneTextOneEdge : Type 0
-OneTextOneEdge = (folders : List (List ℕ)) (e f : StatedEdge) (keys more : ℕ → List ℕ)
+abbrev pub TextsTellEdges : Type 0
+TextsTellEdges = (folders : List (List ℕ)) (e f : StatedEdge) (keys more : ℕ → List ℕ)
     → length folders < 2 ^ 64 → HaveNoZero (texts_of e) → HaveNoZero (texts_of f)
     → AreShort (fields_in folders keys e) → AreShort (fields_in folders more f)
     → fields_text (fields_in folders keys e) ≡ fields_text (fields_in folders more f) → texts_of e ≡ texts_of f

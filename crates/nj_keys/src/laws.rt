@@ -1,6 +1,6 @@
 //! Laws of keys and their lines.
 
-ghost use Rattle.nj_keys.specs.Cited.{EdgesHaveKeys, KeysAreUnique, LinesAreUnique, PagesOfLinesJoin, TextsTellFields, MappedTells, OneTextOneEdge, OneTextOneMapped, KeysTellFields, PagesAreAll, PagesOfKeysJoin};
+ghost use Rattle.nj_keys.specs.Cited.{EdgesHaveKeys, KeysAreUnique, LinesAreUnique, PagesOfLinesJoin, TextsTellFields, MappedTells, TextsTellEdges, TextsTellMapped, KeysTellFields, PagesAreAll, PagesOfKeysJoin};
 
 /// Bases lose nothing: texts that agree once numbers stand for the same directories are the same, if
 /// no zero byte stands in them.
@@ -21,8 +21,8 @@ pub fn fields_law()
 /// have the same fields, unless SHA-256 gives the two texts of these one digest. The keys of the
 /// edges that make the inputs are among the fields, so this is true of those edges too.
 pub fn edges_law()
-    ensures agree { OneTextOneMapped }
-    ensures same { OneTextOneEdge }
+    ensures agree { TextsTellMapped }
+    ensures same { TextsTellEdges }
     ensures keys { KeysTellFields }
 {}
 
