@@ -1,20 +1,24 @@
 -- A page of keys, and the next ones, are all keys.
 use Rattle.std.proofs.Common.{◌≡◌, ℕ, true, Option, Some, None, List, ◌++◌, refl, sym, ap, ◌∙◌, subst}
 use Rattle.std.proofs.Common.{append-nil, take-append-drop}
+use Rattle.std.specs.List.{concat}
 use Rattle.nj_needs.specs.Graphs.{count_of, is_phony, makers_of, row_of}
-use Rattle.nj_needs.specs.Marks.{rest}
 use Rattle.nj_needs.specs.Pages.{IsMarkAfter}
 use Rattle.nj_needs.specs.PageWalks.{left_after, written, IsMarkOf}
 use Rattle.nj_needs.specs.Walks.{WalkState}
 use Rattle.nj_needs.proofs.Bridges.{AreWithin-paths}
 use Rattle.nj_needs.proofs.PageLaws.{mark-keeps_the_rest}
+use Rattle.nj_needs.proofs.Striking.{without-none}
 use Rattle.nj_graph.specs.ReadingList.{ReadStatement}
 use Rattle.nj_graph.specs.declared.FileNo.{FileNo}
 use Rattle.nj_graph.specs.Graph.{edges_of, IsGraphOf}
-use Rattle.nj_graph.specs.Handles.{GraphFiles}
+use Rattle.nj_graph.specs.Handles.{edges_in, GraphFiles}
 use Rattle.nj_keys.specs.Keys.{ListsKeys}
-use Rattle.nj_keys.specs.Pages.{leads, left_at, left_from, makers_of_files, BeginsAfter, PagesAreAll}
-use Rattle.nj_keys.specs.Pages.{PagesOfKeysJoin}
+use Rattle.nj_keys.specs.Keys.ListsKeys.{none as nothing}
+use Rattle.nj_keys.specs.Pages.{leads, left_at, left_from, makers_of_files, ArePages, BeginsAfter}
+use Rattle.nj_keys.specs.Pages.{PagesAreAll}
+use Rattle.nj_keys.specs.Pages.{PagesLeaveTheRest, StartLeavesAll}
+use Rattle.nj_keys.specs.Pages.ArePages.{none, page}
 use Rattle.nj_keys.proofs.LineLaws.{join}
 use Rattle.nj_keys.proofs.PageLemmas.{left-is, row-is}
 
@@ -56,26 +60,39 @@ module _ (files : GraphFiles) (entries : List ReadStatement) (graph : IsGraphOf 
       (is-after walk begins (written limit (left_at files mark)) next
       (subst (λ es. IsMarkOf walk (written limit es) next) left is))
 
-pub all-pages : PagesAreAll
-all-pages files entries graph mark limit None page =
-    let left = left-is files files.graph page.begins.numbers refl page.begins.are_files mark page.walk
-    page.begins.begins in (
+pub leaves : PagesLeaveTheRest
+leaves files entries graph mark limit None stopped =
+    let left = left-is files files.graph stopped.begins.numbers refl stopped.begins.are_files mark
+    stopped.walk
+    stopped.begins.begins in (
       tt,
       split limit (left_at files mark)
           ∙ ap (λ es. written limit (left_at files mark) ++ es)
-          (ap (left_after limit) (sym left) ∙ page.stops),
+          (ap (left_after limit) (sym left) ∙ stopped.stops),
     )
-all-pages files entries graph mark limit (Some next) page =
-    let kept = keeps files entries graph mark page.walk page.begins page.valid limit next page.stops.1 in (
+leaves files entries graph mark limit (Some next) stopped =
+    let kept = keeps files entries graph mark stopped.walk stopped.begins stopped.valid limit next
+    stopped.stops.1 in (
       kept.0,
       split limit (left_at files mark)
           ∙ ap (λ es. written limit (left_at files mark) ++ es) (sym kept.1),
     )
 
-pub texts-join : PagesOfKeysJoin
-texts-join files entries graph mark limit next page folders text rest are also =
-    subst (λ ns. ListsKeys folders (edges_of files.graph) entries ns (text ++ rest))
-    (sym (all-pages files entries graph mark limit next page).1)
-    (join folders (edges_of files.graph) entries (written limit (left_at files mark)) (left_from files next)
-    text rest
-    are also)
+module _ (folders : List (List ℕ)) (files : GraphFiles) (entries : List ReadStatement)
+    (graph : IsGraphOf files.graph entries) where
+  joined : (mark : Option (List ℕ)) (texts : List (List ℕ)) → ArePages folders files entries mark texts
+      → ListsKeys folders (edges_of files.graph) entries (left_from files mark) (concat texts)
+  joined _ _ none = nothing
+  joined _ _ (page {mark = mark} {text = text} {next = next} {texts = texts} limit stops lists more) =
+      subst (λ ns. ListsKeys folders (edges_of files.graph) entries ns (text ++ concat texts))
+      (sym (leaves files entries graph mark limit next stops).1)
+      (join folders (edges_of files.graph) entries (written limit (left_at files mark)) (left_from files next)
+      text
+      (concat texts) lists (joined next texts more))
+
+pub all-pages : PagesAreAll
+all-pages folders files entries graph mark texts pages =
+    joined folders files entries graph (Some mark) texts pages
+
+pub start : StartLeavesAll
+start files = ap (edges_in files.graph) (without-none _)

@@ -12,6 +12,6 @@ pub use Rattle.nj_keys.specs.Keys.{variable_of, IsKey, Needs, EdgesHaveKeys, Key
 pub use Rattle.nj_keys.specs.Keys.{TextsTellFields, TextsTellEdges, TextsTellMapped, KeysTellFields, line, ListsKeys}
 pub use Rattle.nj_keys.specs.Inside.Keeping.{kept_key, inputs_in, made_by, IsAcyclic, IsKept, IsMissing, KeepsKeys, MakesOne}
 pub use Rattle.nj_keys.specs.Inside.FileTexts.{input_texts, path_texts}
-pub use Rattle.nj_keys.specs.Pages.{PagesAreAll, PagesOfKeysJoin, leads, left_at, BeginsAfter}
+pub use Rattle.nj_keys.specs.Pages.{PagesAreAll, PagesLeaveTheRest, StartLeavesAll, leads, left_at, BeginsAfter}
 pub use Rattle.nj_needs.specs.Walks.{WalkState}
 pub use Rattle.nj_needs.specs.PageWalks.{written, StopsAt}

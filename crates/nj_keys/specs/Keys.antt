@@ -159,6 +159,7 @@ pub record EdgeTexts : Type 0 where
   pub implicit_inputs : List (List ℕ)
   pub order_only_inputs : List (List ℕ)
 
+-- those of an edge
 abbrev pub texts_of : StatedEdge → EdgeTexts
 texts_of e = record {
   command = variable_of e.edges e.entries e.number (codes "command");

@@ -1,5 +1,6 @@
 -- The commands that files need and that are left after a mark.
-use Rattle.std.specs.Prelude.{◌≡◌, ℕ, Bool, true, Option, Some, None, IfSome, List, [], ◌++◌, map}
+use Rattle.std.specs.Prelude.{◌≡◌, ℕ, Bool, true, Option, Some, None, IfSome, List, [], ◌∷◌, ◌++◌, map}
+use Rattle.std.specs.List.{concat}
 use Rattle.nj_needs.specs.Graphs.{count_of, is_phony, makers_of, row_of_paths}
 use Rattle.nj_needs.specs.Marks.{is_valid, rest}
 use Rattle.nj_needs.specs.PageWalks.{written, StopsAt}
@@ -8,7 +9,7 @@ use Rattle.nj_graph.specs.ReadingList.{ReadStatement}
 use Rattle.nj_graph.specs.declared.FileNo.{FileNo}
 use Rattle.nj_graph.specs.Files.{path_at}
 use Rattle.nj_graph.specs.Graph.{edges_of, files_of, IsGraphOf}
-use Rattle.nj_graph.specs.Handles.{GraphFiles}
+use Rattle.nj_graph.specs.Handles.{commands_needed, edges_in, GraphFiles}
 use Rattle.nj_keys.specs.Keys.{ListsKeys}
 
 -- the edges that make the files, one for each; a source has none
@@ -45,17 +46,26 @@ pub record StopsFrom (files : GraphFiles) (mark : List ℕ) (limit : Option ℕ)
   pub begins : BeginsAfter files mark walk
   pub stops : StopsAt walk limit next
 
--- a page's edges, and then those that are left where it stopped, are all that were left before it; and another page can begin there
-abbrev pub PagesAreAll : Type 0
-PagesAreAll = (files : GraphFiles) (entries : List ReadStatement) → IsGraphOf files.graph entries
+-- a page's edges, and then those that are left where it stopped, are all that were left before it; and a page can begin there
+abbrev pub PagesLeaveTheRest : Type 0
+PagesLeaveTheRest = (files : GraphFiles) (entries : List ReadStatement) → IsGraphOf files.graph entries
     → (mark : List ℕ) (limit : Option ℕ) (next : Option (List ℕ)) → StopsFrom files mark limit next
     → IfSome next (λ m. leads files m ≡ true) × (left_at files mark ≡ written limit (left_at files mark) ++ left_from files next)
 
--- so the text of a page, and then that of what is left where it stopped, are the text of all that was left before it
-abbrev pub PagesOfKeysJoin : Type 0
-PagesOfKeysJoin = (files : GraphFiles) (entries : List ReadStatement) → IsGraphOf files.graph entries
-    → (mark : List ℕ) (limit : Option ℕ) (next : Option (List ℕ)) → StopsFrom files mark limit next
-    → (folders : List (List ℕ)) (text rest : List ℕ)
-    → ListsKeys folders (edges_of files.graph) entries (written limit (left_at files mark)) text
-    → ListsKeys folders (edges_of files.graph) entries (left_from files next) rest
-    → ListsKeys folders (edges_of files.graph) entries (left_at files mark) (text ++ rest)
+-- The texts of pages with any limits: each page begins at the mark where the one before stopped, and the last stops at none.
+pub data ArePages (folders : List (List ℕ)) (files : GraphFiles) (entries : List ReadStatement) :
+    (mark : Option (List ℕ)) → (texts : List (List ℕ)) → Type 0 where
+  none : ArePages folders files entries None []
+  page : {mark text : List ℕ} {next : Option (List ℕ)} {texts : List (List ℕ)} (limit : Option ℕ) → StopsFrom files mark limit next
+      → ListsKeys folders (edges_of files.graph) entries (written limit (left_at files mark)) text
+      → ArePages folders files entries next texts → ArePages folders files entries (Some mark) (text ∷ texts)
+
+-- so their texts, one after another, are the text of all that was left at the first mark
+abbrev pub PagesAreAll : Type 0
+PagesAreAll = (folders : List (List ℕ)) (files : GraphFiles) (entries : List ReadStatement) → IsGraphOf files.graph entries
+    → (mark : List ℕ) (texts : List (List ℕ)) → ArePages folders files entries (Some mark) texts
+    → ListsKeys folders (edges_of files.graph) entries (left_at files mark) (concat texts)
+
+-- and before the first page, with the empty mark, that is every command that the files need
+abbrev pub StartLeavesAll : Type 0
+StartLeavesAll = (files : GraphFiles) → edges_in files.graph (left_at files []) ≡ commands_needed files

@@ -1,6 +1,6 @@
 //! Laws of keys and their lines.
 
-ghost use Rattle.nj_keys.specs.Cited.{EdgesHaveKeys, KeysAreUnique, LinesAreUnique, PagesOfLinesJoin, TextsTellFields, MappedTells, TextsTellEdges, TextsTellMapped, KeysTellFields, PagesAreAll, PagesOfKeysJoin};
+ghost use Rattle.nj_keys.specs.Cited.{EdgesHaveKeys, KeysAreUnique, LinesAreUnique, PagesOfLinesJoin, TextsTellFields, MappedTells, TextsTellEdges, TextsTellMapped, KeysTellFields, PagesAreAll, PagesLeaveTheRest, StartLeavesAll};
 
 /// Bases lose nothing: texts that agree once numbers stand for the same directories are the same, if
 /// no zero byte stands in them.
@@ -39,8 +39,11 @@ pub fn lines_law()
 {}
 
 /// The edges of a page, and then those that are left at its mark, are those that were left before
-/// it, and that mark leads to an edge. So the lines of pages, one after another, are those of all.
+/// it. So the lines of pages, each from the mark of the one before until one has none, are together
+/// the lines of all that was left at the first mark; at the start that is every command that the
+/// files need.
 pub fn pages_law()
+    ensures rest { PagesLeaveTheRest }
     ensures all { PagesAreAll }
-    ensures join { PagesOfKeysJoin }
+    ensures start { StartLeavesAll }
 {}
