@@ -3,10 +3,10 @@ use Rattle.std.proofs.Common.{◌≡◌, ℕ, suc, ◌+◌, Bool, true, false, c
 use Rattle.std.proofs.Common.{is_some, Option, None, Some, option_map}
 use Rattle.std.proofs.Common.{unwrap_or, List, [], ◌∷◌, ◌++◌, map, length, bytes_eq, is_none, refl, sym, ap}
 use Rattle.std.proofs.Common.{◌∙◌}
-use Rattle.std.proofs.Common.{All, arith, slice_get}
+use Rattle.std.proofs.Common.{All, arith, drop, slice_get, take}
 use Rattle.std.specs.Prelude.{filter}
 use Rattle.std.specs.List.{AllByRecursion, flat_map, range_with_len}
-use Rattle.std.proofs.lemmas.List.{length-map}
+use Rattle.std.proofs.lemmas.List.{drop-map, length-map, take-map}
 use Rattle.std.proofs.lemmas.List.Elements.{All-nil, All-cons, filter-append}
 use Rattle.std.proofs.lemmas.List.Folds.{flat_map-map}
 use Rattle.std.proofs.lemmas.Option.{slice_get-map, get_or_from_slice_get}
@@ -74,6 +74,24 @@ paths-in g (path ∷ paths) = ap (λ ps. path ∷ ps) (paths-in g paths)
 pub are-paths : (files : List GraphFile) (g : GraphModel) (paths : List (List ℕ)) → files ≡ files_in g paths
     → map (λ file. file.path) files ≡ paths
 are-paths files g paths is = ap (map (λ (file : GraphFile). file.path)) is ∙ paths-in g paths
+
+-- how many there are
+pub counts-in : (files : List GraphFile) (g : GraphModel) (paths : List (List ℕ)) → files ≡ files_in g paths
+    → length files ≡ length paths
+counts-in files g paths is = ap length is ∙ length-map paths (file_in g)
+
+-- the first of them, and the others
+pub takes-paths : (files first : List GraphFile) (g : GraphModel) (paths : List (List ℕ)) (n : ℕ)
+    → files ≡ files_in g paths → first ≡ take n files → map (λ file. file.path) first ≡ take n paths
+takes-paths files first g paths n is first_is =
+    ap (map (λ (file : GraphFile). file.path)) first_is
+    ∙ sym (take-map (λ (file : GraphFile). file.path) n files) ∙ ap (take n) (are-paths files g paths is)
+
+pub drops-paths : (files others : List GraphFile) (g : GraphModel) (paths : List (List ℕ)) (n : ℕ)
+    → files ≡ files_in g paths → others ≡ drop n files → map (λ file. file.path) others ≡ drop n paths
+drops-paths files others g paths n is others_is =
+    ap (map (λ (file : GraphFile). file.path)) others_is
+    ∙ sym (drop-map (λ (file : GraphFile). file.path) n files) ∙ ap (drop n) (are-paths files g paths is)
 
 -- the outputs of an edge, if its rule has this name
 abbrev pub of_rule : List ReadStatement → (rule : List ℕ) → GraphEdge → List (List ℕ)

@@ -1,8 +1,8 @@
 -- How the objects of edges are written one after another.
 use Rattle.std.proofs.Common.{◌≡◌, ℕ, Bool, true, false, not, cond, Option, Some, None}
 use Rattle.std.proofs.Common.{option_map, unwrap_or, List, [], ◌∷◌, ◌++◌, refl, sym, ap}
-use Rattle.std.proofs.Common.{◌∙◌, append-nil, flat_map, codes}
-use Rattle.std.specs.Prelude.{find, take_while}
+use Rattle.std.proofs.Common.{◌∙◌, append-nil, flat_map, codes, drop, length, take}
+use Rattle.std.specs.Prelude.{find, slice_get, take_while}
 use Rattle.std.proofs.lemmas.List.Folds.{flat_map-map}
 use Rattle.std.specs.List.{fold}
 use Rattle.std.proofs.lemmas.List.Sums.{fold-append}
@@ -18,7 +18,9 @@ use Rattle.nj_edges.specs.Edges.{EdgePaths, edge_at}
 use Rattle.nj_statements.specs.EdgeList.{edges_read, paths_of_edges}
 use Rattle.nj_graph.specs.Graph.{GraphModel, detail_stated, rule_name_at}
 use Rattle.nj_graph.specs.Handles.{GraphEdge, edge_in, edges_in}
-use Rattle.nj_tools.specs.EdgeObjects.{edge_object, file_members, head_members}
+use Rattle.nj_tools.specs.declared.edge_objects.EdgeDiscovery.{EdgeDiscovery}
+use Rattle.nj_tools.specs.EdgeObjects.{discovery_word, edge_object, file_members, head_members, object_at}
+use Rattle.nj_tools.specs.EdgeObjects.{stated_count}
 use Rattle.nj_tools.specs.EdgeObjects.{place_object, value_member, value_members}
 use Rattle.nj_tools.specs.JsonObjects.{json_line, strings, strings_are_utf8}
 use Rattle.nj_tools.specs.Lines.{line}
@@ -77,41 +79,54 @@ head-added entries edge o a b c d file rule spot is_phony file_is spot_is rule_i
       place_object (detail_stated entries edge).file (detail_stated entries edge).spot,
     )) a_is))
 
--- the files by kind
-pub files-added : (e : EdgePaths) (o a b c d f g : Option (List Token)) (p q r s t u : List (List ℕ))
-    → p ≡ e.explicit_outputs → q ≡ e.implicit_outputs → r ≡ e.explicit_inputs → s ≡ e.implicit_inputs
-    → t ≡ e.order_only_inputs → u ≡ e.validations
+-- the files by kind, and whether those that builds discovered are known
+pub files-added : (e : EdgePaths) (discovery : Option EdgeDiscovery) (n : ℕ)
+    (o a b c d f g h i : Option (List Token))
+    (p q r s x t u : List (List ℕ)) (word : List ℕ) → n ≡ stated_count discovery (length e.implicit_inputs)
+    → p ≡ e.explicit_outputs → q ≡ e.implicit_outputs → r ≡ e.explicit_inputs
+    → s ≡ take n e.implicit_inputs → x ≡ drop n e.implicit_inputs
+    → t ≡ e.order_only_inputs → u ≡ e.validations → word ≡ discovery_word discovery
     → a ≡ and_member o (codes "outputs", array (strings p))
     → b ≡ and_member a (codes "implicit_outputs", array (strings q))
     → c ≡ and_member b (codes "inputs", array (strings r))
     → d ≡ and_member c (codes "implicit_inputs", array (strings s))
-    → f ≡ and_member d (codes "order_only_inputs", array (strings t))
-    → g ≡ and_member f (codes "validations", array (strings u))
-    → g ≡ fold and_member o (file_members e)
-files-added e o a b c d f g p q r s t u p_is q_is r_is s_is t_is u_is a_is b_is c_is d_is f_is g_is =
+    → f ≡ and_member d (codes "discovered_inputs", array (strings x))
+    → g ≡ and_member f (codes "order_only_inputs", array (strings t))
+    → h ≡ and_member g (codes "validations", array (strings u))
+    → i ≡ and_member h (codes "discovered", string word)
+    → i ≡ fold and_member o (file_members discovery e)
+files-added e discovery n o a b c d f g h i p q r s x t u word n_is p_is q_is r_is s_is x_is t_is u_is word_is
+    a_is b_is c_is d_is f_is g_is h_is i_is =
     let add = λ (name : List ℕ) (paths : List (List ℕ)) (w : Option (List Token)). and_member w
     (name, array (strings paths)) in
-    g_is ∙ ap (λ ps. add (codes "validations") ps f) u_is ∙ ap (add (codes "validations") e.validations) (f_is
-    ∙ ap (λ ps. add (codes "order_only_inputs") ps d) t_is
-    ∙ ap (add (codes "order_only_inputs") e.order_only_inputs) (d_is
-    ∙ ap (λ ps. add (codes "implicit_inputs") ps c) s_is
-    ∙ ap (add (codes "implicit_inputs") e.implicit_inputs) (c_is
+    let count = stated_count discovery (length e.implicit_inputs) in
+    let stated = s_is ∙ ap (λ m. take m e.implicit_inputs) n_is in
+    let found = x_is ∙ ap (λ m. drop m e.implicit_inputs) n_is in
+    i_is ∙ ap (λ w. and_member h (codes "discovered", string w)) word_is
+    ∙ ap (λ w. and_member w (codes "discovered", string (discovery_word discovery))) (h_is
+    ∙ ap (λ ps. add (codes "validations") ps g) u_is ∙ ap (add (codes "validations") e.validations) (g_is
+    ∙ ap (λ ps. add (codes "order_only_inputs") ps f) t_is
+    ∙ ap (add (codes "order_only_inputs") e.order_only_inputs) (f_is
+    ∙ ap (λ ps. add (codes "discovered_inputs") ps d) found
+    ∙ ap (add (codes "discovered_inputs") (drop count e.implicit_inputs)) (d_is
+    ∙ ap (λ ps. add (codes "implicit_inputs") ps c) stated
+    ∙ ap (add (codes "implicit_inputs") (take count e.implicit_inputs)) (c_is
     ∙ ap (λ ps. add (codes "inputs") ps b) r_is ∙ ap (add (codes "inputs") e.explicit_inputs) (b_is
     ∙ ap (λ ps. add (codes "implicit_outputs") ps a) q_is
     ∙ ap (add (codes "implicit_outputs") e.implicit_outputs) (a_is
-    ∙ ap (λ ps. add (codes "outputs") ps o) p_is)))))
+    ∙ ap (λ ps. add (codes "outputs") ps o) p_is)))))))
 
 -- all members, and the end of the object
-pub members-added : (entries : List ReadStatement) (edge : ℕ)
+pub members-added : (entries : List ReadStatement) (discovery : Option EdgeDiscovery) (edge : ℕ)
     (opened with_head with_files with_values : Option (List Token)) → opened ≡ no_members_yet
     → with_head ≡ fold and_member opened (head_members entries edge)
     → with_files ≡ fold and_member with_head
-    (file_members (edge_at (paths_of_edges (edges_read entries)) edge))
+    (file_members discovery (edge_at (paths_of_edges (edges_read entries)) edge))
     → with_values ≡ fold and_member with_files (value_members entries edge)
-    → and_token with_values token.end_object ≡ held_text (edge_object entries edge)
-members-added entries edge opened with_head with_files with_values o h f v =
+    → and_token with_values token.end_object ≡ held_text (edge_object entries discovery edge)
+members-added entries discovery edge opened with_head with_files with_values o h f v =
     let head = head_members entries edge in
-    let files = file_members (edge_at (paths_of_edges (edges_read entries)) edge) in
+    let files = file_members discovery (edge_at (paths_of_edges (edges_read entries)) edge) in
     let values = value_members entries edge in
     ap (λ s. and_token s token.end_object) (
     v ∙ ap (λ s. fold and_member s values)
@@ -139,27 +154,37 @@ no-text j is = by (strings_are_utf8 j) is
     by true h = absurd cc
     by false h = refl
 
+-- the text of an object where this is what builds discovered
+pub object-at : (entries : List ReadStatement) (discoveries : List EdgeDiscovery) (edge : GraphEdge)
+    (discovery : Option EdgeDiscovery) (text : Option (List ℕ))
+    → discovery ≡ slice_get discoveries edge.number
+    → text ≡ option_map print (held_text (edge_object entries discovery edge.number))
+    → text ≡ option_map print (held_text (object_at entries discoveries edge.number))
+object-at entries discoveries edge discovery text is made =
+    made ∙ ap (λ o. option_map print (held_text (edge_object entries o edge.number))) is
+
 -- ---- the lines
 
-module _ (entries : List ReadStatement) where
+module _ (entries : List ReadStatement) (discoveries : List EdgeDiscovery) where
   -- JSON can contain an edge
   abbrev pub writable : GraphEdge → Bool
-  writable edge = strings_are_utf8 (edge_object entries edge.number)
+  writable edge = strings_are_utf8 (object_at entries discoveries edge.number)
 
   -- the lines that are left of these edges
   unfoldable pub lines_left : List GraphEdge → List ℕ
-  lines_left edges = flat_map (λ edge. json_line (edge_object entries edge.number))
+  lines_left edges = flat_map (λ edge. json_line (object_at entries discoveries edge.number))
       (take_while writable edges)
 
   pub lines-all : (g : GraphModel) (numbers : List ℕ)
       → lines_left (edges_in g numbers)
-      ≡ flat_map (λ edge. json_line (edge_object entries edge))
-      (take_while (λ edge. strings_are_utf8 (edge_object entries edge)) numbers)
+      ≡ flat_map (λ edge. json_line (object_at entries discoveries edge))
+      (take_while (λ edge. strings_are_utf8 (object_at entries discoveries edge)) numbers)
   unfolding lines_left
   lines-all g numbers =
-      let f = λ (edge : GraphEdge). json_line (edge_object entries edge.number) in
+      let f = λ (edge : GraphEdge). json_line (object_at entries discoveries edge.number) in
       ap (flat_map f) (while-map writable (edge_in g) numbers)
-      ∙ flat_map-map f (edge_in g) (take_while (λ n. strings_are_utf8 (edge_object entries n)) numbers)
+      ∙ flat_map-map f (edge_in g) (take_while (λ n. strings_are_utf8 (object_at entries discoveries n))
+      numbers)
 
   pub lines-none : lines_left [] ≡ []
   unfolding lines_left
@@ -167,25 +192,27 @@ module _ (entries : List ReadStatement) where
 
   module _ (edge : GraphEdge) (edges : List GraphEdge) where
     -- JSON cannot contain the next one
-    module _ (none : None ≡ option_map print (held_text (edge_object entries edge.number))) where
+    module _ (none : None ≡ option_map print (held_text (object_at entries discoveries edge.number))) where
       pub lines-end : lines_left (edge ∷ edges) ≡ []
       unfolding lines_left
-      lines-end = ap (flat_map (λ (e : GraphEdge). json_line (edge_object entries e.number)))
-          (while-fails writable edge edges (no-text (edge_object entries edge.number) none))
+      lines-end = ap (flat_map (λ (e : GraphEdge). json_line (object_at entries discoveries e.number)))
+          (while-fails writable edge edges (no-text (object_at entries discoveries edge.number) none))
 
       pub is-unwritable : find (λ e. not (writable e)) (edge ∷ edges) ≡ Some edge
-      is-unwritable = find-fails writable edge edges (no-text (edge_object entries edge.number) none)
+      is-unwritable = find-fails writable edge edges
+          (no-text (object_at entries discoveries edge.number) none)
 
     -- it has a line
     module _ (text : List ℕ) (some : Some text
-        ≡ option_map print (held_text (edge_object entries edge.number))) where
+        ≡ option_map print (held_text (object_at entries discoveries edge.number))) where
       pub lines-next : lines_left (edge ∷ edges) ≡ line (text ++ []) ++ lines_left edges
       unfolding lines_left
       lines-next =
-          ap (flat_map (λ (e : GraphEdge). json_line (edge_object entries e.number)))
-          (while-passes writable edge edges (text-is (edge_object entries edge.number) text some).0)
+          ap (flat_map (λ (e : GraphEdge). json_line (object_at entries discoveries e.number)))
+          (while-passes writable edge edges (text-is (object_at entries discoveries edge.number) text some).0)
           ∙ ap (λ t. line t ++ lines_left edges)
-          (sym (append-nil text ∙ (text-is (edge_object entries edge.number) text some).1))
+          (sym (append-nil text ∙ (text-is (object_at entries discoveries edge.number) text some).1))
 
       pub passes-next : find (λ e. not (writable e)) (edge ∷ edges) ≡ find (λ e. not (writable e)) edges
-      passes-next = find-passes writable edge edges (text-is (edge_object entries edge.number) text some).0
+      passes-next = find-passes writable edge edges
+          (text-is (object_at entries discoveries edge.number) text some).0

@@ -16,8 +16,8 @@ pub use Rattle.nj_statements.specs.EdgeList.{edges_read}
 pub use Rattle.nj_tools.specs.Inside.Outputs.{IsSame, PutsText}
 pub use Rattle.std.specs.List.{fold}
 pub use Rattle.json.specs.Print.{print}
-pub use Rattle.nj_tools.specs.EdgeObjects.{edge_lines, edge_object, file_members, head_members, unwritable_edge, value_member}
-pub use Rattle.nj_tools.specs.EdgeObjects.{value_members, place_object}
+pub use Rattle.nj_tools.specs.EdgeObjects.{discovery_word, edge_lines, edge_object, file_members, head_members, stated_count}
+pub use Rattle.nj_tools.specs.EdgeObjects.{unwritable_edge, value_member, value_members, place_object}
 pub use Rattle.nj_tools.specs.Inside.ObjectTexts.{and_member, held_text, and_string, and_token, no_members_yet}
 pub use Rattle.nj_graph.specs.Errors.{error_of_text}
 pub use Rattle.nj_tools.specs.Errors.{TakesGraphFault, error_of_graph, error_of_mark, error_of_tool, error_text, fault_text}

@@ -27,7 +27,7 @@ mod writer;
 
 pub use command_lines::{write_commands, write_single_commands};
 pub use compdb::write_compdb;
-pub use edge_objects::write_edge_objects;
+pub use edge_objects::{DiscoveryState, EdgeDiscovery, write_edge_objects};
 pub use error::Error;
 pub use input_lists::write_inputs;
 pub use laws::{compdb_law, depth_law, input_lines_law, list_law};

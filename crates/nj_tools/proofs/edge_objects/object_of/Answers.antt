@@ -14,10 +14,11 @@ returns c entries graph =
     let edge = c.args.edge.number.0 in
     IfOk-weaker c.into_text.result _ _
     (λ text is. is ∙ ap (option_map print)
-    (members-added entries edge c.in_ok-object.object c.add_head.new.object c.add_files.new.object
+    (members-added entries c.args.discovery edge c.in_ok-object.object c.add_head.new.object
+    c.add_files.new.object
     c.add_values.new.object c.in_ok-object.ensures
     (c.in_ok-add_head.ensures entries graph)
     (c.in_ok-add_files.ensures ∙ ap (λ edges. fold and_member c.add_head.new.object
-    (file_members (edge_at edges edge))) (graph-edges graph))
+    (file_members c.args.discovery (edge_at edges edge))) (graph-edges graph))
     (c.in_ok-add_values.ensures entries graph)))
     c.into_text.ensures

@@ -20,7 +20,8 @@ returns-in_err-flush g c entries graph =
 
 pub returns : goal.returns
 returns g c entries graph =
-    let refused = refused-is entries c.args.graph.now c.in_ok-unwritable.unwritable (unwritable_edge entries)
+    let refused = refused-is entries c.args.graph.now c.in_ok-unwritable.unwritable
+    (unwritable_edge entries c.args.discoveries.now)
     (c.in_ok-unwritable.ensures.unwritable entries graph) graph in
     list-ends _ _ _ _ c.refuse.result
     (sink-takes c.args.out.now _ _ (search rules)

@@ -14,8 +14,9 @@ invariant-edges g l = record {
   same : IsSame l.fn.out l.out;
   all : AllByRecursion (λ edge. edge.graph ≡ l.graph) l.edge-iterator;
   left : (entries : List ReadStatement) → IsGraphOf l.graph entries
-      → Leaves g.S.Sink.state l.fn.out l.out (edge_lines entries) (lines_left entries l.edge-iterator);
+      → Leaves g.S.Sink.state l.fn.out l.out (edge_lines entries l.discoveries)
+      (lines_left entries l.discoveries l.edge-iterator);
   unwritable : (entries : List ReadStatement) → IsGraphOf l.graph entries
-      → find (λ edge. not (writable entries edge)) l.edge-iterator
-      ≡ option_map (edge_in l.graph) (unwritable_edge entries);
+      → find (λ edge. not (writable entries l.discoveries edge)) l.edge-iterator
+      ≡ option_map (edge_in l.graph) (unwritable_edge entries l.discoveries);
 }
