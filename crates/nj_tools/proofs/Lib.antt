@@ -9,6 +9,7 @@ pub mod ListingLemmas
 pub mod ChosenLemmas
 pub mod CompdbLemmas
 pub mod CompdbRows
+pub mod EdgeJsonLemmas
 pub mod EdgeObjectLemmas
 pub mod HeldLemmas
 pub mod ObjectLemmas

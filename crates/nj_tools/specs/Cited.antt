@@ -32,6 +32,7 @@ pub use Rattle.nj_tools.specs.Inside.Pieces.{printed_text, output_lines, query_o
 pub use Rattle.nj_tools.specs.Inside.Pieces.{made_lines, path_lines}
 pub use Rattle.nj_tools.specs.CompdbJson.{CompdbIsJson}
 pub use Rattle.nj_tools.specs.Laws.{DepthZeroShowsAll}
+pub use Rattle.nj_tools.specs.EdgeJson.{EdgeLinesAreJson}
 pub use Rattle.std.specs.Option.{ForSome}
 pub use Rattle.std.specs.Fmt.{decimal}
 pub use Rattle.json.specs.Json.{array, boolean, number, string}

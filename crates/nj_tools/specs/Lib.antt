@@ -10,6 +10,7 @@ pub mod Compdb
 pub mod CompdbJson
 pub mod JsonObjects
 pub mod EdgeObjects
+pub mod EdgeJson
 pub mod Laws
 pub mod MemorySinks
 pub mod Errors

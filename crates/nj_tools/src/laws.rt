@@ -1,6 +1,6 @@
 //! Laws of the tools' output. A law is a theorem, stated as a function with an empty body.
 
-ghost use Rattle.nj_tools.specs.Cited.{CompdbIsJson, DepthZeroShowsAll, LinesRise, ListedHaveLines, SortedInputsRise, PrintedStringsDiffer, ListedArePrinted, PlainInputsAreSortedQuotes};
+ghost use Rattle.nj_tools.specs.Cited.{CompdbIsJson, DepthZeroShowsAll, EdgeLinesAreJson, LinesRise, ListedHaveLines, SortedInputsRise, PrintedStringsDiffer, ListedArePrinted, PlainInputsAreSortedQuotes};
 
 /// Depth 0 shows each tree whole: where no edge needs itself by a chain, more levels change
 /// nothing.
@@ -30,4 +30,11 @@ pub fn input_lines_law()
 /// `file` and `output`, in this order, with the strings of the edge.
 pub fn compdb_law()
     ensures { CompdbIsJson }
+{}
+
+/// Each line of `write_edge_objects` is one object of JSON, where all strings of the edges are
+/// UTF-8: the object of an edge, with all its keys in their order. Edges have a line each, by
+/// number, and no line end stands inside an object.
+pub fn edge_objects_law()
+    ensures { EdgeLinesAreJson }
 {}

@@ -30,7 +30,7 @@ pub use compdb::write_compdb;
 pub use edge_objects::{DiscoveryState, EdgeDiscovery, write_edge_objects};
 pub use error::Error;
 pub use input_lists::write_inputs;
-pub use laws::{compdb_law, depth_law, input_lines_law, list_law};
+pub use laws::{compdb_law, depth_law, edge_objects_law, input_lines_law, list_law};
 pub use memory_sink::MemorySink;
 pub use nj_graph::{GraphFault, TextFault};
 pub use nj_needs::{Mark, MarkFault, Needs, grow_targets};
