@@ -4,19 +4,19 @@
 //! affair.
 #![tactic(auto)]
 
-pub use nj_deps::{DepsLog, DepsLogFault};
+pub use nj_deps::{DepsLog, DepsLogFault, LoggedOutput, PathNo, Paths};
 pub use nj_disk::{DiskFiles, DiskTimes};
 pub use nj_graph::{
-    AllEdges, AllFiles, Cause, DepfileError, Discoveries, Edge, EdgeList, EdgeNo, Edges, File,
-    FileList, FileNo, FileSource, FileTable, FileTimes, Files, Graph, GraphFault, HashKeys, Kind,
-    LateValue, Loaded, MAIN_SCOPE, MemoryFiles, Name, NeededCommands, NeedsSearch, Opening, Part,
-    Place, PlaceRef, Rule, RuleNo, ScopeNo, SourceFault, Spot, Step, SyntaxCause, TextFault,
-    TimeFound, UndeclaredInput, Unknown, Verdict, Wanted, clean_path, join_dyndeps,
+    AllEdges, AllFiles, Cause, ChainKinds, DepfileError, Discoveries, Edge, EdgeList, EdgeNo,
+    Edges, File, FileList, FileNo, FileSource, FileTable, FileTimes, Files, Graph, GraphFault,
+    HashKeys, Kind, LateValue, Loaded, MAIN_SCOPE, MemoryFiles, Name, NeededCommands, NeedsSearch,
+    Opening, Part, Place, PlaceRef, Rule, RuleNo, ScopeNo, SourceFault, Spot, Step, SyntaxCause,
+    TextFault, TimeFound, UndeclaredInput, Unknown, Verdict, Wanted, clean_path, join_dyndeps,
     join_present_dyndeps, load, pick_target, quote_into, undeclared_inputs,
 };
 pub use nj_needs::{Mark, MarkFault, Needs, grow_targets};
 pub use nj_tools::{
-    Error, InputsStyle, MemorySink, Sink, SinkFault, TargetsView, ToolFault, WriteSink,
-    write_commands, write_compdb, write_edge_objects, write_inputs, write_query, write_rules,
-    write_single_commands, write_targets, write_whole,
+    DiscoveryState, EdgeDiscovery, Error, InputsStyle, MemorySink, Sink, SinkFault, TargetsView,
+    ToolFault, WriteSink, write_commands, write_compdb, write_edge_objects, write_inputs,
+    write_query, write_rules, write_single_commands, write_targets, write_whole,
 };
