@@ -109,8 +109,9 @@ pub const DRAW: Topic = Topic {
     name: "draw",
     about: "Write a drawing of the edges that targets need, for dot of Graphviz",
     more: "\
-Without targets it draws the default ones. An ellipse is an edge with its rule, a box is a file, and
-order-only inputs have dashed arrows. A label says how many edges there are, if not all are drawn.
+Without targets it draws the default ones. An ellipse is an edge with its rule, and a box is a file.
+Order-only inputs have dotted arrows, and those that builds discovered dashed ones. A label says how
+many edges there are, if not all are drawn.
   ninja-graph draw --limit 40 app | dot -Tsvg > app.svg",
 };
 
