@@ -5,7 +5,7 @@ pub use Rattle.nj_audit.specs.LoggedInputs.{inputs_in, AreUndeclaredFindings, Is
 pub use Rattle.nj_audit.specs.Audits.{IsAudit}
 pub use Rattle.nj_audit.specs.Inside.ByKind.{asked_of, findings_of}
 pub use Rattle.nj_audit.specs.Kinds.{all_kinds, AskFor, contains, first_unknown, is_asked_for, is_on_by_default, is_taken, is_unknown}
-pub use Rattle.nj_audit.specs.Kinds.{name_of, texts}
+pub use Rattle.nj_audit.specs.Kinds.{name_of, texts, meaning_of, phrase_of}
 pub use Rattle.nj_graph.specs.Handles.{OfEdge, edge_of, file_of, file_in, paths_of}
 pub use Rattle.nj_scope.specs.ReadingList.{ReadStatement}
 pub use Rattle.nj_graph.specs.Edges.{is_among, inputs_of, maker_of}

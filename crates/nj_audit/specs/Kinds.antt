@@ -22,6 +22,30 @@ name_of DepfileWithoutDeps = codes "depfile-without-deps"
 name_of RepeatedInput = codes "repeated-input"
 name_of UndeclaredInput = codes "undeclared-input"
 
+-- its name in a plain line
+abbrev pub phrase_of : Kind → List ℕ
+phrase_of UnusedOutput = codes "unused output"
+phrase_of MissingSource = codes "missing source"
+phrase_of UnusedRule = codes "unused rule"
+phrase_of UnusedPool = codes "unused pool"
+phrase_of UnusedVariable = codes "unused variable"
+phrase_of RepeatedCommand = codes "repeated command"
+phrase_of DepfileWithoutDeps = codes "depfile without deps"
+phrase_of RepeatedInput = codes "repeated input"
+phrase_of UndeclaredInput = codes "undeclared input"
+
+-- what a finding of the kind means, as `--list` says it
+abbrev pub meaning_of : Kind → List ℕ
+meaning_of UnusedOutput = codes "an output that is no default, no input and no validation"
+meaning_of MissingSource = codes "a source that a command needs and that is not on the disk"
+meaning_of UnusedRule = codes "a rule that no edge uses"
+meaning_of UnusedPool = codes "a pool that no edge uses"
+meaning_of UnusedVariable = codes "a variable of an edge that neither its rule nor Ninja reads"
+meaning_of RepeatedCommand = codes "an edge with the command of an earlier edge"
+meaning_of DepfileWithoutDeps = codes "an edge with a depfile and no deps"
+meaning_of RepeatedInput = codes "an input that is given to its edge again"
+meaning_of UndeclaredInput = codes "a file that a command or a deps log names and that an edge makes it does not need"
+
 -- findings of the kind are reported without any option
 abbrev pub is_on_by_default : Kind → Bool
 is_on_by_default MissingSource = true

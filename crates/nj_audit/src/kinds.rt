@@ -1,7 +1,7 @@
 //! The kinds of findings, and which of them are requested.
 
 ghost use Rattle.std.specs.Prelude.{◌≡◌, None, Some, IfErr, IfOk, OnOk, option_map};
-ghost use Rattle.nj_audit.specs.Cited.{is_among, AskFor, contains, first_unknown, is_asked_for, is_on_by_default, is_taken, is_unknown, name_of, texts};
+ghost use Rattle.nj_audit.specs.Cited.{is_among, AskFor, contains, first_unknown, is_asked_for, is_on_by_default, is_taken, is_unknown, name_of, texts, meaning_of, phrase_of};
 
 /// A kind of finding.
 #[derive(Clone, Copy)]
@@ -49,7 +49,9 @@ impl Kind {
     }
 
     /// Its name in a plain line.
-    pub fn phrase(self) -> &'static str {
+    pub fn phrase(self) -> &'static str
+        ensures { result.now ≡ phrase_of self }
+    {
         match self {
             Kind::UnusedOutput => "unused output",
             Kind::MissingSource => "missing source",
@@ -64,7 +66,9 @@ impl Kind {
     }
 
     /// The meaning of a finding of this kind.
-    pub fn meaning(self) -> &'static str {
+    pub fn meaning(self) -> &'static str
+        ensures { result.now ≡ meaning_of self }
+    {
         match self {
             Kind::UnusedOutput => "an output that is no default, no input and no validation",
             Kind::MissingSource => "a source that a command needs and that is not on the disk",
