@@ -15,12 +15,14 @@ use Rattle.nj_discovered.specs.declared.verdict.Unknown.TheVariants as why
 use Rattle.nj_discovered.specs.Discoveries.{DiscoveriesModel, FoundModel, found_at}
 use Rattle.nj_edges.proofs.Passing.{from-more}
 use Rattle.nj_graph.specs.Edges.{edges_from}
-use Rattle.nj_graph.specs.Graph.{GraphModel}
-use Rattle.nj_graph.specs.Handles.{GraphFile, files_in}
+use Rattle.nj_graph.specs.Graph.{GraphModel, edges_of}
+use Rattle.nj_graph.specs.Handles.{GraphEdge, GraphFile, edge_in, edges_in, files_in, paths_of}
 use Rattle.nj_graph.specs.ReadingList.{ReadStatement}
 use Rattle.nj_ask.specs.Affected.{line}
-use Rattle.nj_ask.specs.DiscoveredGraphs.{doubt_line, fault_text, is_faulty, no_time_line}
+use Rattle.nj_tools.specs.declared.EdgeDiscovery.{EdgeDiscovery}
+use Rattle.nj_ask.specs.DiscoveredGraphs.{doubt_line, edge_discoveries, edge_discovery, fault_text, is_faulty, no_time_line}
 use Rattle.nj_ask.specs.Inside.Findings.{text_if_faulty}
+use Rattle.nj_ask.proofs.LineLemmas.{map-map}
 
 -- the texts of one more number
 pub texts-of-more : (f : ℕ → List ℕ) (n : ℕ)
@@ -96,3 +98,14 @@ module _ (entries : List ReadStatement) (found : DiscoveriesModel) where
       (record { verdict = Known; inputs = [] }) faulty below (ap is_faulty (sym is)))
       ∙ map-append text_at (faulty-first n) (cond faulty (n ∷ []) [])
       ∙ ap (λ texts. map text_at (faulty-first n) ++ texts) (map-cond text_at faulty n))
+
+-- ---- edge by edge
+
+module _ (g : GraphModel) (found : DiscoveriesModel) where
+  abbrev pub discovery_in : GraphEdge → EdgeDiscovery
+  discovery_in edge = edge_discovery (paths_of edge) (found_at found edge.number)
+
+  -- those of all edges
+  pub all-discoveries : (edges : List GraphEdge) → edges ≡ edges_in g (range_with_len 0 (length (edges_of g)))
+      → map discovery_in edges ≡ edge_discoveries (edges_of g) found
+  all-discoveries edges is = ap (map discovery_in) is ∙ map-map discovery_in (edge_in g) (range_with_len 0 (length (edges_of g)))

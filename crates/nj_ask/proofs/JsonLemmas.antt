@@ -34,62 +34,62 @@ none-of f (Some x) is = absurd cc
 
 module _ (known : DiscoveredGraph) (entries : List ReadStatement) where
   -- the objects that are written are those of some answer
-  some-ending : (ending : Ending) × AnswersJson known entries (edge_lines entries) ending
-  some-ending = by (unwritable_edge entries) refl
+  some-ending : (ending : Ending) × AnswersJson known entries (edge_lines entries known.discoveries.items) ending
+  some-ending = by (unwritable_edge entries known.discoveries.items) refl
     where
-      by : (o : Option ℕ) → unwritable_edge entries ≡ o
-          → (ending : Ending) × AnswersJson known entries (edge_lines entries) ending
+      by : (o : Option ℕ) → unwritable_edge entries known.discoveries.items ≡ o
+          → (ending : Ending) × AnswersJson known entries (edge_lines entries known.discoveries.items) ending
       by None is = (_, all is)
       by (Some edge) is = (_, not_text is)
 
   -- the refusal of the edge that JSON cannot contain
-  refuses : (fault : GraphFault) → option_map (text_fault entries) (unwritable_edge entries) ≡ Some fault
-      → AnswersJson known entries (edge_lines entries) (refused (fault_line fault) Fault)
+  refuses : (fault : GraphFault) → option_map (text_fault entries) (unwritable_edge entries known.discoveries.items) ≡ Some fault
+      → AnswersJson known entries (edge_lines entries known.discoveries.items) (refused (fault_line fault) Fault)
   refuses fault is =
-      let (edge, there, same) = made-of (text_fault entries) (unwritable_edge entries) fault is in
-      subst (λ f. AnswersJson known entries (edge_lines entries) (refused (fault_line f) Fault)) same
+      let (edge, there, same) = made-of (text_fault entries) (unwritable_edge entries known.discoveries.items) fault is in
+      subst (λ f. AnswersJson known entries (edge_lines entries known.discoveries.items) (refused (fault_line f) Fault)) same
       (not_text there)
 
-  pub all-front : IsFront (AnswersJson known entries) (edge_lines entries)
+  pub all-front : IsFront (AnswersJson known entries) (edge_lines entries known.discoveries.items)
   all-front = inr (
-    edge_lines entries,
+    edge_lines entries known.discoveries.items,
     some-ending.0,
     some-ending.1,
-    ([], sym (append-nil (edge_lines entries))),
+    ([], sym (append-nil (edge_lines entries known.discoveries.items))),
   )
 
   module _ (old new : SinkState) where
     -- all was written
-    pub returns-told : (told : Told) → option_map (text_fault entries) (unwritable_edge entries) ≡ None
-        → Takes old new (edge_lines entries) → told.warnings.items ≡ caveat_text known entries
+    pub returns-told : (told : Told) → option_map (text_fault entries) (unwritable_edge entries known.discoveries.items) ≡ None
+        → Takes old new (edge_lines entries known.discoveries.items) → told.warnings.items ≡ caveat_text known entries
         → told.looks ≡ false → Returns (AnswersJson known entries) old new (Ok told)
     returns-told told none took warnings looks = (
-      edge_lines entries,
-      rw (warnings, looks) (all (none-of (text_fault entries) (unwritable_edge entries) none)),
+      edge_lines entries known.discoveries.items,
+      rw (warnings, looks) (all (none-of (text_fault entries) (unwritable_edge entries known.discoveries.items) none)),
       took,
     )
 
     -- memory ran out for the warnings
     pub returns-untold : (result : Result Told Failure) → IsErrAnd result (λ failure. failure ≡ OutOfMemory)
-        → Takes old new (edge_lines entries) → Returns (AnswersJson known entries) old new result
+        → Takes old new (edge_lines entries known.discoveries.items) → Returns (AnswersJson known entries) old new result
     returns-untold result is took =
         let (failure, was, same) = err_from_is_err_and result is in
-        rw (was, same) (edge_lines entries, all-front, took)
+        rw (was, same) (edge_lines entries known.discoveries.items, all-front, took)
 
     -- the tool stopped
     pub returns-stopped : (fault : ToolFault) (failure : Failure)
-        → WritesCompdb old new (edge_lines entries)
-        (option_map (text_fault entries) (unwritable_edge entries))
+        → WritesCompdb old new (edge_lines entries known.discoveries.items)
+        (option_map (text_fault entries) (unwritable_edge entries known.discoveries.items))
         (Err fault) → Stops fault failure → Returns (AnswersJson known entries) old new (Err failure)
     returns-stopped (tool.TextNotUtf8 fault) (Refused line status) wrote stops =
-        (edge_lines entries, rw (stops.0.0, stops.1) (refuses fault wrote.0), wrote.1)
+        (edge_lines entries known.discoveries.items, rw (stops.0.0, stops.1) (refuses fault wrote.0), wrote.1)
     returns-stopped (tool.TextNotUtf8 fault) Write wrote stops = absurd stops
     returns-stopped (tool.TextNotUtf8 fault) OutOfMemory wrote stops =
-        (edge_lines entries, all-front, wrote.1)
+        (edge_lines entries known.discoveries.items, all-front, wrote.1)
     returns-stopped tool.Write (Refused line status) wrote stops = absurd cc
-    returns-stopped tool.Write Write wrote stops = (edge_lines entries, some-ending.0, some-ending.1, wrote)
+    returns-stopped tool.Write Write wrote stops = (edge_lines entries known.discoveries.items, some-ending.0, some-ending.1, wrote)
     returns-stopped tool.Write OutOfMemory wrote stops = absurd cc
     returns-stopped tool.OutOfMemory (Refused line status) wrote stops = absurd cc
     returns-stopped tool.OutOfMemory Write wrote stops = absurd cc
     returns-stopped tool.OutOfMemory OutOfMemory wrote stops =
-        (wrote.0, inr (edge_lines entries, some-ending.0, some-ending.1, wrote.1), wrote.2)
+        (wrote.0, inr (edge_lines entries known.discoveries.items, some-ending.0, some-ending.1, wrote.1), wrote.2)

@@ -15,7 +15,7 @@ use Rattle.nj_graph.specs.Targets.{picked}
 use Rattle.nj_questions.specs.Questions.{WhyModel}
 use Rattle.nj_ask.specs.declared.discovered.DiscoveredGraph.{DiscoveredGraph}
 use Rattle.nj_ask.specs.declared.status.Status.TheVariants.{Fault}
-use Rattle.nj_ask.specs.Answers.{AnswersWhy, HasDepfileFault, IsClear, needed_from}
+use Rattle.nj_ask.specs.Answers.{AnswersWhy, HasDepfileFault, IsClear, kinds_asked, needed_from}
 use Rattle.nj_ask.specs.Answers.AnswersWhy.{chain, no_chain, no_depfile, no_end, no_start}
 use Rattle.nj_ask.specs.Chains.{HasChain, LacksChain}
 use Rattle.nj_ask.specs.Endings.{answered, refused}
@@ -51,17 +51,17 @@ module _ (known : DiscoveredGraph) (entries : List ReadStatement) (options : Why
 
   pub why-told : (from to : GraphFile) → from.graph ≡ known.graph → Picks options.start from.path
       → Picks options.end to.path → IsClear known (files from.path)
-      → (found : Option (Vec ℕ)) → IsChainText from to options.validations found
+      → (found : Option (Vec ℕ)) → IsChainText from to (kinds_asked options) known.discoveries.items found
       → (output : List ℕ) (looks : Bool) (warnings : List ℕ)
       → output ≡ unwrap_or (option_map (λ lines. lines.items) found) [] → looks ≡ is_none found
       → warnings ≡ caveat_text known entries
       → AnswersWhy known entries options output (answered looks warnings)
   why-told from to same start end clear (Some lines) is output looks warnings o l w =
       rw (o, l, w) (chain start end clear
-      (subst (λ g. HasChain g options.validations from.path to.path lines.items) same is))
+      (subst (λ g. HasChain g known.discoveries.items (kinds_asked options) from.path to.path lines.items) same is))
   why-told from to same start end clear None is output looks warnings o l w =
       rw (o, l, w) (no_chain start end clear
-      (subst (λ g. LacksChain g options.validations from.path to.path) same is))
+      (subst (λ g. LacksChain g (kinds_asked options) from.path to.path) same is))
 
 -- ---- files by numbers
 

@@ -3,6 +3,7 @@ use Rattle.std.specs.Prelude.{◌≡◌, ◌≢◌, ◌⊎◌, ℕ, Bool, true, 
 use Rattle.std.specs.Option.{option_or}
 use Rattle.nj_text.specs.Paths.{clean_path_of, is_absolute}
 use Rattle.nj_graph.specs.ReadingList.{ReadStatement}
+use Rattle.nj_graph.specs.declared.ChainKinds.{ChainKinds}
 use Rattle.nj_graph.specs.declared.GraphFault.{GraphFault}
 use Rattle.nj_graph.specs.Graph.{GraphModel, edges_of}
 use Rattle.nj_graph.specs.Handles.{GraphFiles}
@@ -48,6 +49,12 @@ abbrev pub change_asked : AffectedModel → (paths : List (List ℕ)) → Change
 change_asked options paths =
     record { folder = options.source_dir; paths = paths; ignores_unknown = options.ignore_unknown }
 
+-- Why the options are refused before anything is read: below a directory without a name every path would be an absolute one.
+abbrev pub folder_misuse : (folder : Option (List ℕ)) → Option (List ℕ)
+folder_misuse None = None
+folder_misuse (Some []) = Some (program_line (codes "'' of --source-dir is no directory"))
+folder_misuse (Some (byte ∷ folder)) = None
+
 -- the outputs that are listed
 abbrev pub outputs_asked : AffectedModel → Asked
 outputs_asked options = record { rules = options.rules; prefix = options.prefix; no_phony = options.no_phony }
@@ -72,6 +79,10 @@ pub data AnswersAffected (known : DiscoveredGraph) (entries : List ReadStatement
 abbrev pub needed_from : GraphModel → (validations : Bool) → (start : List ℕ) → List (List ℕ)
 needed_from g validations start = if validations then grown_targets (edges_of g) (start ∷ []) else start ∷ []
 
+-- the inputs by which a chain may go
+abbrev pub kinds_asked : WhyModel → ChainKinds
+kinds_asked options = record { order_only = not options.no_order_only; validations = options.validations }
+
 -- `why`: a chain by which the first file needs the second, or that there is none
 pub data AnswersWhy (known : DiscoveredGraph) (entries : List ReadStatement) (options : WhyModel) :
     (output : List ℕ) → Ending → Type 0 where
@@ -87,12 +98,12 @@ pub data AnswersWhy (known : DiscoveredGraph) (entries : List ReadStatement) (op
   chain : {start end lines : List ℕ} → picked (edges_of known.graph) options.start ≡ Ok start
       → picked (edges_of known.graph) options.end ≡ Ok end
       → IsClear known (needed_from known.graph options.validations start)
-      → HasChain known.graph options.validations start end lines
+      → HasChain known.graph known.discoveries.items (kinds_asked options) start end lines
       → AnswersWhy known entries options lines (answered false (caveat_text known entries))
   no_chain : {start end : List ℕ} → picked (edges_of known.graph) options.start ≡ Ok start
       → picked (edges_of known.graph) options.end ≡ Ok end
       → IsClear known (needed_from known.graph options.validations start)
-      → LacksChain known.graph options.validations start end
+      → LacksChain known.graph (kinds_asked options) start end
       → AnswersWhy known entries options [] (answered true (caveat_text known entries))
 
 -- ---- `keys`
@@ -101,20 +112,24 @@ pub data AnswersWhy (known : DiscoveredGraph) (entries : List ReadStatement) (op
 abbrev pub relative_base : (bases : List (List ℕ)) → Option (List ℕ)
 relative_base bases = find (λ base. not (is_absolute base)) bases
 
--- the mark of the run before; without one that of the start
+-- the text of the mark of the run before; without one that of the start
+abbrev pub mark_text : KeysModel → List ℕ
+mark_text options = unwrap_or options.resume (codes "start")
+
+-- that mark
 abbrev pub asked_mark : KeysModel → Option (List ℕ)
-asked_mark options = given_mark (unwrap_or options.resume (codes "start"))
+asked_mark options = given_mark (mark_text options)
 
 -- the line about a text that is no mark
-abbrev pub mark_misuse : (mark : Option (List ℕ)) → Option (List ℕ)
-mark_misuse None = Some (program_line (codes "bad mark"))
-mark_misuse (Some mark) = None
+abbrev pub mark_misuse : (text : List ℕ) → (mark : Option (List ℕ)) → Option (List ℕ)
+mark_misuse text None = Some (program_line (codes "bad mark '" ++ text ++ codes "'"))
+mark_misuse text (Some mark) = None
 
 -- why the options are refused before anything is read
 abbrev pub keys_misuse : KeysModel → Option (List ℕ)
 keys_misuse options =
     option_or (option_map (λ base. program_line (codes "'" ++ base ++ codes "' of --base is not absolute")) (relative_base options.bases))
-    (mark_misuse (asked_mark options))
+    (mark_misuse (mark_text options) (asked_mark options))
 
 -- the targets that words mean; the default ones if there are none
 abbrev pub asked_targets : GraphModel → (words : List (List ℕ)) → Result (List (List ℕ)) GraphFault
@@ -146,7 +161,8 @@ pub data AnswersKeys (known : DiscoveredGraph) (entries : List ReadStatement) (o
 
 -- `json`: the objects of all edges, or those before the first that JSON cannot contain, and its fault
 pub data AnswersJson (known : DiscoveredGraph) (entries : List ReadStatement) : (output : List ℕ) → Ending → Type 0 where
-  all : unwritable_edge entries ≡ None
-      → AnswersJson known entries (edge_lines entries) (answered false (caveat_text known entries))
-  not_text : {edge : ℕ} → unwritable_edge entries ≡ Some edge
-      → AnswersJson known entries (edge_lines entries) (refused (fault_line (text_fault entries edge)) Fault)
+  all : unwritable_edge entries known.discoveries.items ≡ None
+      → AnswersJson known entries (edge_lines entries known.discoveries.items) (answered false (caveat_text known entries))
+  not_text : {edge : ℕ} → unwritable_edge entries known.discoveries.items ≡ Some edge
+      → AnswersJson known entries (edge_lines entries known.discoveries.items)
+      (refused (fault_line (text_fault entries edge)) Fault)

@@ -1,20 +1,20 @@
 -- What the contracts of this crate cite: each name comes from the module in its line.
-pub use Rattle.nj_ask.specs.Answers.{AnswersAffected, change_asked, outputs_asked, HasDepfileFault, IsClear, AnswersJson, AnswersKeys}
-pub use Rattle.nj_ask.specs.Answers.{asked_mark, asked_targets, keys_misuse, AnswersWhy, needed_from}
+pub use Rattle.nj_ask.specs.Answers.{AnswersAffected, folder_misuse, change_asked, outputs_asked, HasDepfileFault, IsClear, AnswersJson}
+pub use Rattle.nj_ask.specs.Answers.{AnswersKeys, asked_mark, asked_targets, keys_misuse, mark_misuse, AnswersWhy, needed_from}
 pub use Rattle.nj_ask.specs.Inside.Failures.{Gives, Returns, Stops}
 pub use Rattle.nj_ask.specs.Joined.{HasEdges, Follows, HasDoubtfulEdges}
 pub use Rattle.nj_graph.specs.Graph.{OfStatements, files_of, IsGraphOf, edges_of, rule_name}
 pub use Rattle.nj_questions.specs.Questions.{affected_model, question_model, subject_model, asked_graph, keys_model, why_model}
 pub use Rattle.nj_ask.specs.Inside.Lent.{asked_of, change_model, texts}
+pub use Rattle.nj_ask.specs.Results.{FailsBy, Delivers, WritesAnswer, ConcludesTold, SaysFault}
+pub use Rattle.nj_ask.specs.declared.status.Status.TheVariants.{Usage, Fault}
 pub use Rattle.nj_ask.specs.Reports.{no_path_line, made_from_line, HasWarnings, IsReport}
-pub use Rattle.nj_ask.specs.declared.status.Status.TheVariants.{Fault, Usage}
-pub use Rattle.nj_ask.specs.Results.{Delivers, WritesAnswer, ConcludesTold, FailsBy, SaysFault}
 pub use Rattle.nj_ask.specs.Endings.{Concludes, Reported, answered, memory_line, program_line}
 pub use Rattle.nj_ask.specs.Asks.{around, misuse, Refuses, sinks_of}
 pub use Rattle.nj_ask.specs.AskedWords.{AsksWith, ended_status, is_answered, AsksWords}
 pub use Rattle.nj_ask.specs.Inside.Asking.{AnswersTask, IsGiven, IsTask, IsTaken}
-pub use Rattle.nj_graph.specs.Handles.{edge_of, file_of, OfEdge, paths_of, detail_of_edge}
-pub use Rattle.nj_ask.specs.Chains.{kind_end, kind_word, place_text}
+pub use Rattle.nj_graph.specs.Handles.{edge_of, file_of, paths_of, OfEdge, detail_of_edge}
+pub use Rattle.nj_ask.specs.Chains.{is_discovered, kind_end, kind_word, place_text}
 pub use Rattle.nj_ask.specs.Inside.ChainTexts.{step_line, IsChainText}
 pub use Rattle.std.specs.List.{filter_map, flat_map, filter, list_any, range_with_len}
 pub use Rattle.nj_ask.specs.Affected.{changed_file, clean_name, path_in, line, is_asked_for, is_of_rules, line_of_output, lines_of_outputs}
@@ -28,7 +28,7 @@ pub use Rattle.nj_ask.specs.Inside.LogSteps.{IsUnreadable, LacksAt, ReadsAt}
 pub use Rattle.nj_discovered.specs.Times.{DeclaredTimes}
 pub use Rattle.nj_graph.specs.Discovering.{AreDiscovered}
 pub use Rattle.nj_ask.specs.DiscoveredGraphs.{JoinsDiscovered, depfile_text, doubt_line, doubt_lines, fault_texts, no_time_line}
-pub use Rattle.nj_ask.specs.DiscoveredGraphs.{doubtful_edges, faulty_edges, IsTouched}
+pub use Rattle.nj_ask.specs.DiscoveredGraphs.{doubtful_edges, edge_discoveries, faulty_edges, state_of, IsTouched}
 pub use Rattle.nj_ask.specs.Inside.Findings.{AreFindingsOf, text_if_faulty, if_doubtful, if_faulty}
 pub use Rattle.nj_graph.specs.Edges.{first_output, edge_at, is_among, outputs_of, inputs_of, maker_of}
 pub use Rattle.nj_ask.specs.Inside.Quotes.{escaped, escapes, quoted}
@@ -53,6 +53,6 @@ pub use Rattle.nj_ask.specs.NeededFaults.{IsFirstFault}
 pub use Rattle.nj_names.specs.NameTables.{with_name}
 pub use Rattle.nj_ask.specs.Inside.Reached.{AreOpened, AddsWarning, AreAffected, AreTouched, CanTellAll, CanTellAt, unnamed_warning}
 pub use Rattle.nj_graph.specs.Changes.{IsAffected}
-pub use Rattle.nj_ask.specs.Laws.{DoneMissesNothing, WarningsAreUnique}
+pub use Rattle.nj_ask.specs.Laws.{DoneMissesNothing, ListedHaveReasons, WarningsAreUnique}
 pub use Rattle.nj_ask.specs.Statuses.{exit_code}
 pub use Rattle.nj_graph.specs.Targets.{picked}

@@ -17,9 +17,12 @@ use Rattle.nj_faults.specs.Faults.{no_memory}
 use Rattle.nj_graph.specs.Graph.{edges_of, late_text_of}
 use Rattle.nj_graph.specs.ReadingList.{ReadStatement}
 use Rattle.nj_deps.specs.Logs.{LogModel}
-use Rattle.nj_discovered.specs.Discoveries.{DiscoveriesModel, discovery_at, found_at}
+use Rattle.nj_discovered.specs.Discoveries.{DiscoveriesModel, FoundModel, discovery_at, found_at}
 use Rattle.nj_discovered.specs.Times.{DeclaredTimes}
 use Rattle.nj_scope.specs.Sources.{SourceState}
+use Rattle.nj_tools.specs.declared.DiscoveryState.{DiscoveryState}
+use Rattle.nj_tools.specs.declared.DiscoveryState.TheVariants as state
+use Rattle.nj_tools.specs.declared.EdgeDiscovery.{EdgeDiscovery}
 use Rattle.nj_ask.specs.declared.discovered.Discovered.{Discovered}
 use Rattle.nj_ask.specs.declared.discovered.DiscoveredGraph.{DiscoveredGraph}
 use Rattle.nj_ask.specs.Affected.{line}
@@ -77,10 +80,29 @@ fault_text entries edge verdict = []
 abbrev pub fault_texts : List ReadStatement → DiscoveriesModel → List (List ℕ)
 fault_texts entries found = map (λ edge. fault_text entries edge (found_at found edge).verdict) (faulty_edges found)
 
+-- ---- what is known, edge by edge
+
+-- whether the inputs that builds discovered are known
+abbrev pub state_of : Verdict → DiscoveryState
+state_of Known = state.Known
+state_of (Unknown reason) = state.Unknown reason
+state_of (Faulty fault) = state.Faulty
+
+-- what builds discovered for an edge: how many implicit inputs it has without what they did, and whether that is known
+abbrev pub edge_discovery : EdgePaths → FoundModel → EdgeDiscovery
+edge_discovery e found = record { stated_inputs = length e.implicit_inputs; state = state_of found.verdict }
+
+-- the same for each of these edges, by number
+abbrev pub edge_discoveries : List EdgePaths → DiscoveriesModel → List EdgeDiscovery
+edge_discoveries edges found =
+    map (λ edge. edge_discovery (edge_at edges edge) (found_at found edge)) (range_with_len 0 (length edges))
+
 -- ---- its joining
 
 -- The inputs that edges discover are joined to the graph of these statements, by a deps log, depfiles and times, and the edges are
--- listed whose discovered inputs are not known, and those whose depfiles have a fault, with what is said of both; or the joined inputs have a dependency cycle; or memory ran out.
+-- listed whose discovered inputs are not known, and those whose depfiles have a fault, with what is said of both; of each edge it is
+-- said how many implicit inputs it had, and whether the discovered ones are known; or the joined inputs have a dependency cycle; or
+-- memory ran out.
 pub data JoinsDiscovered (before after : SourceState) (times : DeclaredTimes) (log : LogModel) (stated : List ReadStatement) :
     Result Discovered GraphFault → Type 0 where
   joined : {known : Discovered} {found : DiscoveriesModel} → AreDiscovered before after times log stated found
@@ -89,6 +111,7 @@ pub data JoinsDiscovered (before after : SourceState) (times : DeclaredTimes) (l
       → map (λ fault. fault.edge.0) known.doubts.faults.items ≡ faulty_edges found
       → map (λ fault. fault.text.items) known.doubts.faults.items ≡ fault_texts stated found
       → known.doubts.lines.items ≡ doubt_lines stated found
+      → known.doubts.discoveries.items ≡ edge_discoveries (paths_of_edges (edges_read stated)) found
       → JoinsDiscovered before after times log stated (Ok known)
   refused : {fault : GraphFault} {found : DiscoveriesModel} → AreDiscovered before after times log stated found
       → JoinsNamed (λ edge. (discovery_at found edge).inputs) stated (Err fault) → JoinsDiscovered before after times log stated (Err fault)

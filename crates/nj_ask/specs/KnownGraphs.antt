@@ -55,6 +55,7 @@ pub record IsDeclared (graph : GraphModel) (known : DiscoveredGraph) : Type 0 wh
   pub has_discovered : known.has_discovered ≡ false
   pub unknown : known.unknown.items ≡ []
   pub faults : known.faults.items ≡ []
+  pub discoveries : known.discoveries.items ≡ []
   pub caveats : known.caveats.items ≡ []
 
 -- a graph with discovered inputs, and what is not known of these and of the log
@@ -63,6 +64,7 @@ pub record IsDiscovered (found : Discovered) (caveat : List ℕ) (known : Discov
   pub has_discovered : known.has_discovered ≡ true
   pub unknown : known.unknown ≡ found.doubts.edges
   pub faults : known.faults ≡ found.doubts.faults
+  pub discoveries : known.discoveries ≡ found.doubts.discoveries
   pub caveats : known.caveats.items ≡ caveat ++ found.doubts.lines.items
 
 -- The graph of these options.

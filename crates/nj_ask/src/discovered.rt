@@ -7,6 +7,7 @@ ghost use Rattle.nj_ask.specs.Cited.{LogModel, DeclaredTimes, AreDiscovered, IsG
 use crate::doubts::{Doubts, EdgeFault, doubts_of};
 use nj_deps::DepsLog;
 use nj_graph::{Discoveries, EdgeNo, FileSource, FileTimes, Graph, GraphFault, HashKeys};
+use nj_tools::EdgeDiscovery;
 use std::alloc::{AllocError, Global};
 
 /// A graph with the inputs that builds discovered, if they are requested.
@@ -19,6 +20,9 @@ pub struct DiscoveredGraph {
     pub unknown: Vec<EdgeNo>,
     /// The faults of depfiles, by the numbers of their edges.
     pub faults: Vec<EdgeFault>,
+    /// By the numbers of edges, how many implicit inputs each has without those that were
+    /// discovered, and whether these are known. Empty if they are not requested.
+    pub discoveries: Vec<EdgeDiscovery>,
     /// Why these inputs may not be as the last build discovered them, a line each.
     pub caveats: Vec<u8>,
     /// Keys of hashes that whoever wrote the files does not know.

@@ -1,10 +1,11 @@
 //! What is not known of the inputs that builds discovered.
 
 ghost use Rattle.std.specs.Prelude.{◌≡◌, ◌++◌, ◌<◌, All, IfOk, OnOk, length, map};
-ghost use Rattle.nj_ask.specs.Cited.{OfStatements, OfEdge, paths_of, first_output, line, depfile_text, doubt_line, doubt_lines, fault_texts, no_time_line, text_if_faulty, edge_of, edges_of, doubtful_edges, faulty_edges, if_doubtful, if_faulty};
+ghost use Rattle.nj_ask.specs.Cited.{OfStatements, OfEdge, paths_of, first_output, line, depfile_text, doubt_line, doubt_lines, fault_texts, no_time_line, text_if_faulty, edge_of, edges_of, doubtful_edges, edge_discoveries, faulty_edges, state_of, if_doubtful, if_faulty};
 
 use crate::listing::push_line;
 use nj_graph::{DepfileError, Discoveries, Edge, EdgeNo, Graph, Unknown, Verdict};
+use nj_tools::{DiscoveryState, EdgeDiscovery};
 use std::alloc::{AllocError, Global};
 
 /// The fault of the depfile of an edge.
@@ -24,6 +25,9 @@ pub struct Doubts {
     pub faults: Vec<EdgeFault>,
     /// A line for each depfile with a fault, and for each output whose time cannot be read.
     pub lines: Vec<u8>,
+    /// By the numbers of edges, how many implicit inputs each has without those that were
+    /// discovered, and whether these are known.
+    pub discoveries: Vec<EdgeDiscovery>,
 }
 
 /// What is not known of these discoveries.
@@ -39,6 +43,8 @@ pub fn doubts_of(alloc: Global, graph: &Graph, found: &Discoveries) -> Result<Do
         map (λ fault. fault.text.items) doubts.faults.items ≡ fault_texts entries found.now)) }
     ensures lines { OfStatements graph.now (λ entries. IfOk result (λ doubts.
         doubts.lines.items ≡ doubt_lines entries found.now)) }
+    ensures discoveries { IfOk result (λ doubts.
+        doubts.discoveries.items ≡ edge_discoveries (edges_of graph.now) found.now) }
 {
     let mut edges = Vec::new(alloc);
     let mut lines = Vec::new(alloc);
@@ -47,11 +53,44 @@ pub fn doubts_of(alloc: Global, graph: &Graph, found: &Discoveries) -> Result<Do
         push_edge(alloc, &mut edges, edge, found.verdict(number), &mut lines)?;
     }
     let faults = faults_of(alloc, graph, found)?;
+    let discoveries = discoveries_of(alloc, graph, found)?;
     Ok(Doubts {
         edges,
         faults,
         lines,
+        discoveries,
     })
+}
+
+/// What builds discovered for each edge of a graph to which it is not joined yet.
+fn discoveries_of(
+    alloc: Global,
+    graph: &Graph,
+    found: &Discoveries,
+) -> Result<Vec<EdgeDiscovery>, AllocError>
+    requires { length found.now.edges ≡ length (edges_of graph.now) }
+    ensures { IfOk result (λ discoveries.
+        discoveries.items ≡ edge_discoveries (edges_of graph.now) found.now) }
+{
+    let mut discoveries = Vec::with_capacity(alloc, graph.edge_count())?;
+    'edges: for edge in graph.edges() {
+        discoveries.push(EdgeDiscovery {
+            stated_inputs: edge.implicit_inputs().len(),
+            state: state_of(found.verdict(edge.number().0)),
+        })?;
+    }
+    Ok(discoveries)
+}
+
+/// Whether the inputs that builds discovered are known.
+fn state_of(verdict: &Verdict) -> DiscoveryState
+    ensures { result ≡ state_of verdict.now }
+{
+    match verdict {
+        Verdict::Known => DiscoveryState::Known,
+        Verdict::Unknown(reason) => DiscoveryState::Unknown(*reason),
+        Verdict::Faulty(_) => DiscoveryState::Faulty,
+    }
 }
 
 /// Adds an edge unless its discovered inputs are known, and the line that says why not, if there is

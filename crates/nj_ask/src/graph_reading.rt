@@ -238,6 +238,7 @@ fn undiscovered(alloc: Global, graph: Graph, keys: HashKeys) -> DiscoveredGraph
         has_discovered: false,
         unknown: Vec::new(alloc),
         faults: Vec::new(alloc),
+        discoveries: Vec::new(alloc),
         caveats: Vec::new(alloc),
         keys,
     }
@@ -299,6 +300,7 @@ fn with_doubts(
         edges,
         faults,
         lines,
+        discoveries,
     } = doubts;
     let mut caveats = caveat;
     caveats.extend_from_slice(&lines)?;
@@ -307,6 +309,7 @@ fn with_doubts(
         has_discovered: true,
         unknown: edges,
         faults,
+        discoveries,
         caveats,
         keys,
     })

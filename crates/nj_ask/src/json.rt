@@ -25,7 +25,7 @@ pub(crate) fn answer_json<O: Sink>(
     ensures { OfStatements known.now.graph (λ entries.
         Returns (AnswersJson known.now entries) (O.state out.old) (O.state out.new) result) }
 {
-    match write_edge_objects(alloc, &known.graph, out) {
+    match write_edge_objects(alloc, &known.graph, &known.discoveries, out) {
         Ok(()) => {}
         Err(fault) => return Err(stopped(alloc, fault)),
     }

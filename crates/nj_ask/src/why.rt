@@ -9,7 +9,7 @@ use crate::depfiles::check_depfiles;
 use crate::discovered::DiscoveredGraph;
 use crate::failure::Failure;
 use crate::shape::caveat_lines;
-use nj_graph::File;
+use nj_graph::{ChainKinds, File};
 use nj_needs::grow_targets;
 use nj_questions::WhyOptions;
 use std::alloc::Global;
@@ -35,7 +35,11 @@ pub(crate) fn answer_why(
         Ok(()) => {}
         Err(failure) => return Err(failure),
     }
-    let chain = chain_of(alloc, from, to, options.validations)?;
+    let kinds = ChainKinds {
+        order_only: !options.no_order_only,
+        validations: options.validations,
+    };
+    let chain = chain_of(alloc, from, to, kinds, &known.discoveries)?;
     let warnings = caveat_lines(alloc, known)?;
     Ok(chain_answer(alloc, chain, warnings))
 }

@@ -4,7 +4,7 @@ use Rattle.nj_graph.specs.declared.Verdict.{Verdict}
 use Rattle.nj_graph.specs.Graph.{GraphModel, OfStatements, edges_of}
 use Rattle.nj_graph.specs.ReadingList.{ReadStatement}
 use Rattle.nj_ask.specs.declared.discovered.Findings.{Findings}
-use Rattle.nj_ask.specs.DiscoveredGraphs.{doubt_lines, doubtful_edges, fault_text, fault_texts, faulty_edges, is_doubtful, is_faulty}
+use Rattle.nj_ask.specs.DiscoveredGraphs.{doubt_lines, doubtful_edges, edge_discoveries, fault_text, fault_texts, faulty_edges, is_doubtful, is_faulty}
 use Rattle.nj_ask.specs.Joined.{AreEdgesOf}
 
 -- as many edges as the graph has, and those of them whose discovered inputs are not known, with what is said of them
@@ -15,6 +15,7 @@ pub record AreFindingsOf (g : GraphModel) (findings : Findings) : Type 0 where
   pub faulty : map (λ fault. fault.edge.0) findings.doubts.faults.items ≡ faulty_edges findings.found
   pub texts : OfStatements g (λ entries. map (λ fault. fault.text.items) findings.doubts.faults.items ≡ fault_texts entries findings.found)
   pub lines : OfStatements g (λ entries. findings.doubts.lines.items ≡ doubt_lines entries findings.found)
+  pub discoveries : findings.doubts.discoveries.items ≡ edge_discoveries (edges_of g) findings.found
 
 -- the number of an edge, where its discovered inputs are not known
 abbrev pub if_doubtful : Verdict → (edge : ℕ) → List ℕ

@@ -3,8 +3,9 @@ use Rattle.nj_graph.specs.Graph.{edges_of}
 use Rattle.nj_graph.specs.Handles.{file_of}
 use Rattle.nj_graph.specs.Targets.{picked}
 use Rattle.nj_questions.specs.Questions.{why_model}
-use Rattle.nj_ask.specs.Answers.{AnswersWhy, HasDepfileFault, needed_from}
+use Rattle.nj_ask.specs.Answers.{AnswersWhy, HasDepfileFault, kinds_asked, needed_from}
 use Rattle.nj_ask.specs.Inside.AnswerParts.{SaysErr}
+use Rattle.nj_ask.specs.Inside.ChainTexts.{IsChainText}
 use Rattle.nj_ask.specs.declared.status.Status.TheVariants.{Fault}
 use Rattle.nj_ask.proofs.PartLemmas.{gives-refused}
 use Rattle.nj_ask.proofs.WhyLemmas.{why-no-depfile, why-no-end, why-no-start, why-told}
@@ -62,6 +63,8 @@ returns c entries graph =
     c.in-Ok-file_asked.ensures.picked in
     let answer = c.chain_answer.result in
     why-told known entries options from to c.in-Ok.ensures.of start end c.in-Ok-check_needed.ensures.clear
-    c.in_ok-chain.chain c.in_ok-chain.ensures answer.output.items answer.looks answer.warnings.items
+    c.in_ok-chain.chain
+    (subst (λ ds. IsChainText from to (kinds_asked options) ds c.in_ok-chain.chain) c.deref.ensures.value
+    c.in_ok-chain.ensures) answer.output.items answer.looks answer.warnings.items
     c.chain_answer.ensures.output c.chain_answer.ensures.looks
     (ap (λ v. v.items) c.chain_answer.ensures.warnings ∙ c.in_ok-warnings.ensures entries graph)
