@@ -60,14 +60,14 @@ ends-unshown text taken same fails error = output_fails {ending = answered false
 -- a task is of a subcommand that is answered here
 pub task-answered : (subject : SubjectModel) (asked : Task) → IsTask subject asked
     → is_answered subject ≡ true
-task-answered subject (task.Affected options) is = rw is refl
+task-answered subject (task.Affected options) is = rw is.0 refl
 task-answered subject task.Json is = rw is refl
 task-answered subject (task.Keys options page) is = rw is.0 refl
 task-answered subject (task.Why options) is = rw is refl
 
 -- and its options are not refused
 pub task-taken : (subject : SubjectModel) (asked : Task) → IsTask subject asked → misuse subject ≡ None
-task-taken subject (task.Affected options) is = rw is refl
+task-taken subject (task.Affected options) is = rw is.0 is.1
 task-taken subject task.Json is = rw is refl
 task-taken subject (task.Keys options page) is = rw is.0 is.1.allowed
 task-taken subject (task.Why options) is = rw is refl
@@ -89,7 +89,7 @@ module _ (known : DiscoveredGraph) (entries : List ReadStatement) (input : List 
       → IsTask subject asked
       → Returns (AnswersAffected known entries (affected_model options.now) input) old new reported
       → Returns (Answers known entries subject input) old new reported
-  affected-returns options same is returns = rw (subst (IsTask subject) same is) returns
+  affected-returns options same is returns = rw (subst (IsTask subject) same is).0 returns
 
   pub why-returns : (options : Bor WhyOptions) → asked ≡ task.Why options → IsTask subject asked
       → Returns (AnswersWhy known entries (why_model options.now)) old new reported

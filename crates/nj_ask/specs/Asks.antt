@@ -11,7 +11,7 @@ use Rattle.nj_questions.specs.declared.refusals.Refusal.TheVariants as refusal
 use Rattle.nj_ask.specs.declared.discovered.DiscoveredGraph.{DiscoveredGraph}
 use Rattle.nj_ask.specs.declared.status.Status.{Status}
 use Rattle.nj_ask.specs.declared.status.Status.TheVariants.{Fault, Usage}
-use Rattle.nj_ask.specs.Answers.{AnswersAffected, AnswersJson, AnswersKeys, AnswersWhy, asked_mark, keys_misuse}
+use Rattle.nj_ask.specs.Answers.{AnswersAffected, AnswersJson, AnswersKeys, AnswersWhy, asked_mark, folder_misuse, keys_misuse}
 use Rattle.nj_ask.specs.Endings.{Ending, Ends, Reported, Sinks, answered, memory_line, program_line, refused}
 use Rattle.nj_ask.specs.KnownGraphs.{KnowsGraph, LacksGraph, Sources, sources_of}
 
@@ -29,6 +29,7 @@ Answers known entries (why options) input output ending = AnswersWhy known entri
 
 -- why its options are refused before anything is read
 abbrev pub misuse : SubjectModel → Option (List ℕ)
+misuse (affected options) = folder_misuse options.source_dir
 misuse (keys options) = keys_misuse options
 misuse other = None
 

@@ -1,7 +1,7 @@
 //! The answer to `affected`.
 
-ghost use Rattle.std.specs.Prelude.{◌≡◌, [], IfOk, false, option_map, string_bytes};
-ghost use Rattle.nj_ask.specs.Cited.{AnswersAffected, Gives, HasEdges, OfStatements, affected_model, asked_of, change_asked, change_model, no_path_line, outputs_asked, texts};
+ghost use Rattle.std.specs.Prelude.{◌≡◌, [], None, Some, IfErr, IfOk, false, option_map, string_bytes};
+ghost use Rattle.nj_ask.specs.Cited.{AnswersAffected, Gives, HasEdges, OfStatements, affected_model, asked_of, folder_misuse, FailsBy, Usage, change_asked, change_model, no_path_line, outputs_asked, texts};
 
 use crate::answer::Answer;
 use crate::discovered::DiscoveredGraph;
@@ -44,6 +44,25 @@ pub(crate) fn answer_affected(
     let change = change_of(options, &paths);
     let listed = listed_by(options);
     Ok(report_of(alloc, known, change, listed)?)
+}
+
+/// Refuses options whose directory has no name.
+pub(crate) fn check_folder(alloc: Global, options: &AffectedOptions) -> Result<(), Failure>
+    ensures allowed { IfOk result (λ _.
+        folder_misuse (affected_model options.now).source_dir ≡ None) }
+    ensures refused { IfErr result (FailsBy Usage (λ line.
+        folder_misuse (affected_model options.now).source_dir ≡ Some line)) }
+{
+    match &options.source_dir {
+        Some(folder) if folder.is_empty() => Err(Failure::in_words(
+            alloc,
+            b"'",
+            folder.as_bytes(),
+            b"' of --source-dir is no directory",
+            Status::Usage,
+        )),
+        _ => Ok(()),
+    }
 }
 
 /// The answer where no path was given.

@@ -3,7 +3,7 @@
 ghost use Rattle.std.specs.Prelude.{◌≡◌, Ok, IfOk, IfErr, OnErr, None, Some, option_map, true};
 ghost use Rattle.nj_ask.specs.Cited.{around, AsksWith, AnswersTask, IsGiven, IsTask, IsTaken, OfStatements, HasEdges, question_model, subject_model, FailsBy, Usage, misuse, ended_status, is_answered};
 
-use crate::affected::answer_affected;
+use crate::affected::{answer_affected, check_folder};
 use crate::answer::{Told, conclude, deliver};
 use crate::discovered::DiscoveredGraph;
 use crate::failure::Failure;
@@ -85,7 +85,10 @@ fn task_of<'q>(alloc: Global, subject: &'q Subject) -> Result<Option<Task<'q>>, 
     ensures answered { OnErr result (is_answered (subject_model subject.entry.now) ≡ true) }
 {
     match subject {
-        Subject::Affected(options) => Ok(Some(Task::Affected(options))),
+        Subject::Affected(options) => match check_folder(alloc, options) {
+            Ok(()) => Ok(Some(Task::Affected(options))),
+            Err(failure) => Err(failure),
+        },
         Subject::Json => Ok(Some(Task::Json)),
         Subject::Keys(options) => match page_asked(alloc, options) {
             Ok(page) => Ok(Some(Task::Keys(options, page))),

@@ -2,7 +2,7 @@
 
 ghost use Rattle.std.specs.Prelude.{◌≡◌, ◌≢◌, ◌++◌, ◌∷◌, [], true, false, None, Ok, Some, IfErr, IfOk, OnOk, map, string_bytes, codes};
 ghost use Rattle.nj_needs.specs.MarkFaults.{fault_text};
-ghost use Rattle.nj_ask.specs.Cited.{Fault, Usage, OfStatements, clean_path_of, is_absolute, given_mark, leads, caveat_text, mark_line, program_line, AnswersKeys, FailsBy, Gives, IsPageOf, SaysErr, asked_mark, asked_targets, base_misuse, keys_misuse, keys_model};
+ghost use Rattle.nj_ask.specs.Cited.{Fault, Usage, OfStatements, clean_path_of, is_absolute, given_mark, leads, caveat_text, mark_line, program_line, AnswersKeys, FailsBy, Gives, IsPageOf, SaysErr, asked_mark, asked_targets, base_misuse, keys_misuse, keys_model, mark_misuse};
 
 use crate::answer::Answer;
 use crate::depfiles::check_depfiles;
@@ -93,12 +93,25 @@ fn add_base(alloc: Global, bases: &mut Bases, path: &[u8]) -> Result<(), Failure
 /// The mark in a text.
 fn mark_of(alloc: Global, text: &str) -> Result<Mark, Failure>
     ensures mark { IfOk result (λ mark. given_mark text.now ≡ Some mark) }
-    ensures refused { IfErr result (FailsBy Usage (λ line. (given_mark text.now ≡ None)
-        × (line ≡ program_line (codes "bad mark")))) }
+    ensures refused { IfErr result (FailsBy Usage (λ line.
+        mark_misuse text.now (given_mark text.now) ≡ Some line)) }
 {
     match Mark::read(alloc, text) {
         Ok(mark) => Ok(mark),
-        Err(fault) => Err(mark_failure(alloc, fault, Status::Usage)),
+        Err(fault) => Err(unread_mark(alloc, text, fault)),
+    }
+}
+
+/// That a text is not read as a mark, for this reason.
+fn unread_mark(alloc: Global, text: &str, fault: MarkFault) -> Failure
+    ensures { FailsBy Usage (λ line. (fault ≢ MarkFault.OutOfMemory)
+        × (line ≡ program_line (codes "bad mark '" ++ text.now ++ codes "'"))) result }
+{
+    match fault {
+        MarkFault::BadMark | MarkFault::MarkOutOfRange => {
+            Failure::in_words(alloc, b"bad mark '", text.as_bytes(), b"'", Status::Usage)
+        }
+        MarkFault::OutOfMemory => Failure::OutOfMemory,
     }
 }
 
@@ -145,7 +158,7 @@ pub(crate) fn answer_keys(
 }
 
 /// The files that words mean; the default ones if there are none.
-fn targets_asked<'k>(
+pub(crate) fn targets_asked<'k>(
     alloc: Global,
     known: &'k DiscoveredGraph,
     words: &[String],
@@ -164,7 +177,7 @@ fn targets_asked<'k>(
 }
 
 /// The texts of words.
-fn texts_of<'w>(alloc: Global, words: &'w [String]) -> Result<Vec<&'w str>, AllocError>
+pub(crate) fn texts_of<'w>(alloc: Global, words: &'w [String]) -> Result<Vec<&'w str>, AllocError>
     ensures { IfOk result (λ texts.
         map (λ text. text.now) texts.items ≡ map string_bytes words.entry.now) }
 {

@@ -15,7 +15,7 @@ use Rattle.nj_ask.specs.declared.keys.PageAsked.{PageAsked}
 use Rattle.nj_ask.specs.declared.failure.Failure.{Failure}
 use Rattle.nj_ask.specs.declared.failure.Failure.TheVariants.{Refused, OutOfMemory}
 use Rattle.nj_ask.specs.declared.status.Status.TheVariants.{Fault}
-use Rattle.nj_ask.specs.Answers.{asked_mark, keys_misuse}
+use Rattle.nj_ask.specs.Answers.{asked_mark, folder_misuse, keys_misuse}
 use Rattle.nj_ask.specs.AskedWords.{is_answered}
 use Rattle.nj_ask.specs.Asks.{Answers}
 use Rattle.nj_ask.specs.Inside.Failures.{Returns}
@@ -31,7 +31,8 @@ pub record IsPageAsked (options : KeysModel) (page : PageAsked) : Type 0 where
 
 -- a task asks this, and its options are taken
 abbrev pub IsTask : SubjectModel → Task → Type 0
-IsTask subject (task.Affected options) = subject ≡ affected (affected_model options.now)
+IsTask subject (task.Affected options) =
+    (subject ≡ affected (affected_model options.now)) × (folder_misuse (affected_model options.now).source_dir ≡ None)
 IsTask subject task.Json = subject ≡ json
 IsTask subject (task.Keys options page) = (subject ≡ keys (keys_model options.now)) × IsPageAsked (keys_model options.now) page
 IsTask subject (task.Why options) = subject ≡ why (why_model options.now)
