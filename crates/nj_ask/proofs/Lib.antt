@@ -19,3 +19,4 @@ mod DoubtLemmas
 mod PartLemmas
 mod WhyLemmas
 mod KeysLemmas
+mod ClosureLaw

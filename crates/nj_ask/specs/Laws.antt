@@ -1,8 +1,9 @@
 -- What status 0 of `affected` means, and that a report is determined.
-use Rattle.std.specs.Prelude.{◌≡◌, ◌⊎◌, ℕ, true, false, Some, List, [], ◌∷◌, Contains}
+use Rattle.std.specs.Prelude.{◌≡◌, ◌⊎◌, ◌↔◌, ℕ, Bool, true, false, Some, List, [], ◌∷◌, Contains, map}
 use Rattle.nj_graph.specs.ReadingList.{ReadStatement}
 use Rattle.nj_graph.specs.Changes.{has_input_of, IsOrNeeds}
-use Rattle.nj_graph.specs.Edges.{edge_at}
+use Rattle.nj_graph.specs.Dirty.{has_counted_input_of, has_output_of}
+use Rattle.nj_graph.specs.Edges.{EdgePaths, edge_at, outputs_of}
 use Rattle.nj_graph.specs.Graph.{GraphModel, edges_of, files_of}
 use Rattle.nj_tools.specs.Sinks.{SinkState, Takes}
 use Rattle.nj_questions.specs.Questions.{AffectedModel}
@@ -13,7 +14,7 @@ use Rattle.nj_ask.specs.Answers.{AnswersAffected, change_asked, outputs_asked}
 use Rattle.nj_ask.specs.Endings.{Ends, Sinks}
 use Rattle.nj_ask.specs.Lines.{lines_of}
 use Rattle.nj_ask.specs.Manifest.{is_one_of, is_opened, makes_manifest, opened_files, path_of}
-use Rattle.nj_ask.specs.Reports.{ChangeModel, changed_numbers, HasWarnings, IsTouchedBy, IsUnnamed}
+use Rattle.nj_ask.specs.Reports.{ChangeModel, changed_numbers, changed_paths, HasWarnings, IsReport, IsTouchedBy, IsUnnamed}
 use Rattle.nj_ask.specs.Shape.{shape_text}
 
 -- A changed path names a file that was not opened and that no edge which makes the manifest needs.
@@ -53,3 +54,26 @@ DoneMissesNothing = (known : DiscoveredGraph) (entries : List ReadStatement) (op
 abbrev pub WarningsAreUnique : Type 0
 WarningsAreUnique = (g : GraphModel) (entries : List ReadStatement) (q : ChangeModel) (paths : List (List ℕ))
     (text other : List ℕ) → HasWarnings g entries q paths text → HasWarnings g entries q paths other → text ≡ other
+
+-- ---- what is listed is closed
+
+-- Why an edge is listed beside others: one of its inputs changed, or is an output of one of them. With what builds discovered,
+-- order-only inputs do not count, and it is also a reason that what the edge discovers is not known, or that an output of it changed.
+abbrev pub HasReason : (has_discovered : Bool) → List EdgePaths → (changed : List (List ℕ)) → (unknown listed : List ℕ) → (edge : ℕ)
+    → Type 0
+HasReason false edges changed unknown listed edge =
+    (has_input_of changed (edge_at edges edge) ≡ true)
+    ⊎ ((other : ℕ) × Contains listed other × (has_input_of (outputs_of (edge_at edges other)) (edge_at edges edge) ≡ true))
+HasReason true edges changed unknown listed edge =
+    Contains unknown edge
+    ⊎ (has_output_of changed (edge_at edges edge) ≡ true)
+    ⊎ (has_counted_input_of changed (edge_at edges edge) ≡ true)
+    ⊎ ((other : ℕ) × Contains listed other × (has_counted_input_of (outputs_of (edge_at edges other)) (edge_at edges edge) ≡ true))
+
+-- The edges whose outputs a report lists are exactly those with a reason.
+abbrev pub ListedHaveReasons : Type 0
+ListedHaveReasons = (known : DiscoveredGraph) (entries : List ReadStatement) (q : ChangeModel) (asked : Asked)
+    (outputs warnings : List ℕ) (report : IsReport known entries q asked outputs warnings) (edge : ℕ)
+    → Contains report.lists.edges edge
+    ↔ HasReason known.has_discovered (edges_of known.graph) (changed_paths known.graph q)
+    (map (λ edge. edge.0) known.unknown.items) report.lists.edges edge

@@ -1,7 +1,7 @@
 //! A report about a change of files.
 
 ghost use Rattle.std.specs.Prelude.{◌≡◌, ◌<◌, ◌++◌, All, IfOk, OnOk, false, length, map};
-ghost use Rattle.nj_ask.specs.Cited.{OfStatements, IsAffected, path_at, edges_of, files_of, asked_of, IsTouched, made_from_line, change_model, texts, DoneMissesNothing, HasWarnings, IsReport, WarningsAreUnique, HasEdges, AddsWarning, AreAffected, AreOpened, AreTouched, CanTellAll, CanTellAt, unnamed_warning};
+ghost use Rattle.nj_ask.specs.Cited.{OfStatements, IsAffected, path_at, edges_of, files_of, asked_of, IsTouched, made_from_line, change_model, texts, DoneMissesNothing, ListedHaveReasons, HasWarnings, IsReport, WarningsAreUnique, HasEdges, AddsWarning, AreAffected, AreOpened, AreTouched, CanTellAll, CanTellAt, unnamed_warning};
 
 use crate::answer::Answer;
 use crate::changes::{find_file, known_files};
@@ -180,8 +180,10 @@ fn push_made_from(lines: &mut Vec<u8>, path: &[u8]) -> Result<(), AllocError>
 
 /// Where `affected` ends with status 0, each changed path names a file that was not opened and
 /// that no edge which makes the manifest needs, and the outputs that were written are all that it
-/// affects; some paths have one text of warnings only.
+/// affects; some paths have one text of warnings only. The edges whose outputs are listed are
+/// exactly those with a reason: a changed input, or an output of a listed edge.
 pub fn report_law()
     ensures complete { DoneMissesNothing }
     ensures unique { WarningsAreUnique }
+    ensures closed { ListedHaveReasons }
 {}

@@ -1,3 +1,4 @@
+use Rattle.nj_ask.proofs.ClosureLaw.{have-reasons}
 use Rattle.nj_ask.proofs.ReportLaws.{complete, unique}
 use Rattle.nj_ask.proofs.report.report_law.Goals as goal
 
@@ -6,3 +7,6 @@ returns-clause-complete c = complete
 
 pub returns-clause-unique : goal.returns-clause-unique
 returns-clause-unique c = unique
+
+pub returns-clause-closed : goal.returns-clause-closed
+returns-clause-closed c = have-reasons
