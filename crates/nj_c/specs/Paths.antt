@@ -1,5 +1,6 @@
 -- Chains of inputs by which files need others.
-use Rattle.std.specs.Prelude.{◌≡◌, ◌≢◌, ◌⊎◌, ℕ, ℤ, Bool, Option, Some, None, List, map, length}
+use Rattle.std.specs.Prelude.{◌≡◌, ◌≢◌, ◌⊎◌, ℕ, ℤ, Bool, true, Option, Some, None, List, map, length}
+use Rattle.nj_edges.specs.declared.chains.ChainKinds.{ChainKinds}
 use Rattle.nj_edges.specs.declared.chains.Step.{Step}
 use Rattle.nj_edges.specs.EdgeGraphs.{EdgeGraph}
 use Rattle.nj_edges.specs.Chains.{PathIs}
@@ -19,10 +20,14 @@ GivesSteps None before after count result = result ≡ code_of Nothing
 GivesSteps (Some steps) before after count result =
     (result ≡ code_of Done) × (count ≡ length steps) × (after ≡ filled (map numbered_step steps) before)
 
+-- all kinds of inputs, and validations too if they count as inputs
+abbrev pub every_kind : (with_validations : Bool) → ChainKinds
+every_kind with_validations = record { order_only = true; validations = with_validations }
+
 -- so were those of a shortest chain from a file to another, if there is one; or an allocation failed
 abbrev pub GivesPath : EdgeGraph → (with_validations : Bool) → (from to : ℕ) → (before after : List PathStep) → (count : ℕ) → ℤ → Type 0
 GivesPath g with_validations from to before after count result =
-    ((path : Option (List Step)) × PathIs g with_validations (record { 0 = from }) (record { 0 = to }) path
+    ((path : Option (List Step)) × PathIs g (every_kind with_validations) (record { 0 = from }) (record { 0 = to }) path
     × GivesSteps path before after count result)
     ⊎ (result ≡ code_of OutOfMemory)
 

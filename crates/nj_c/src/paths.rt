@@ -8,7 +8,7 @@ use crate::items::step_kind_number;
 use crate::session::Session;
 use crate::status::Status;
 use nj_edges::Step;
-use nj_graph::{EdgeGraph, FileNo};
+use nj_graph::{ChainKinds, EdgeGraph, FileNo};
 use std::alloc::Global;
 
 /// A step of a chain: from an edge to one of its inputs, which the edge of the next step makes.
@@ -68,7 +68,11 @@ fn give_path(
         steps.old steps.new count.new (code_of result) }
     ensures buffer { StepsKeptUnlessDone steps.old steps.new (code_of result) }
 {
-    match graph.path_between(alloc, from, to, with_validations) {
+    let kinds = ChainKinds {
+        order_only: true,
+        validations: with_validations,
+    };
+    match graph.path_between(alloc, from, to, kinds) {
         Ok(Some(found)) => {
             *count = found.as_slice().len();
             write_steps(&found, steps);
