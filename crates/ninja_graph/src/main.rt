@@ -3,7 +3,6 @@
 
 mod audit;
 mod disk;
-mod draw;
 mod findings;
 mod setting;
 mod sources;
@@ -67,7 +66,7 @@ fn ask(rt: HostRuntime, read: &Result<Question, Refusal>, input: &[u8]) -> Statu
     }
 }
 
-/// The answer to `audit` or `draw`.
+/// The answer to `audit`.
 #[inline(never)]
 fn answer(rt: HostRuntime, read: &Result<Question, Refusal>) -> Result<Answer, Failure> {
     let Ok(question) = read else {
@@ -75,7 +74,6 @@ fn answer(rt: HostRuntime, read: &Result<Question, Refusal>) -> Result<Answer, F
     };
     match &question.subject {
         Subject::Audit(options) => audit::answer(rt, &question.graph, options),
-        Subject::Draw(options) => draw::answer(rt, &question.graph, options),
         _ => Err(Failure::OutOfMemory),
     }
 }

@@ -6,8 +6,9 @@ use Rattle.nj_discovered.specs.Times.{DeclaredTimes}
 use Rattle.nj_tools.specs.Sinks.{FailsWithin, SinkState, Takes}
 use Rattle.nj_tools.proofs.SinkLemmas.{Takes-nil}
 use Rattle.nj_questions.specs.Questions.{QuestionModel, SubjectModel, affected, audit, draw, json, keys, why}
-use Rattle.nj_questions.specs.Questions.{affected_model, keys_model, why_model}
+use Rattle.nj_questions.specs.Questions.{affected_model, draw_model, keys_model, why_model}
 use Rattle.nj_questions.specs.declared.questions.AffectedOptions.{AffectedOptions}
+use Rattle.nj_questions.specs.declared.questions.DrawOptions.{DrawOptions}
 use Rattle.nj_questions.specs.declared.questions.KeysOptions.{KeysOptions}
 use Rattle.nj_questions.specs.declared.questions.WhyOptions.{WhyOptions}
 use Rattle.nj_graph.specs.ReadingList.{ReadStatement}
@@ -21,7 +22,7 @@ use Rattle.nj_ask.specs.declared.keys.PageAsked.{PageAsked}
 use Rattle.nj_ask.specs.declared.status.Status.{Status}
 use Rattle.nj_ask.specs.declared.status.Status.TheVariants.{Done, Fault, OutputFailed, Usage}
 use Rattle.nj_ask.specs.AskedWords.{is_answered}
-use Rattle.nj_ask.specs.Answers.{AnswersAffected, AnswersKeys, AnswersWhy}
+use Rattle.nj_ask.specs.Answers.{AnswersAffected, AnswersDraw, AnswersKeys, AnswersWhy}
 use Rattle.nj_ask.specs.Asks.{Answers, Around, Asks, IsRefusal, misuse}
 use Rattle.nj_ask.specs.Asks.Asks.{by_graph, lacks_graph, lacks_memory, misused}
 use Rattle.nj_ask.specs.Endings.{Ends, Reported, Sinks, answered}
@@ -61,6 +62,7 @@ ends-unshown text taken same fails error = output_fails {ending = answered false
 pub task-answered : (subject : SubjectModel) (asked : Task) → IsTask subject asked
     → is_answered subject ≡ true
 task-answered subject (task.Affected options) is = rw is.0 refl
+task-answered subject (task.Draw options) is = rw is refl
 task-answered subject task.Json is = rw is refl
 task-answered subject (task.Keys options page) is = rw is.0 refl
 task-answered subject (task.Why options) is = rw is refl
@@ -68,6 +70,7 @@ task-answered subject (task.Why options) is = rw is refl
 -- and its options are not refused
 pub task-taken : (subject : SubjectModel) (asked : Task) → IsTask subject asked → misuse subject ≡ None
 task-taken subject (task.Affected options) is = rw is.0 is.1
+task-taken subject (task.Draw options) is = rw is refl
 task-taken subject task.Json is = rw is refl
 task-taken subject (task.Keys options page) is = rw is.0 is.1.allowed
 task-taken subject (task.Why options) is = rw is refl
@@ -90,6 +93,11 @@ module _ (known : DiscoveredGraph) (entries : List ReadStatement) (input : List 
       → Returns (AnswersAffected known entries (affected_model options.now) input) old new reported
       → Returns (Answers known entries subject input) old new reported
   affected-returns options same is returns = rw (subst (IsTask subject) same is).0 returns
+
+  pub draw-returns : (options : Bor DrawOptions) → asked ≡ task.Draw options → IsTask subject asked
+      → Returns (AnswersDraw known entries (draw_model options.now)) old new reported
+      → Returns (Answers known entries subject input) old new reported
+  draw-returns options same is returns = rw (subst (IsTask subject) same is) returns
 
   pub why-returns : (options : Bor WhyOptions) → asked ≡ task.Why options → IsTask subject asked
       → Returns (AnswersWhy known entries (why_model options.now)) old new reported

@@ -20,3 +20,10 @@ mod PartLemmas
 mod WhyLemmas
 mod KeysLemmas
 mod ClosureLaw
+mod DrawnLemmas
+mod DrawingLemmas
+mod DrawLemmas
+mod DrawnLaws
+mod NeededLaws
+mod DrawRows
+mod MentionLemmas

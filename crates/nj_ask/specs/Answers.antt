@@ -17,12 +17,13 @@ use Rattle.nj_keys.specs.Keys.{ListsKeys}
 use Rattle.nj_keys.specs.Pages.{leads, left_at, BeginsAfter}
 use Rattle.nj_tools.specs.Compdb.{text_fault}
 use Rattle.nj_tools.specs.EdgeObjects.{edge_lines, unwritable_edge}
-use Rattle.nj_questions.specs.Questions.{AffectedModel, KeysModel, WhyModel}
+use Rattle.nj_questions.specs.Questions.{AffectedModel, DrawModel, KeysModel, WhyModel}
 use Rattle.nj_ask.specs.declared.discovered.DiscoveredGraph.{DiscoveredGraph}
 use Rattle.nj_ask.specs.declared.doubts.EdgeFault.{EdgeFault}
 use Rattle.nj_ask.specs.declared.status.Status.TheVariants.{Fault}
 use Rattle.nj_ask.specs.Affected.{Asked, unknown_rule}
 use Rattle.nj_ask.specs.Chains.{HasChain, LacksChain}
+use Rattle.nj_ask.specs.Drawings.{IsDrawing}
 use Rattle.nj_ask.specs.Endings.{Ending, answered, fault_line, program_line, refused}
 use Rattle.nj_ask.specs.Lines.{lines_of}
 use Rattle.nj_ask.specs.NeededFaults.{IsFirstFault}
@@ -166,3 +167,16 @@ pub data AnswersJson (known : DiscoveredGraph) (entries : List ReadStatement) : 
   not_text : {edge : ℕ} → unwritable_edge entries known.discoveries.items ≡ Some edge
       → AnswersJson known entries (edge_lines entries known.discoveries.items)
       (refused (fault_line (text_fault entries edge)) Fault)
+
+-- ---- `draw`
+
+-- `draw`: the edges that the targets need, where a depfile with a fault is refused as in `why`; or those that a change of them touches
+pub data AnswersDraw (known : DiscoveredGraph) (entries : List ReadStatement) (options : DrawModel) :
+    (output : List ℕ) → Ending → Type 0 where
+  no_target : {fault : GraphFault} → asked_targets known.graph options.targets ≡ Err fault
+      → AnswersDraw known entries options [] (refused (fault_line fault) Fault)
+  no_depfile : {paths : List (List ℕ)} {line : List ℕ} → asked_targets known.graph options.targets ≡ Ok paths
+      → options.affected ≡ false → HasDepfileFault known paths line → AnswersDraw known entries options [] (refused line Fault)
+  drawing : {paths : List (List ℕ)} {text : List ℕ} → asked_targets known.graph options.targets ≡ Ok paths
+      → (options.affected ≡ true) ⊎ IsClear known paths → IsDrawing known options paths text
+      → AnswersDraw known entries options text (answered false (caveat_text known entries))

@@ -1,7 +1,7 @@
 -- What arguments do, by their question.
 use Rattle.std.specs.Prelude.{◌≡◌, ◌⊎◌, ℕ, Bool, true, false, Option, Some, None, Result, Ok, Err, List, IfOk, IfErr}
 use Rattle.nj_discovered.specs.Times.{DeclaredTimes}
-use Rattle.nj_questions.specs.Questions.{SubjectModel, audit, draw, question_model}
+use Rattle.nj_questions.specs.Questions.{SubjectModel, audit, question_model}
 use Rattle.nj_questions.specs.QuestionOf.{question_of, refusal_model}
 use Rattle.nj_questions.specs.declared.questions.Question.{Question}
 use Rattle.nj_questions.specs.declared.refusals.Refusal.{Refusal}
@@ -10,10 +10,9 @@ use Rattle.nj_ask.specs.declared.asking.Ended.{Ended}
 use Rattle.nj_ask.specs.declared.status.Status.{Status}
 use Rattle.nj_ask.specs.Asks.{Around, Asks, Refuses}
 
--- `audit` and `draw` are left to the program
+-- `audit` is left to the program
 abbrev pub is_answered : SubjectModel → Bool
 is_answered (audit options) = false
-is_answered (draw options) = false
 is_answered other = true
 
 -- By a question, or by what refuses the arguments. Of a question that is left nothing is done, and there is no status.

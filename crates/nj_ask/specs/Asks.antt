@@ -11,17 +11,17 @@ use Rattle.nj_questions.specs.declared.refusals.Refusal.TheVariants as refusal
 use Rattle.nj_ask.specs.declared.discovered.DiscoveredGraph.{DiscoveredGraph}
 use Rattle.nj_ask.specs.declared.status.Status.{Status}
 use Rattle.nj_ask.specs.declared.status.Status.TheVariants.{Fault, Usage}
-use Rattle.nj_ask.specs.Answers.{AnswersAffected, AnswersJson, AnswersKeys, AnswersWhy, asked_mark, folder_misuse, keys_misuse}
+use Rattle.nj_ask.specs.Answers.{AnswersAffected, AnswersDraw, AnswersJson, AnswersKeys, AnswersWhy, asked_mark, folder_misuse, keys_misuse}
 use Rattle.nj_ask.specs.Endings.{Ending, Ends, Reported, Sinks, answered, memory_line, program_line, refused}
 use Rattle.nj_ask.specs.KnownGraphs.{KnowsGraph, LacksGraph, Sources, sources_of}
 
 -- ---- by its graph
 
--- `audit` and `draw` are not answered here
+-- `audit` is not answered here
 abbrev pub Answers : DiscoveredGraph → List ReadStatement → SubjectModel → (input : List ℕ) → (output : List ℕ) → Ending → Type 0
 Answers known entries (affected options) input output ending = AnswersAffected known entries options input output ending
 Answers known entries (audit options) input output ending = ⊥
-Answers known entries (draw options) input output ending = ⊥
+Answers known entries (draw options) input output ending = AnswersDraw known entries options output ending
 Answers known entries json input output ending = AnswersJson known entries output ending
 Answers known entries (keys options) input output ending =
     AnswersKeys known entries options (unwrap_or (asked_mark options) []) output ending

@@ -1,22 +1,27 @@
 -- What the contracts of this crate cite: each name comes from the module in its line.
-pub use Rattle.nj_ask.specs.Answers.{AnswersAffected, folder_misuse, change_asked, outputs_asked, HasDepfileFault, IsClear, AnswersJson}
-pub use Rattle.nj_ask.specs.Answers.{AnswersKeys, asked_mark, asked_targets, keys_misuse, mark_misuse, AnswersWhy, needed_from}
+pub use Rattle.nj_ask.specs.Answers.{AnswersAffected, folder_misuse, change_asked, outputs_asked, HasDepfileFault, IsClear, AnswersDraw}
+pub use Rattle.nj_ask.specs.Answers.{AnswersJson, AnswersKeys, asked_mark, asked_targets, keys_misuse, mark_misuse, AnswersWhy, needed_from}
 pub use Rattle.nj_ask.specs.Inside.Failures.{Gives, Returns, Stops}
 pub use Rattle.nj_ask.specs.Joined.{HasEdges, Follows, HasDoubtfulEdges}
 pub use Rattle.nj_graph.specs.Graph.{OfStatements, files_of, IsGraphOf, edges_of, rule_name}
-pub use Rattle.nj_questions.specs.Questions.{affected_model, question_model, subject_model, asked_graph, keys_model, why_model}
+pub use Rattle.nj_questions.specs.Questions.{affected_model, question_model, subject_model, draw_model, asked_graph, keys_model, why_model}
 pub use Rattle.nj_ask.specs.Inside.Lent.{asked_of, change_model, texts}
 pub use Rattle.nj_ask.specs.Results.{FailsBy, Delivers, WritesAnswer, ConcludesTold, SaysFault}
 pub use Rattle.nj_ask.specs.declared.status.Status.TheVariants.{Usage, Fault}
 pub use Rattle.nj_ask.specs.Reports.{no_path_line, made_from_line, HasWarnings, IsReport}
 pub use Rattle.nj_ask.specs.Endings.{Concludes, Reported, answered, memory_line, program_line}
+pub use Rattle.std.specs.List.{flat_map, filter_map, filter, list_any, fold, range_with_len}
+pub use Rattle.nj_graph.specs.Handles.{edge_of, file_of, GraphEdge, paths_of, OfEdge, edges_in, files_in, detail_of_edge}
+pub use Rattle.nj_ask.specs.Drawings.{End, arrow_line, arrows_from, arrows_to, drawn_ends, edge_arrows, end_at, ends, ends_after}
+pub use Rattle.nj_ask.specs.Drawings.{ends_before, node_arrows, stated_count, count_line, drawing_text, IsDrawing, label, node_line}
+pub use Rattle.nj_ask.specs.Drawings.{edge_look, ellipse_look, left_out, more_text, node_look, node_name, point_look}
+pub use Rattle.nj_ask.specs.Inside.NodeLists.{node_model, is_full, AreFlagsWithin, SameFlags, SetsFlag, UnsetsFlag}
+pub use Rattle.nj_ask.specs.DrawnNodes.{of_edge, drawn_nodes, has_node, mention, mention_edge, node_of, is_folded}
 pub use Rattle.nj_ask.specs.Asks.{around, misuse, Refuses, sinks_of}
 pub use Rattle.nj_ask.specs.AskedWords.{AsksWith, ended_status, is_answered, AsksWords}
 pub use Rattle.nj_ask.specs.Inside.Asking.{AnswersTask, IsGiven, IsTask, IsTaken}
-pub use Rattle.nj_graph.specs.Handles.{edge_of, file_of, paths_of, OfEdge, detail_of_edge}
 pub use Rattle.nj_ask.specs.Chains.{is_discovered, kind_end, kind_word, place_text}
 pub use Rattle.nj_ask.specs.Inside.ChainTexts.{step_line, IsChainText}
-pub use Rattle.std.specs.List.{filter_map, flat_map, filter, list_any, range_with_len}
 pub use Rattle.nj_ask.specs.Affected.{changed_file, clean_name, path_in, line, is_asked_for, is_of_rules, line_of_output, lines_of_outputs}
 pub use Rattle.nj_ask.specs.Affected.{rule_names, unknown_rule, number_at}
 pub use Rattle.nj_graph.specs.Files.{path_at}
@@ -31,7 +36,7 @@ pub use Rattle.nj_ask.specs.DiscoveredGraphs.{JoinsDiscovered, depfile_text, dou
 pub use Rattle.nj_ask.specs.DiscoveredGraphs.{doubtful_edges, edge_discoveries, faulty_edges, state_of, IsTouched}
 pub use Rattle.nj_ask.specs.Inside.Findings.{AreFindingsOf, text_if_faulty, if_doubtful, if_faulty}
 pub use Rattle.nj_graph.specs.Edges.{first_output, edge_at, is_among, outputs_of, inputs_of, maker_of}
-pub use Rattle.nj_ask.specs.Inside.Quotes.{escaped, escapes, quoted}
+pub use Rattle.nj_ask.specs.DrawingLaws.{EndsAreDrawn, NeededAreDrawn, NodesAreDistinct, NodesAreLimited}
 pub use Rattle.nj_graph.specs.Loads.{Loads}
 pub use Rattle.nj_graph.specs.Undeclared.{AreUndeclared, input_of_edge}
 pub use Rattle.nj_ask.specs.KnownGraphs.{IsDeclared, IsDiscovered, KnowsGraph, LacksGraph, ReadsManifest, asks_discovered, discovered_line}
@@ -50,6 +55,8 @@ pub use Rattle.nj_ask.specs.MadeFrom.{TellMadeFrom}
 pub use Rattle.nj_ask.specs.Manifest.{has_generator, is_named_in, makers_of_opened, makes_manifest, opened_files, IsMadeFrom}
 pub use Rattle.nj_ask.specs.Inside.Flags.{AreFeeds, AreFlags, is_made_flag, AreMarks}
 pub use Rattle.nj_ask.specs.NeededFaults.{IsFirstFault}
+pub use Rattle.std.specs.Fmt.{decimal}
+pub use Rattle.nj_ask.specs.Quotes.{quoted, escaped, escapes}
 pub use Rattle.nj_names.specs.NameTables.{with_name}
 pub use Rattle.nj_ask.specs.Inside.Reached.{AreOpened, AddsWarning, AreAffected, AreTouched, CanTellAll, CanTellAt, unnamed_warning}
 pub use Rattle.nj_graph.specs.Changes.{IsAffected}

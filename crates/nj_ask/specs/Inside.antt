@@ -9,5 +9,5 @@ pub mod Flags
 pub mod GraphSteps
 pub mod Lent
 pub mod LogSteps
-pub mod Quotes
+pub mod NodeLists
 pub mod Reached

@@ -5,6 +5,9 @@ pub mod AskedWords
 pub mod Asks
 pub mod Chains
 pub mod DiscoveredGraphs
+pub mod Drawings
+pub mod DrawingLaws
+pub mod DrawnNodes
 pub mod Endings
 pub mod Joined
 pub mod KnownGraphs
@@ -15,6 +18,7 @@ pub mod MadeFrom
 pub mod Manifest
 pub mod NeededFaults
 pub mod Pages
+pub mod Quotes
 pub mod Reports
 pub mod Results
 pub mod Shape

@@ -6,6 +6,7 @@ ghost use Rattle.nj_ask.specs.Cited.{around, AsksWith, AnswersTask, IsGiven, IsT
 use crate::affected::{answer_affected, check_folder};
 use crate::answer::{Told, conclude, deliver};
 use crate::discovered::DiscoveredGraph;
+use crate::draw::answer_draw;
 use crate::failure::Failure;
 use crate::graph_reading::known_graph;
 use crate::json::answer_json;
@@ -13,7 +14,7 @@ use crate::keys::{PageAsked, answer_keys, page_asked};
 use crate::status::Status;
 use crate::why::answer_why;
 use nj_graph::{FileSource, FileTimes};
-use nj_questions::{AffectedOptions, KeysOptions, Question, Subject, WhyOptions};
+use nj_questions::{AffectedOptions, DrawOptions, KeysOptions, Question, Subject, WhyOptions};
 use nj_tools::Sink;
 use std::alloc::Global;
 
@@ -29,14 +30,15 @@ pub struct Ended {
 #[derive(Drop)]
 enum Task<'q> {
     Affected(&'q AffectedOptions),
+    Draw(&'q DrawOptions),
     Json,
     Keys(&'q KeysOptions, PageAsked),
     Why(&'q WhyOptions),
 }
 
 /// Asks a question of its files: writes the answer to standard output, and to standard error what may
-/// be missing from it, or why there is none. `None` if it is one of `audit` or `draw`; then nothing is
-/// read or written.
+/// be missing from it, or why there is none. `None` if it is one of `audit`; then nothing is read or
+/// written.
 pub(crate) fn ask<S: FileSource, B: FileSource, T: FileTimes, O: Sink, E: Sink>(
     alloc: Global,
     files: &mut S,
@@ -77,7 +79,7 @@ pub(crate) fn ask<S: FileSource, B: FileSource, T: FileTimes, O: Sink, E: Sink>(
     }
 }
 
-/// What is asked, unless its options are refused; `None` for `audit` and `draw`.
+/// What is asked, unless its options are refused; `None` for `audit`.
 fn task_of<'q>(alloc: Global, subject: &'q Subject) -> Result<Option<Task<'q>>, Failure>
     ensures taken { IfOk result (IsTaken (subject_model subject.entry.now)) }
     ensures refused { IfErr result (FailsBy Usage
@@ -89,13 +91,14 @@ fn task_of<'q>(alloc: Global, subject: &'q Subject) -> Result<Option<Task<'q>>, 
             Ok(()) => Ok(Some(Task::Affected(options))),
             Err(failure) => Err(failure),
         },
+        Subject::Draw(options) => Ok(Some(Task::Draw(options))),
         Subject::Json => Ok(Some(Task::Json)),
         Subject::Keys(options) => match page_asked(alloc, options) {
             Ok(page) => Ok(Some(Task::Keys(options, page))),
             Err(failure) => Err(failure),
         },
         Subject::Why(options) => Ok(Some(Task::Why(options))),
-        Subject::Audit(_) | Subject::Draw(_) => Ok(None),
+        Subject::Audit(_) => Ok(None),
     }
 }
 
@@ -114,6 +117,7 @@ fn perform<O: Sink>(
 {
     match task {
         Task::Affected(options) => deliver(out, answer_affected(alloc, known, options, input)),
+        Task::Draw(options) => deliver(out, answer_draw(alloc, known, options)),
         Task::Json => answer_json(alloc, known, out),
         Task::Keys(options, page) => deliver(out, answer_keys(alloc, known, options, page)),
         Task::Why(options) => deliver(out, answer_why(alloc, known, options)),

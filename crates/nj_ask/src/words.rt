@@ -20,7 +20,7 @@ const OLD_OPTION: &[u8] =
 /// to `err` what may be missing from it, or why there is none. `input` has the bytes of standard
 /// input, which `affected` alone takes. The directory of `-C` is not entered here.
 ///
-/// Returns the exit status; `None` for `audit` and `draw`, for which nothing is done.
+/// Returns the exit status; `None` for `audit`, for which nothing is done.
 pub fn ask_words<S: FileSource, B: FileSource, T: FileTimes, O: Sink, E: Sink>(
     alloc: Global,
     words: &[String],

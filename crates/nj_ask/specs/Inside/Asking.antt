@@ -6,7 +6,7 @@ use Rattle.nj_discovered.specs.Times.{DeclaredTimes}
 use Rattle.nj_graph.specs.ReadingList.{ReadStatement}
 use Rattle.nj_graph.specs.Graph.{IsGraphOf}
 use Rattle.nj_tools.specs.Sinks.{SinkState}
-use Rattle.nj_questions.specs.Questions.{KeysModel, QuestionModel, SubjectModel, affected, json, keys, why, affected_model, keys_model, why_model}
+use Rattle.nj_questions.specs.Questions.{KeysModel, QuestionModel, SubjectModel, affected, draw, json, keys, why, affected_model, draw_model, keys_model, why_model}
 use Rattle.nj_ask.specs.declared.answer.Told.{Told}
 use Rattle.nj_ask.specs.declared.asking.Task.{Task}
 use Rattle.nj_ask.specs.declared.asking.Task.TheVariants as task
@@ -33,6 +33,7 @@ pub record IsPageAsked (options : KeysModel) (page : PageAsked) : Type 0 where
 abbrev pub IsTask : SubjectModel → Task → Type 0
 IsTask subject (task.Affected options) =
     (subject ≡ affected (affected_model options.now)) × (folder_misuse (affected_model options.now).source_dir ≡ None)
+IsTask subject (task.Draw options) = subject ≡ draw (draw_model options.now)
 IsTask subject task.Json = subject ≡ json
 IsTask subject (task.Keys options page) = (subject ≡ keys (keys_model options.now)) × IsPageAsked (keys_model options.now) page
 IsTask subject (task.Why options) = subject ≡ why (why_model options.now)

@@ -1,6 +1,6 @@
-use Rattle.nj_questions.specs.Questions.{affected_model, keys_model, why_model}
-use Rattle.nj_ask.specs.Answers.{AnswersAffected, AnswersKeys, AnswersWhy}
-use Rattle.nj_ask.proofs.AskingLemmas.{affected-returns, keys-returns, why-returns}
+use Rattle.nj_questions.specs.Questions.{affected_model, draw_model, keys_model, why_model}
+use Rattle.nj_ask.specs.Answers.{AnswersAffected, AnswersDraw, AnswersKeys, AnswersWhy}
+use Rattle.nj_ask.proofs.AskingLemmas.{affected-returns, draw-returns, keys-returns, why-returns}
 use Rattle.nj_ask.proofs.EndingLemmas.{returns-delivered}
 use Rattle.nj_ask.proofs.asking.perform.Goals as goal
 
@@ -12,6 +12,14 @@ returns-in-Affected g c entries is subject asks =
     asks
     (returns-delivered (AnswersAffected known entries (affected_model options.now) c.args.input.now)
     c.answer_affected.result _ _ _ (c.answer_affected.ensures entries is) c.deliver.ensures)
+
+pub returns-in-Draw : goal.returns-in-Draw
+returns-in-Draw g c entries is subject asks =
+    let known = c.args.known.now in
+    let options = c.in-Draw.options in
+    draw-returns known entries c.args.input.now _ _ _ subject c.args.task.now options c.in-Draw.is asks
+    (returns-delivered (AnswersDraw known entries (draw_model options.now))
+    c.answer_draw.result _ _ _ (c.answer_draw.ensures entries is) c.deliver-in-Draw.ensures)
 
 pub returns-in-Why : goal.returns-in-Why
 returns-in-Why g c entries is subject asks =
