@@ -1,17 +1,12 @@
 //! Answers questions about the graph of a Ninja build.
 #![tactic(auto)]
 
-mod audit;
-mod disk;
-mod findings;
 mod setting;
-mod sources;
 
-use nj_ask::{
-    Answer, Failure, Status, ask_read_words, conclude, deliver, refuse_words, report_out_of_memory,
-};
+use crate::setting::Setting;
+use nj_ask::{Status, ask_read_words, conclude, refuse_words, report_out_of_memory};
 use nj_disk::{DiskFiles, DiskTimes};
-use nj_questions::{Question, Refusal, Subject, read_words};
+use nj_questions::{Question, Refusal, read_words};
 use nj_tools::WriteSink;
 use std::io::ErrorKind;
 use std::process::ExitCode;
@@ -30,8 +25,8 @@ fn run(rt: HostRuntime) -> Status {
         Err(_) => return refuse_words(&mut err),
     };
     let read = read_words(rt.alloc(), &words);
-    match setting::input_for(rt, &read) {
-        Ok(input) => ask(rt, &read, &input),
+    match setting::setting_for(rt, &read) {
+        Ok(setting) => ask(rt, &read, &setting),
         Err(failure) => conclude(&mut err, &Err(failure)),
     }
 }
@@ -43,7 +38,8 @@ fn words(rt: HostRuntime) -> io::Result<Vec<String>> {
 }
 
 /// Asks what the arguments ask, in the working directory.
-fn ask(rt: HostRuntime, read: &Result<Question, Refusal>, input: &[u8]) -> Status {
+fn ask(rt: HostRuntime, read: &Result<Question, Refusal>, setting: &Setting) -> Status {
+    let Setting { folder, input } = setting;
     let alloc = rt.alloc();
     let mut out = WriteSink::new(rt.stdout());
     let mut err = WriteSink::new(rt.stderr());
@@ -52,28 +48,11 @@ fn ask(rt: HostRuntime, read: &Result<Question, Refusal>, input: &[u8]) -> Statu
     };
     let mut built = DiskFiles::of_regular_files(rt);
     let times = DiskTimes::new(rt);
-    let asked = ask_read_words(
-        alloc, read, &mut files, &mut built, &times, input, &mut out, &mut err,
+    let ended = ask_read_words(
+        alloc, read, &mut files, &mut built, &times, folder, input, &mut out, &mut err,
     );
-    match asked {
-        Some(ended) => {
-            let status = ended.status;
-            // The process ends here, and its memory with it.
-            mem::forget(ended);
-            status
-        }
-        None => conclude(&mut err, &deliver(&mut out, answer(rt, read))),
-    }
-}
-
-/// The answer to `audit`.
-#[inline(never)]
-fn answer(rt: HostRuntime, read: &Result<Question, Refusal>) -> Result<Answer, Failure> {
-    let Ok(question) = read else {
-        return Err(Failure::OutOfMemory);
-    };
-    match &question.subject {
-        Subject::Audit(options) => audit::answer(rt, &question.graph, options),
-        _ => Err(Failure::OutOfMemory),
-    }
+    let status = ended.status;
+    // The process ends here, and its memory with it.
+    mem::forget(ended);
+    status
 }

@@ -1,13 +1,15 @@
 -- How a question ends, by what is left to report.
-use Rattle.std.proofs.Common.{◌≡◌, ℕ, Bor, List, [], true, false, Some, None, unwrap_or, Result, Err, inl}
+use Rattle.std.proofs.Common.{◌≡◌, ℕ, Bool, Bor, List, [], true, false, cond, Option, Some, None, is_some}
+use Rattle.std.proofs.Common.{unwrap_or, Result, Err, inl}
 use Rattle.std.proofs.Common.{refl, sym, subst}
 use Rattle.std.proofs.lemmas.Option.{none-some}
 use Rattle.nj_discovered.specs.Times.{DeclaredTimes}
 use Rattle.nj_tools.specs.Sinks.{FailsWithin, SinkState, Takes}
 use Rattle.nj_tools.proofs.SinkLemmas.{Takes-nil}
 use Rattle.nj_questions.specs.Questions.{QuestionModel, SubjectModel, affected, audit, draw, json, keys, why}
-use Rattle.nj_questions.specs.Questions.{affected_model, draw_model, keys_model, why_model}
+use Rattle.nj_questions.specs.Questions.{affected_model, audit_model, draw_model, keys_model, why_model}
 use Rattle.nj_questions.specs.declared.questions.AffectedOptions.{AffectedOptions}
+use Rattle.nj_questions.specs.declared.questions.AuditOptions.{AuditOptions}
 use Rattle.nj_questions.specs.declared.questions.DrawOptions.{DrawOptions}
 use Rattle.nj_questions.specs.declared.questions.KeysOptions.{KeysOptions}
 use Rattle.nj_questions.specs.declared.questions.WhyOptions.{WhyOptions}
@@ -21,9 +23,10 @@ use Rattle.nj_ask.specs.declared.failure.Failure.TheVariants.{Refused, Write, Ou
 use Rattle.nj_ask.specs.declared.keys.PageAsked.{PageAsked}
 use Rattle.nj_ask.specs.declared.status.Status.{Status}
 use Rattle.nj_ask.specs.declared.status.Status.TheVariants.{Done, Fault, OutputFailed, Usage}
-use Rattle.nj_ask.specs.AskedWords.{is_answered}
 use Rattle.nj_ask.specs.Answers.{AnswersAffected, AnswersDraw, AnswersKeys, AnswersWhy}
-use Rattle.nj_ask.specs.Asks.{Answers, Around, Asks, IsRefusal, misuse}
+use Rattle.nj_audit.specs.declared.kinds.Kinds.{Kinds}
+use Rattle.nj_ask.specs.Audits.{AnswersAudit, kind_lines}
+use Rattle.nj_ask.specs.Asks.{Answers, Around, Asks, IsRefusal, listed, misuse}
 use Rattle.nj_ask.specs.Asks.Asks.{by_graph, lacks_graph, lacks_memory, misused}
 use Rattle.nj_ask.specs.Endings.{Ends, Reported, Sinks, answered}
 use Rattle.nj_ask.specs.Endings.Ends.{ended, output_fails}
@@ -58,56 +61,74 @@ ends-unshown text taken same fails error = output_fails {ending = answered false
 
 -- ---- tasks
 
--- a task is of a subcommand that is answered here
-pub task-answered : (subject : SubjectModel) (asked : Task) → IsTask subject asked
-    → is_answered subject ≡ true
-task-answered subject (task.Affected options) is = rw is.0 refl
-task-answered subject (task.Draw options) is = rw is refl
-task-answered subject task.Json is = rw is refl
-task-answered subject (task.Keys options page) is = rw is.0 refl
-task-answered subject (task.Why options) is = rw is refl
-
--- and its options are not refused
+-- the options of a task are not refused
 pub task-taken : (subject : SubjectModel) (asked : Task) → IsTask subject asked → misuse subject ≡ None
 task-taken subject (task.Affected options) is = rw is.0 is.1
+task-taken subject (task.Audit options kinds) is = rw is.0 is.1.allowed
 task-taken subject (task.Draw options) is = rw is refl
 task-taken subject task.Json is = rw is refl
 task-taken subject (task.Keys options page) is = rw is.0 is.1.allowed
 task-taken subject (task.Why options) is = rw is refl
 
--- a subject whose options are refused is answered here too
-pub misused-answered : (subject : SubjectModel) (line : List ℕ) → misuse subject ≡ Some line
-    → is_answered subject ≡ true
-misused-answered (affected options) line is = refl
-misused-answered (audit options) line is = absurd (none-some line is)
-misused-answered (draw options) line is = absurd (none-some line is)
-misused-answered json line is = refl
-misused-answered (keys options) line is = refl
-misused-answered (why options) line is = refl
+-- and nothing is answered before files are read
+pub task-unlisted : (subject : SubjectModel) (asked : Task) → IsTask subject asked → listed subject ≡ None
+task-unlisted subject (task.Affected options) is = rw is.0 refl
+task-unlisted subject (task.Audit options kinds) is = rw is.0 is.1.unlisted
+task-unlisted subject (task.Draw options) is = rw is refl
+task-unlisted subject task.Json is = rw is refl
+task-unlisted subject (task.Keys options page) is = rw is.0 refl
+task-unlisted subject (task.Why options) is = rw is refl
+
+-- the kinds of findings are listed for `audit` alone
+pub listed-kinds : (subject : SubjectModel) → is_some (listed subject) ≡ true
+    → listed subject ≡ Some kind_lines
+listed-kinds (affected options) is = absurd cc
+listed-kinds (audit options) is = by options.list is
+  where
+    by : (b : Bool) → is_some (cond b (Some kind_lines) None) ≡ true
+        → cond b (Some kind_lines) None ≡ Some kind_lines
+    by true is = refl
+    by false is = absurd cc
+listed-kinds (draw options) is = absurd cc
+listed-kinds json is = absurd cc
+listed-kinds (keys options) is = absurd cc
+listed-kinds (why options) is = absurd cc
+
+-- else for none
+pub none-is : {X : Type 0} (o : Option X) → is_some o ≡ false → o ≡ None
+none-is None is = refl
+none-is (Some x) is = absurd cc
 
 -- what is answered to the task is answered to its subject
-module _ (known : DiscoveredGraph) (entries : List ReadStatement) (input : List ℕ) (old new : SinkState)
-    (reported : Result Told Failure) (subject : SubjectModel) (asked : Task) where
+module _ (known : DiscoveredGraph) (entries : List ReadStatement) (times : DeclaredTimes) (folder : List ℕ)
+    (input : List ℕ) (old new : SinkState) (reported : Result Told Failure) (subject : SubjectModel)
+    (asked : Task) where
   pub affected-returns : (options : Bor AffectedOptions) → asked ≡ task.Affected options
       → IsTask subject asked
       → Returns (AnswersAffected known entries (affected_model options.now) input) old new reported
-      → Returns (Answers known entries subject input) old new reported
+      → Returns (Answers known entries times folder subject input) old new reported
   affected-returns options same is returns = rw (subst (IsTask subject) same is).0 returns
+
+  pub audit-returns : (options : Bor AuditOptions) (kinds : Kinds) → asked ≡ task.Audit options kinds
+      → IsTask subject asked
+      → Returns (AnswersAudit known entries times folder (audit_model options.now)) old new reported
+      → Returns (Answers known entries times folder subject input) old new reported
+  audit-returns options kinds same is returns = rw (subst (IsTask subject) same is).0 returns
 
   pub draw-returns : (options : Bor DrawOptions) → asked ≡ task.Draw options → IsTask subject asked
       → Returns (AnswersDraw known entries (draw_model options.now)) old new reported
-      → Returns (Answers known entries subject input) old new reported
+      → Returns (Answers known entries times folder subject input) old new reported
   draw-returns options same is returns = rw (subst (IsTask subject) same is) returns
 
   pub why-returns : (options : Bor WhyOptions) → asked ≡ task.Why options → IsTask subject asked
       → Returns (AnswersWhy known entries (why_model options.now)) old new reported
-      → Returns (Answers known entries subject input) old new reported
+      → Returns (Answers known entries times folder subject input) old new reported
   why-returns options same is returns = rw (subst (IsTask subject) same is) returns
 
   pub keys-returns : (options : Bor KeysOptions) (page : PageAsked) → asked ≡ task.Keys options page
       → IsTask subject asked
       → Returns (AnswersKeys known entries (keys_model options.now) page.mark) old new reported
-      → Returns (Answers known entries subject input) old new reported
+      → Returns (Answers known entries times folder subject input) old new reported
   keys-returns options page same is returns =
       let asks = subst (IsTask subject) same is in
       rw asks.0
@@ -117,43 +138,47 @@ module _ (known : DiscoveredGraph) (entries : List ReadStatement) (input : List 
 
 -- ---- questions
 
-module _ (question : QuestionModel) (times : DeclaredTimes) (input : List ℕ) (old new : Around) where
+module _ (question : QuestionModel) (times : DeclaredTimes) (folder input : List ℕ) (old new : Around) where
   -- options that are refused
   pub asks-misused : (failure : Failure) (status : Status)
       → FailsBy Usage (λ line. misuse question.subject ≡ Some line) failure
       → new.sources ≡ old.sources → new.sinks.output ≡ old.sinks.output
       → ConcludesTold (Err failure) old.sinks.error new.sinks.error status
-      → Asks question times input old new status
+      → Asks question times folder input old new status
   asks-misused (Refused line given) status fails sources output concludes =
       misused fails.0 sources
       (ends-refused line.items Usage status old.sinks new.sinks output concludes.0
       (rw (sym fails.1) concludes.1))
   asks-misused Write status fails sources output concludes = absurd fails
   asks-misused OutOfMemory status fails sources output concludes =
-      subst (Asks question times input old new) (sym concludes.1) (lacks_memory output concludes.0)
+      subst (Asks question times folder input old new) (sym concludes.1) (lacks_memory output concludes.0)
 
   -- what is left to report of the others
   pub asks-told : (reported : Result Told Failure) (status : Status) → misuse question.subject ≡ None
-      → LeavesTold question times input old.sources new.sources old.sinks.output new.sinks.output reported
+      → listed question.subject ≡ None
+      → LeavesTold question times folder input old.sources new.sources old.sinks.output new.sinks.output
+      reported
       → ConcludesTold reported old.sinks.error new.sinks.error status
-      → Asks question times input old new status
-  asks-told reported status taken (tells {known} {entries} knows is returns) concludes =
-      by_graph taken knows is
-      (ends-concluded (Answers known entries question.subject input) old.sinks new.sinks reported status
+      → Asks question times folder input old new status
+  asks-told reported status taken unlisted (tells {known} {entries} knows is returns) concludes =
+      by_graph taken unlisted knows is
+      (ends-concluded (Answers known entries times folder question.subject input) old.sinks new.sinks reported
+      status
       returns concludes)
-  asks-told reported status taken (tells_why {line} lacks output) concludes =
-      lacks_graph taken lacks
+  asks-told reported status taken unlisted (tells_why {line} lacks output) concludes =
+      lacks_graph taken unlisted lacks
       (ends-refused line.items Fault status old.sinks new.sinks output concludes.0 concludes.1)
-  asks-told reported status taken (tells_memory output) concludes =
-      subst (Asks question times input old new) (sym concludes.1) (lacks_memory output concludes.0)
+  asks-told reported status taken unlisted (tells_memory output) concludes =
+      subst (Asks question times folder input old new) (sym concludes.1) (lacks_memory output concludes.0)
 
 -- where there is no graph
-pub tells-lacking : (question : QuestionModel) (times : DeclaredTimes) (input : List ℕ) (old new : Sources)
+pub tells-lacking : (question : QuestionModel) (times : DeclaredTimes) (folder input : List ℕ)
+    (old new : Sources)
     (out : SinkState)
     (failure : Failure) → FailsBy Fault (LacksGraph question.graph times old new) failure
-    → LeavesTold question times input old new out out (Err failure)
-tells-lacking question times input old new out (Refused line given) fails =
-    subst (λ s. LeavesTold question times input old new out out (Err (Refused line s))) (sym fails.1)
+    → LeavesTold question times folder input old new out out (Err failure)
+tells-lacking question times folder input old new out (Refused line given) fails =
+    subst (λ s. LeavesTold question times folder input old new out out (Err (Refused line s))) (sym fails.1)
     (tells_why fails.0 refl)
-tells-lacking question times input old new out Write fails = absurd fails
-tells-lacking question times input old new out OutOfMemory fails = tells_memory refl
+tells-lacking question times folder input old new out Write fails = absurd fails
+tells-lacking question times folder input old new out OutOfMemory fails = tells_memory refl

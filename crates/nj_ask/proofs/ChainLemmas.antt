@@ -14,7 +14,8 @@ use Rattle.nj_ask.specs.Chains.{chain_lines, is_discovered, HasChain}
 use Rattle.nj_ask.specs.Inside.ChainTexts.{step_line}
 
 -- with one more step
-pub step-more : (g : GraphModel) (ds : List EdgeDiscovery) (steps : List Step) (i : ℕ) (d : Step) (text new all user : List ℕ)
+pub step-more : (g : GraphModel) (ds : List EdgeDiscovery) (steps : List Step) (i : ℕ) (d : Step)
+    (text new all user : List ℕ)
     (edge : GraphEdge) (input : GraphFile) → i < length steps
     → edge ≡ edge_in g (get_or steps i d).edge.0
     → input ≡ file_in g (path_at (files_of g) (get_or steps i d).file)
@@ -38,7 +39,8 @@ step-more g ds steps i d text new all user edge input below edge-is input-is dis
     ∙ ap (λ more. text ++ chain_lines g ds user more) (sym dropped) ∙ so_far
 
 -- two files of a graph, by their numbers
-module _ (g : GraphModel) (ds : List EdgeDiscovery) (kinds : ChainKinds) (start end : List ℕ) (one other : FileNo)
+module _ (g : GraphModel) (ds : List EdgeDiscovery) (kinds : ChainKinds) (start end : List ℕ)
+    (one other : FileNo)
     (one-at : slice_get (files_of g) one.0 ≡ Some start)
     (other-at : slice_get (files_of g) other.0 ≡ Some end)
     (one-is : one.0 ≡ number_of (file_in g start)) (other-is : other.0 ≡ number_of (file_in g end)) where

@@ -1,10 +1,8 @@
 -- The edges that a report lists are those with a reason.
-use Rattle.std.proofs.Common.{◌≡◌, ◌⊎◌, ◌↔◌, inl, inr, ℕ, Bool, true, false, List, map}
+use Rattle.std.proofs.Common.{◌↔◌, inl, inr, ℕ, Bool, true, false, List, map}
 use Rattle.std.specs.Prelude.{Contains}
-use Rattle.nj_graph.specs.Changes.{IsAffected}
-use Rattle.nj_graph.specs.Changes.IsAffected as affected
-use Rattle.nj_graph.specs.Dirty.{IsDirty}
-use Rattle.nj_graph.specs.Dirty.IsDirty as dirty
+use Rattle.nj_graph.specs.Changes.{IsAffected as affected}
+use Rattle.nj_graph.specs.Dirty.{IsDirty as dirty}
 use Rattle.nj_graph.specs.Edges.{EdgePaths}
 use Rattle.nj_graph.specs.Graph.{edges_of}
 use Rattle.nj_ask.specs.DiscoveredGraphs.{TouchedBy}

@@ -20,7 +20,8 @@ use Rattle.nj_graph.specs.Handles.{GraphEdge, GraphFile, edge_in, edges_in, file
 use Rattle.nj_graph.specs.ReadingList.{ReadStatement}
 use Rattle.nj_ask.specs.Affected.{line}
 use Rattle.nj_tools.specs.declared.EdgeDiscovery.{EdgeDiscovery}
-use Rattle.nj_ask.specs.DiscoveredGraphs.{doubt_line, edge_discoveries, edge_discovery, fault_text, is_faulty, no_time_line}
+use Rattle.nj_ask.specs.DiscoveredGraphs.{doubt_line, edge_discoveries, edge_discovery, fault_text, is_faulty}
+use Rattle.nj_ask.specs.DiscoveredGraphs.{no_time_line}
 use Rattle.nj_ask.specs.Inside.Findings.{text_if_faulty}
 use Rattle.nj_ask.proofs.LineLemmas.{map-map}
 
@@ -108,4 +109,5 @@ module _ (g : GraphModel) (found : DiscoveriesModel) where
   -- those of all edges
   pub all-discoveries : (edges : List GraphEdge) → edges ≡ edges_in g (range_with_len 0 (length (edges_of g)))
       → map discovery_in edges ≡ edge_discoveries (edges_of g) found
-  all-discoveries edges is = ap (map discovery_in) is ∙ map-map discovery_in (edge_in g) (range_with_len 0 (length (edges_of g)))
+  all-discoveries edges is = ap (map discovery_in) is
+      ∙ map-map discovery_in (edge_in g) (range_with_len 0 (length (edges_of g)))

@@ -10,7 +10,8 @@ use Rattle.nj_ask.specs.declared.status.Status.{Status}
 use Rattle.nj_ask.specs.Endings.{Ending, Ends, Sinks, answered, refused}
 use Rattle.nj_ask.specs.Endings.Ends.{ended, output_fails, memory_fails}
 use Rattle.nj_ask.specs.Inside.Failures.{Gives, Returns}
-use Rattle.nj_ask.specs.Results.{ConcludesTold, Delivers, FailsBy, WritesAnswer}
+use Rattle.nj_ask.specs.Results.{ConcludesTold, FailsBy}
+use Rattle.nj_ask.specs.Inside.Failures.{Delivers, WritesAnswer}
 
 -- ---- refusals
 

@@ -25,6 +25,12 @@ pub err-as : {X E : Type 0} (P Q : E → Type 0) (result : Result X E) → ((e :
 err-as P Q (Ok x) so given = given
 err-as P Q (Err e) so given = so e given
 
+-- a result of which two properties are known
+pub ok-both : {X E : Type 0} (P Q R : X → Type 0) (result : Result X E) → ((x : X) → P x → Q x → R x)
+    → IfOk result P → IfOk result Q → IfOk result R
+ok-both P Q R (Ok x) so given too = so x given too
+ok-both P Q R (Err e) so given too = given
+
 -- a `?` for which memory ran out
 pub memory-fails : {X : Type 0} (given : Status) (Says : List ℕ → Type 0) (result : Result X Failure)
     → IsErr result × IsErrAnd result (λ e. e ≡ OutOfMemory) → IfErr result (FailsBy given Says)

@@ -1,17 +1,25 @@
 -- Graphs that are read are graphs of statements, and those that questions are about.
-use Rattle.std.specs.Prelude.{◌≡◌, ℕ, true, false, Option, Result, Ok, Err, List, [], string_bytes}
-use Rattle.std.proofs.Common.{sym, ap, subst, ◌∙◌}
+use Rattle.std.proofs.Common.{◌≡◌, ◌<◌, ◌+◌, ℕ, zero, suc, Bool, true, false, nat_lt, Option, Some, Result}
+use Rattle.std.proofs.Common.{Ok, Err, IfErr, IfOk, List, [], ◌∷◌, ◌++◌, length, map}
+use Rattle.std.proofs.Common.{refl, sym, ap, subst, ◌∙◌, arith}
+use Rattle.std.specs.List.{cons_option}
+use Rattle.std.proofs.lemmas.Bool.{lt-ltb}
+use Rattle.std.proofs.lemmas.List.{length-append}
+use Rattle.std.proofs.lemmas.List.Elements.{All-head, All-tail}
+use Rattle.nj_names.specs.NameTables.{name_at}
 use Rattle.nj_scope.specs.Readings.{Reading}
 use Rattle.nj_scope.specs.ReadingList.{ReadStatement}
 use Rattle.nj_scope.specs.Sources.{SourceState}
 use Rattle.nj_discovered.specs.Times.{DeclaredTimes}
 use Rattle.nj_graph.specs.declared.GraphFault.{GraphFault}
-use Rattle.nj_graph.specs.Graph.{GraphModel, IsGraphOf}
+use Rattle.nj_graph.specs.Graph.{GraphModel, IsGraphOf, edges_of, files_of}
+use Rattle.nj_graph.specs.Undeclared.{input_of_edge}
+use Rattle.nj_graph.specs.declared.undeclared.UndeclaredInput.{UndeclaredInput}
+use Rattle.nj_audit.specs.LoggedInputs.{input_in, inputs_in}
 use Rattle.nj_graph.specs.Runs.{ReachedModel}
 use Rattle.nj_graph.specs.Loads.{LoadedModel, Loads, LoadsAfter, main_reached}
 use Rattle.nj_graph.specs.Joining.{Joins, JoinsPresent, joined_after, some_joined_after}
 use Rattle.nj_questions.specs.Questions.{AskedGraph}
-use Rattle.nj_ask.specs.declared.deps_log.ReadLog.{ReadLog}
 use Rattle.nj_ask.specs.declared.discovered.Discovered.{Discovered}
 use Rattle.nj_ask.specs.declared.discovered.DiscoveredGraph.{DiscoveredGraph}
 use Rattle.nj_ask.specs.DiscoveredGraphs.{JoinsDiscovered}
@@ -19,16 +27,19 @@ use Rattle.nj_ask.specs.DiscoveredGraphs.JoinsDiscovered.{joined as joins_found}
 use Rattle.nj_deps.specs.Logs.{LogModel}
 use Rattle.nj_ask.specs.declared.failure.Failure.{Failure}
 use Rattle.nj_ask.specs.declared.status.Status.TheVariants.{Fault}
-use Rattle.nj_ask.specs.LogsRead.{LacksLog, ReadsLog, log_path}
+use Rattle.nj_ask.specs.Joined.{Follows}
+use Rattle.nj_ask.specs.LogsRead.{ReadsLog}
 use Rattle.nj_ask.specs.KnownGraphs.{IsDeclared, Sources, KnowsGraph, LacksGraph, ReadsManifest}
-use Rattle.nj_ask.specs.KnownGraphs.{asks_discovered, discovered_line}
+use Rattle.nj_ask.specs.KnownGraphs.{asks_discovered}
 use Rattle.nj_ask.specs.KnownGraphs.ReadsManifest.{refused, plain, joined, joined_present}
 use Rattle.nj_ask.specs.KnownGraphs.KnowsGraph.{declared, discovered}
 use Rattle.nj_ask.specs.KnownGraphs.LacksGraph.{by_manifest, by_log, by_discovered}
 use Rattle.nj_ask.specs.Results.{FailsBy, SaysFault}
-use Rattle.nj_ask.specs.Inside.GraphSteps.{Discovers, LacksDiscovered, LacksMain, LacksManifest}
-use Rattle.nj_ask.specs.KnownGraphs.{HasStatements, sources_of}
-use Rattle.nj_ask.proofs.FailureLemmas.{fails-as}
+use Rattle.nj_ask.specs.Inside.GraphSteps.{AreInputsIn, KnowsByLog, LacksByLog, LacksMain, LacksManifest}
+use Rattle.nj_ask.specs.Inside.GraphSteps.LacksByLog.{no_graph, no_log}
+use Rattle.nj_ask.specs.KnownGraphs.{sources_of}
+use Rattle.nj_ask.specs.Inside.GraphSteps.{HasStatements}
+use Rattle.nj_ask.proofs.FailureLemmas.{err-as, fails-as, ok-as}
 
 -- ---- statements
 
@@ -112,12 +123,13 @@ module _ (asked : AskedGraph) (times : DeclaredTimes) (old new built after : Sou
       fails
 
   -- a graph of a manifest alone
-  pub knows-declared : (loaded : LoadedModel) (graph : GraphModel) (known : DiscoveredGraph)
+  pub knows-declared : (undeclared : Bool) (loaded : LoadedModel) (graph : GraphModel)
+      (known : DiscoveredGraph)
       → graph ≡ loaded.graph
       → asks_discovered asked ≡ false → ReadsManifest asked times old new (Ok loaded) → after ≡ built
       → IsDeclared graph known
-      → KnowsGraph asked times (sources_of old built) (sources_of new after) known
-  knows-declared loaded graph known is asks reads same made =
+      → KnowsGraph asked undeclared times (sources_of old built) (sources_of new after) known
+  knows-declared undeclared loaded graph known is asks reads same made =
       declared asks reads same (subst (λ g. IsDeclared g known) is made)
 
   module _ (loaded : LoadedModel) (graph : GraphModel) (named : Option (List ℕ)) (is : graph ≡ loaded.graph)
@@ -132,51 +144,39 @@ module _ (asked : AskedGraph) (times : DeclaredTimes) (old new built after : Sou
     of-graph : IsGraphOf graph entries
     of-graph = subst (λ g. IsGraphOf g entries) (sym is) of-loaded
 
-    -- there is no log
-    pub lacks-by-log : (failure : Failure)
+    -- a graph with what builds discovered
+    pub knows-by-log : (undeclared : Bool) (result : Result DiscoveredGraph Failure)
         → ((stated : List ReadStatement) → IsGraphOf graph stated
-        → FailsBy Fault (LacksLog named stated built after) failure)
-        → FailsBy Fault (LacksGraph asked times (sources_of old built) (sources_of new after)) failure
-    lacks-by-log failure fails =
-        fails-as Fault (LacksLog named entries built after)
+        → IfOk result (KnowsByLog named undeclared built after times stated))
+        → IfOk result (KnowsGraph asked undeclared times (sources_of old built) (sources_of new after))
+    knows-by-log undeclared result knows =
+        ok-as (KnowsByLog named undeclared built after times entries)
+        (KnowsGraph asked undeclared times (sources_of old built) (sources_of new after)) result
+        (λ known by. discovered asks reads of-loaded
+        (subst (λ path. ReadsLog path entries built by.between by.log by.caveat) named_is by.reads)
+        by.discovers.joins by.discovers.is_found by.finds)
+        (knows entries of-graph)
+
+    lacks-line : (line : List ℕ) → LacksByLog asked.log built after times entries line
+        → LacksGraph asked times (sources_of old built) (sources_of new after) line
+    lacks-line line (no_log lacking) = by_log asks reads of-loaded lacking
+    lacks-line line (no_graph log_reads lacking) =
+        subst (LacksGraph asked times (sources_of old built) (sources_of new after))
+        (sym lacking.line_is) (by_discovered asks reads of-loaded log_reads lacking.joins)
+
+    -- why there is none
+    pub lacks-by-log : (result : Result DiscoveredGraph Failure)
+        → ((stated : List ReadStatement) → IsGraphOf graph stated
+        → IfErr result (FailsBy Fault (LacksByLog named built after times stated)))
+        → IfErr result (FailsBy Fault (LacksGraph asked times (sources_of old built) (sources_of new after)))
+    lacks-by-log result lacks =
+        err-as (FailsBy Fault (LacksByLog named built after times entries))
+        (FailsBy Fault (LacksGraph asked times (sources_of old built) (sources_of new after))) result
+        (λ failure fails. fails-as Fault (LacksByLog named built after times entries)
         (LacksGraph asked times (sources_of old built) (sources_of new after)) failure
-        (λ line lacking. by_log asks reads of-loaded
-        (subst (λ path. LacksLog path entries built after line) named_is lacking))
-        (fails entries of-graph)
-
-    module _ (between : SourceState) (log : ReadLog)
-        (reads_log : (stated : List ReadStatement) → IsGraphOf graph stated
-        → ReadsLog named stated built between log.log log.caveat.items) where
-      log-read : ReadsLog asked.log entries built between log.log log.caveat.items
-      log-read = subst (λ path. ReadsLog path entries built between log.log log.caveat.items) named_is
-          (reads_log entries of-graph)
-
-      -- a graph with discovered inputs
-      pub knows-discovered : (known : DiscoveredGraph)
-          → ((stated : List ReadStatement) → IsGraphOf graph stated
-          → Discovers between after times log.log log.caveat.items stated known)
-          → KnowsGraph asked times (sources_of old built) (sources_of new after) known
-      knows-discovered known discovers =
-          let found = discovers entries of-graph in
-          discovered asks reads of-loaded log-read found.joins found.is_found
-
-      -- these inputs make no graph
-      pub lacks-by-discovered : (failure : Failure)
-          → ((stated : List ReadStatement) → IsGraphOf graph stated
-          → string_bytes log.path ≡ log_path named stated)
-          → ((stated : List ReadStatement) → IsGraphOf graph stated
-          → FailsBy Fault (LacksDiscovered (string_bytes log.path) between after times log.log stated)
-          failure)
-          → FailsBy Fault (LacksGraph asked times (sources_of old built) (sources_of new after)) failure
-      lacks-by-discovered failure paths fails =
-          fails-as Fault (LacksDiscovered (string_bytes log.path) between after times log.log entries)
-          (LacksGraph asked times (sources_of old built) (sources_of new after)) failure
-          (λ line lacking.
-          let path = paths entries of-graph ∙ ap (λ path. log_path path entries) named_is in
-          subst (λ said. LacksGraph asked times (sources_of old built) (sources_of new after) said)
-          (sym (lacking.line_is ∙ ap (λ at. discovered_line at lacking.fault) path))
-          (by_discovered asks reads of-loaded log-read lacking.joins))
-          (fails entries of-graph)
+        (λ line lacking. lacks-line line
+        (subst (λ path. LacksByLog path built after times entries line) named_is lacking)) fails)
+        (lacks entries of-graph)
 
 -- ---- a graph that is known is one of statements
 
@@ -184,13 +184,57 @@ joined-stated : (before after : SourceState) (times : DeclaredTimes) (log : LogM
     (stated : List ReadStatement)
     (found : Discovered) → JoinsDiscovered before after times log stated (Ok found)
     → HasStatements found.graph
-joined-stated before after times log stated found (joins_found are named unknown faulty texts lines) =
+joined-stated before after times log stated found
+    (joins_found are named unknown faulty texts lines discoveries) =
     (_, named)
 
-pub knows-stated : (asked : AskedGraph) (times : DeclaredTimes) (old new : Sources) (known : DiscoveredGraph)
-    → KnowsGraph asked times old new known → HasStatements known.graph
-knows-stated asked times old new known (declared {loaded} asks reads same made) =
+pub knows-stated : (asked : AskedGraph) (undeclared : Bool) (times : DeclaredTimes) (old new : Sources)
+    (known : DiscoveredGraph) → KnowsGraph asked undeclared times old new known → HasStatements known.graph
+knows-stated asked undeclared times old new known (declared {loaded} asks reads same made) =
     subst HasStatements (sym made.graph_is) (stated-of asked times old.files new.files reads)
-knows-stated asked times old new known (discovered {loaded} {stated} {between} {log} {caveat} {found} asks
-    reads is read joins are) =
+knows-stated asked undeclared times old new known
+    (discovered {loaded} {stated} {between} {log} {caveat} {found} asks
+    reads is read joins are finds) =
     subst HasStatements (sym are.graph_is) (joined-stated between new.built times log stated found joins)
+
+-- ---- undeclared inputs
+
+name-kept : (names more : List (List ℕ)) (n : ℕ) → n < length names
+    → name_at (names ++ more) n ≡ name_at names n
+name-kept [] more n within = absurd (omega (arith, within))
+name-kept (x ∷ names) more zero within = refl
+name-kept (x ∷ names) more (suc n) within = name-kept names more n (omega (arith, within))
+
+module _ (g h : GraphModel) (follows : Follows g h) where
+  abbrev HasEdge : UndeclaredInput → Type 0
+  HasEdge input = input.edge.0 < length (edges_of g)
+
+  abbrev HasFile : UndeclaredInput → Type 0
+  HasFile input = input.file.0 < length (files_of g)
+
+  input-kept : (input : UndeclaredInput) → HasEdge input → HasFile input
+      → input_in h input ≡ Some (input_of_edge (files_of g) input)
+  input-kept input edge file =
+      let files = follows.files in
+      let edge_there : nat_lt input.edge.0 (length (edges_of h)) ≡ true =
+      lt-ltb input.edge.0 (length (edges_of h)) (omega (arith, edge, follows.edges)) in
+      let longer : length (files_of h) ≡ length (files_of g) + length files.0 =
+      ap length files.1 ∙ length-append (files_of g) files.0 in
+      let file_there : nat_lt input.file.0 (length (files_of h)) ≡ true =
+      lt-ltb input.file.0 (length (files_of h)) (omega (arith, file, longer)) in
+      let path = ap (λ fs. name_at fs input.file.0) files.1 ∙ name-kept (files_of g) files.0 input.file.0 file
+      in
+      rw (edge_there, file_there) (ap (λ p. Some (record { edge = input.edge.0; path = p })) path)
+
+  -- inputs of a graph keep their edges and paths in one that follows it
+  pub inputs-kept : (inputs : List UndeclaredInput) → AreInputsIn g inputs
+      → inputs_in h inputs ≡ map (input_of_edge (files_of g)) inputs
+  inputs-kept [] are = refl
+  inputs-kept (input ∷ inputs) are =
+      let rest : AreInputsIn g inputs = (
+        All-tail HasEdge input inputs are.0,
+        All-tail HasFile input inputs are.1,
+      ) in
+      ap (λ o. cons_option o (inputs_in h inputs)) (input-kept input (All-head HasEdge input inputs are.0)
+      (All-head HasFile input inputs are.1))
+      ∙ ap (λ found. input_of_edge (files_of g) input ∷ found) (inputs-kept inputs rest)

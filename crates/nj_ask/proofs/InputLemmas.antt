@@ -5,7 +5,7 @@ use Rattle.std.proofs.Common.{arith, inl, inr, true≢false}
 use Rattle.std.proofs.lemmas.Bool.Decides.{eqb_tells}
 use Rattle.nj_text.specs.Calls.{is_empty}
 
-not-none : {X : Type 0} (x : X) (xs : List X) → (length (x ∷ xs) == 0) ≡ false
+pub not-none : {X : Type 0} (x : X) (xs : List X) → (length (x ∷ xs) == 0) ≡ false
 not-none x xs = elim (eqb_tells (length (x ∷ xs)) 0) [
   | inl same ↦ let none = same.1 in absurd (omega (arith, none))
   | inr other ↦ other.0

@@ -34,7 +34,8 @@ none-of f (Some x) is = absurd cc
 
 module _ (known : DiscoveredGraph) (entries : List ReadStatement) where
   -- the objects that are written are those of some answer
-  some-ending : (ending : Ending) × AnswersJson known entries (edge_lines entries known.discoveries.items) ending
+  some-ending : (ending : Ending) × AnswersJson known entries (edge_lines entries known.discoveries.items)
+      ending
   some-ending = by (unwritable_edge entries known.discoveries.items) refl
     where
       by : (o : Option ℕ) → unwritable_edge entries known.discoveries.items ≡ o
@@ -43,11 +44,15 @@ module _ (known : DiscoveredGraph) (entries : List ReadStatement) where
       by (Some edge) is = (_, not_text is)
 
   -- the refusal of the edge that JSON cannot contain
-  refuses : (fault : GraphFault) → option_map (text_fault entries) (unwritable_edge entries known.discoveries.items) ≡ Some fault
-      → AnswersJson known entries (edge_lines entries known.discoveries.items) (refused (fault_line fault) Fault)
+  refuses : (fault : GraphFault) → option_map (text_fault entries)
+      (unwritable_edge entries known.discoveries.items) ≡ Some fault
+      → AnswersJson known entries (edge_lines entries known.discoveries.items)
+      (refused (fault_line fault) Fault)
   refuses fault is =
-      let (edge, there, same) = made-of (text_fault entries) (unwritable_edge entries known.discoveries.items) fault is in
-      subst (λ f. AnswersJson known entries (edge_lines entries known.discoveries.items) (refused (fault_line f) Fault)) same
+      let (edge, there, same) = made-of (text_fault entries) (unwritable_edge entries known.discoveries.items)
+      fault is in
+      subst (λ f. AnswersJson known entries (edge_lines entries known.discoveries.items)
+      (refused (fault_line f) Fault)) same
       (not_text there)
 
   pub all-front : IsFront (AnswersJson known entries) (edge_lines entries known.discoveries.items)
@@ -60,18 +65,22 @@ module _ (known : DiscoveredGraph) (entries : List ReadStatement) where
 
   module _ (old new : SinkState) where
     -- all was written
-    pub returns-told : (told : Told) → option_map (text_fault entries) (unwritable_edge entries known.discoveries.items) ≡ None
-        → Takes old new (edge_lines entries known.discoveries.items) → told.warnings.items ≡ caveat_text known entries
+    pub returns-told : (told : Told) → option_map (text_fault entries)
+        (unwritable_edge entries known.discoveries.items) ≡ None
+        → Takes old new (edge_lines entries known.discoveries.items)
+        → told.warnings.items ≡ caveat_text known entries
         → told.looks ≡ false → Returns (AnswersJson known entries) old new (Ok told)
     returns-told told none took warnings looks = (
       edge_lines entries known.discoveries.items,
-      rw (warnings, looks) (all (none-of (text_fault entries) (unwritable_edge entries known.discoveries.items) none)),
+      rw (warnings, looks) (all (none-of (text_fault entries)
+          (unwritable_edge entries known.discoveries.items) none)),
       took,
     )
 
     -- memory ran out for the warnings
     pub returns-untold : (result : Result Told Failure) → IsErrAnd result (λ failure. failure ≡ OutOfMemory)
-        → Takes old new (edge_lines entries known.discoveries.items) → Returns (AnswersJson known entries) old new result
+        → Takes old new (edge_lines entries known.discoveries.items)
+        → Returns (AnswersJson known entries) old new result
     returns-untold result is took =
         let (failure, was, same) = err_from_is_err_and result is in
         rw (was, same) (edge_lines entries known.discoveries.items, all-front, took)
@@ -87,9 +96,13 @@ module _ (known : DiscoveredGraph) (entries : List ReadStatement) where
     returns-stopped (tool.TextNotUtf8 fault) OutOfMemory wrote stops =
         (edge_lines entries known.discoveries.items, all-front, wrote.1)
     returns-stopped tool.Write (Refused line status) wrote stops = absurd cc
-    returns-stopped tool.Write Write wrote stops = (edge_lines entries known.discoveries.items, some-ending.0, some-ending.1, wrote)
+    returns-stopped tool.Write Write wrote stops =
+        (edge_lines entries known.discoveries.items, some-ending.0, some-ending.1, wrote)
     returns-stopped tool.Write OutOfMemory wrote stops = absurd cc
     returns-stopped tool.OutOfMemory (Refused line status) wrote stops = absurd cc
     returns-stopped tool.OutOfMemory Write wrote stops = absurd cc
-    returns-stopped tool.OutOfMemory OutOfMemory wrote stops =
-        (wrote.0, inr (edge_lines entries known.discoveries.items, some-ending.0, some-ending.1, wrote.1), wrote.2)
+    returns-stopped tool.OutOfMemory OutOfMemory wrote stops = (
+      wrote.0,
+      inr (edge_lines entries known.discoveries.items, some-ending.0, some-ending.1, wrote.1),
+      wrote.2,
+    )

@@ -1,4 +1,6 @@
 mod AskingLemmas
+mod AuditLemmas
+mod AuditLaws
 mod LineLemmas
 mod ChainLemmas
 mod AffectedLemmas
@@ -13,6 +15,7 @@ mod ManifestLemmas
 mod MadeLemmas
 mod ReportLaws
 mod FailureLemmas
+mod FindingLemmas
 mod LogLemmas
 mod GraphLemmas
 mod DoubtLemmas

@@ -1,5 +1,5 @@
 -- Answers by their parts, and why there are none.
-use Rattle.std.proofs.Common.{◌≡◌, ◌≢◌, ◌⊎◌, ℕ, Bool, false, Option, None, List, []}
+use Rattle.std.proofs.Common.{◌≡◌, ◌≢◌, ◌⊎◌, ◌++◌, ℕ, Bool, false, Option, None, Some, List, []}
 use Rattle.std.proofs.Common.{Result, Err, inl, inr, refl, sym, ap, subst, ◌∙◌}
 use Rattle.std.specs.Prelude.{codes}
 use Rattle.nj_faults.specs.Faults.{no_memory}
@@ -11,6 +11,7 @@ use Rattle.nj_ask.specs.declared.failure.Failure.{Failure}
 use Rattle.nj_ask.specs.declared.failure.Failure.TheVariants.{Refused, Write, OutOfMemory}
 use Rattle.nj_ask.specs.declared.status.Status.{Status}
 use Rattle.nj_ask.specs.declared.status.Status.TheVariants.{Fault, Usage}
+use Rattle.nj_ask.specs.Answers.{mark_misuse}
 use Rattle.nj_ask.specs.Endings.{Ending, program_line, refused}
 use Rattle.nj_ask.specs.Inside.AnswerParts.{SaysErr}
 use Rattle.nj_ask.specs.Inside.Failures.{Gives}
@@ -50,15 +51,17 @@ gives-refused Is status Says such OutOfMemory fails = fails
 -- ---- marks
 
 -- a text that is not read as a mark is none
-pub bad-mark : (meant : Option (List ℕ)) (fault : MarkFault) → IsReadFault meant fault → (failure : Failure)
-    → FailsBy Usage (λ line. (fault ≢ mark.OutOfMemory) × (line ≡ program_line (fault_text fault))) failure
-    → FailsBy Usage (λ line. (meant ≡ None) × (line ≡ program_line (codes "bad mark"))) failure
-bad-mark meant mark.BadMark is failure fails =
-    fails-weaker Usage _ (λ line. (meant ≡ None) × (line ≡ program_line (codes "bad mark")))
-    (λ line says. (is, says.1)) failure fails
-bad-mark meant mark.MarkOutOfRange is failure fails = elim is [ ]
-bad-mark meant mark.OutOfMemory is failure fails =
-    fails-weaker Usage _ (λ line. (meant ≡ None) × (line ≡ program_line (codes "bad mark")))
+pub bad-mark : (text : List ℕ) (meant : Option (List ℕ)) (fault : MarkFault) → IsReadFault meant fault
+    → (failure : Failure)
+    → FailsBy Usage (λ line. (fault ≢ mark.OutOfMemory)
+    × (line ≡ program_line (codes "bad mark '" ++ text ++ codes "'"))) failure
+    → FailsBy Usage (λ line. mark_misuse text meant ≡ Some line) failure
+bad-mark text meant mark.BadMark is failure fails =
+    fails-weaker Usage _ (λ line. mark_misuse text meant ≡ Some line)
+    (λ line says. ap (mark_misuse text) is ∙ ap (λ l. Some l) (sym says.1)) failure fails
+bad-mark text meant mark.MarkOutOfRange is failure fails = elim is [ ]
+bad-mark text meant mark.OutOfMemory is failure fails =
+    fails-weaker Usage _ (λ line. mark_misuse text meant ≡ Some line)
     (λ line says. absurd (says.0 refl)) failure fails
 
 -- a mark at which no walk is resumed leads to no edge

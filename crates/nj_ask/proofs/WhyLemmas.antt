@@ -58,7 +58,8 @@ module _ (known : DiscoveredGraph) (entries : List ReadStatement) (options : Why
       → AnswersWhy known entries options output (answered looks warnings)
   why-told from to same start end clear (Some lines) is output looks warnings o l w =
       rw (o, l, w) (chain start end clear
-      (subst (λ g. HasChain g known.discoveries.items (kinds_asked options) from.path to.path lines.items) same is))
+      (subst (λ g. HasChain g known.discoveries.items (kinds_asked options) from.path to.path lines.items)
+      same is))
   why-told from to same start end clear None is output looks warnings o l w =
       rw (o, l, w) (no_chain start end clear
       (subst (λ g. LacksChain g (kinds_asked options) from.path to.path) same is))

@@ -1,10 +1,11 @@
 -- What a question does: what it reads, what it writes, and its status.
-use Rattle.std.specs.Prelude.{◌≡◌, ℕ, false, unwrap_or, Option, Some, None, List, [], string_bytes, codes}
+use Rattle.std.specs.Prelude.{◌≡◌, ℕ, Bool, false, unwrap_or, Option, Some, None, List, [], string_bytes, codes}
 use Rattle.nj_scope.specs.Sources.{SourceState}
 use Rattle.nj_discovered.specs.Times.{DeclaredTimes}
 use Rattle.nj_graph.specs.ReadingList.{ReadStatement}
 use Rattle.nj_graph.specs.Graph.{IsGraphOf}
 use Rattle.nj_tools.specs.Sinks.{SinkState}
+use Rattle.nj_audit.specs.declared.kinds.Kind.TheVariants.{UndeclaredInput}
 use Rattle.nj_questions.specs.Questions.{QuestionModel, SubjectModel, affected, audit, draw, json, keys, why}
 use Rattle.nj_questions.specs.declared.refusals.Refusal.{Refusal}
 use Rattle.nj_questions.specs.declared.refusals.Refusal.TheVariants as refusal
@@ -12,26 +13,40 @@ use Rattle.nj_ask.specs.declared.discovered.DiscoveredGraph.{DiscoveredGraph}
 use Rattle.nj_ask.specs.declared.status.Status.{Status}
 use Rattle.nj_ask.specs.declared.status.Status.TheVariants.{Fault, Usage}
 use Rattle.nj_ask.specs.Answers.{AnswersAffected, AnswersDraw, AnswersJson, AnswersKeys, AnswersWhy, asked_mark, folder_misuse, keys_misuse}
+use Rattle.nj_ask.specs.Audits.{AnswersAudit, asks_for, audit_misuse, kinds_listed}
 use Rattle.nj_ask.specs.Endings.{Ending, Ends, Reported, Sinks, answered, memory_line, program_line, refused}
 use Rattle.nj_ask.specs.KnownGraphs.{KnowsGraph, LacksGraph, Sources, sources_of}
 
 -- ---- by its graph
 
--- `audit` is not answered here
-abbrev pub Answers : DiscoveredGraph → List ReadStatement → SubjectModel → (input : List ℕ) → (output : List ℕ) → Ending → Type 0
-Answers known entries (affected options) input output ending = AnswersAffected known entries options input output ending
-Answers known entries (audit options) input output ending = ⊥
-Answers known entries (draw options) input output ending = AnswersDraw known entries options output ending
-Answers known entries json input output ending = AnswersJson known entries output ending
-Answers known entries (keys options) input output ending =
+-- by its subcommand
+abbrev pub Answers : DiscoveredGraph → List ReadStatement → DeclaredTimes → (folder : List ℕ) → SubjectModel → (input : List ℕ)
+    → (output : List ℕ) → Ending → Type 0
+Answers known entries times folder (affected options) input output ending = AnswersAffected known entries options input output ending
+Answers known entries times folder (audit options) input output ending =
+    AnswersAudit known entries times folder options output ending
+Answers known entries times folder (draw options) input output ending = AnswersDraw known entries options output ending
+Answers known entries times folder json input output ending = AnswersJson known entries output ending
+Answers known entries times folder (keys options) input output ending =
     AnswersKeys known entries options (unwrap_or (asked_mark options) []) output ending
-Answers known entries (why options) input output ending = AnswersWhy known entries options output ending
+Answers known entries times folder (why options) input output ending = AnswersWhy known entries options output ending
 
 -- why its options are refused before anything is read
 abbrev pub misuse : SubjectModel → Option (List ℕ)
 misuse (affected options) = folder_misuse options.source_dir
+misuse (audit options) = audit_misuse options
 misuse (keys options) = keys_misuse options
 misuse other = None
+
+-- what is answered before anything is read
+abbrev pub listed : SubjectModel → Option (List ℕ)
+listed (audit options) = kinds_listed options
+listed other = None
+
+-- a deps log is searched for inputs that edges do not declare
+abbrev pub seeks_undeclared : SubjectModel → Bool
+seeks_undeclared (audit options) = asks_for options UndeclaredInput
+seeks_undeclared other = false
 
 -- ---- by its files
 
@@ -52,25 +67,35 @@ around files built output error = record { sources = sources_of files built; sin
 abbrev pub IsRefusal : (line : List ℕ) → Status → (output : List ℕ) → Ending → Type 0
 IsRefusal line status output ending = (output ≡ []) × (ending ≡ refused line status)
 
--- Options are refused before anything is read. Else the files are read, and the graph is asked; or there is none, or no memory for it.
-pub data Asks (question : QuestionModel) (times : DeclaredTimes) (input : List ℕ) (old new : Around) : Status → Type 0 where
+-- a text is output, and nothing is to be said of it
+abbrev pub IsText : (text : List ℕ) → (output : List ℕ) → Ending → Type 0
+IsText text output ending = (output ≡ text) × (ending ≡ answered false [])
+
+-- Options are refused, or answered, before anything is read. Else the files are read, and the graph is asked; or there is none, or no
+-- memory for it. Absolute paths below the working directory are the build's.
+pub data Asks (question : QuestionModel) (times : DeclaredTimes) (folder : List ℕ) (input : List ℕ) (old new : Around) : Status → Type 0 where
   misused : {line : List ℕ} {status : Status} → misuse question.subject ≡ Some line → new.sources ≡ old.sources
-      → Ends (IsRefusal line Usage) old.sinks new.sinks status → Asks question times input old new status
+      → Ends (IsRefusal line Usage) old.sinks new.sinks status → Asks question times folder input old new status
+  lists : {text : List ℕ} {status : Status} → listed question.subject ≡ Some text → new.sources ≡ old.sources
+      → Ends (IsText text) old.sinks new.sinks status → Asks question times folder input old new status
   by_graph : {known : DiscoveredGraph} {entries : List ReadStatement} {status : Status} → misuse question.subject ≡ None
-      → KnowsGraph question.graph times old.sources new.sources known → IsGraphOf known.graph entries
-      → Ends (Answers known entries question.subject input) old.sinks new.sinks status → Asks question times input old new status
-  lacks_graph : {line : List ℕ} {status : Status} → misuse question.subject ≡ None
+      → listed question.subject ≡ None
+      → KnowsGraph question.graph (seeks_undeclared question.subject) times old.sources new.sources known
+      → IsGraphOf known.graph entries
+      → Ends (Answers known entries times folder question.subject input) old.sinks new.sinks status
+      → Asks question times folder input old new status
+  lacks_graph : {line : List ℕ} {status : Status} → misuse question.subject ≡ None → listed question.subject ≡ None
       → LacksGraph question.graph times old.sources new.sources line → Ends (IsRefusal line Fault) old.sinks new.sinks status
-      → Asks question times input old new status
+      → Asks question times folder input old new status
   lacks_memory : new.sinks.output ≡ old.sinks.output → Reported old.sinks.error new.sinks.error memory_line
-      → Asks question times input old new Fault
+      → Asks question times folder input old new Fault
 
 -- ---- by its arguments
 
 -- Arguments that are no question: help and the version are answers, and all else is refused.
 abbrev pub Refuses : Refusal → (old new : Sinks) → Status → Type 0
 Refuses (refusal.Help text) old new status =
-    Ends (λ output ending. (output ≡ string_bytes text) × (ending ≡ answered false [])) old new status
+    Ends (IsText (string_bytes text)) old new status
 Refuses (refusal.Unparsed text) old new status = Ends (IsRefusal (string_bytes text) Usage) old new status
 Refuses refusal.OldOption old new status =
     Ends (IsRefusal (program_line (codes "--deps-log is now --deps, which reads depfiles and times too")) Usage) old new status

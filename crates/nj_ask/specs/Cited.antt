@@ -1,25 +1,31 @@
 -- What the contracts of this crate cite: each name comes from the module in its line.
 pub use Rattle.nj_ask.specs.Answers.{AnswersAffected, folder_misuse, change_asked, outputs_asked, HasDepfileFault, IsClear, AnswersDraw}
 pub use Rattle.nj_ask.specs.Answers.{AnswersJson, AnswersKeys, asked_mark, asked_targets, keys_misuse, mark_misuse, AnswersWhy, needed_from}
-pub use Rattle.nj_ask.specs.Inside.Failures.{Gives, Returns, Stops}
-pub use Rattle.nj_ask.specs.Joined.{HasEdges, Follows, HasDoubtfulEdges}
+pub use Rattle.nj_ask.specs.Inside.Failures.{Gives, Delivers, WritesAnswer, Returns, Stops}
+pub use Rattle.nj_ask.specs.Inside.Findings.{HasEdges, AreFindingsOf, text_if_faulty, if_doubtful, if_faulty}
 pub use Rattle.nj_graph.specs.Graph.{OfStatements, files_of, IsGraphOf, edges_of, rule_name}
-pub use Rattle.nj_questions.specs.Questions.{affected_model, question_model, subject_model, draw_model, asked_graph, keys_model, why_model}
+pub use Rattle.nj_questions.specs.Questions.{affected_model, SubjectModel, question_model, subject_model, audit_model, draw_model}
+pub use Rattle.nj_questions.specs.Questions.{asked_graph, keys_model, why_model}
 pub use Rattle.nj_ask.specs.Inside.Lent.{asked_of, change_model, texts}
-pub use Rattle.nj_ask.specs.Results.{FailsBy, Delivers, WritesAnswer, ConcludesTold, SaysFault}
+pub use Rattle.nj_ask.specs.Results.{FailsBy, ConcludesTold, SaysFault}
 pub use Rattle.nj_ask.specs.declared.status.Status.TheVariants.{Usage, Fault}
 pub use Rattle.nj_ask.specs.Reports.{no_path_line, made_from_line, HasWarnings, IsReport}
-pub use Rattle.nj_ask.specs.Endings.{Concludes, Reported, answered, memory_line, program_line}
-pub use Rattle.std.specs.List.{flat_map, filter_map, filter, list_any, fold, range_with_len}
+pub use Rattle.nj_ask.specs.Endings.{Concludes, Reported, answered, memory_line, program_line, Ends}
+pub use Rattle.std.specs.List.{flat_map, list_any, filter_map, filter, fold, range_with_len}
 pub use Rattle.nj_graph.specs.Handles.{edge_of, file_of, GraphEdge, paths_of, OfEdge, edges_in, files_in, detail_of_edge}
 pub use Rattle.nj_ask.specs.Drawings.{End, arrow_line, arrows_from, arrows_to, drawn_ends, edge_arrows, end_at, ends, ends_after}
 pub use Rattle.nj_ask.specs.Drawings.{ends_before, node_arrows, stated_count, count_line, drawing_text, IsDrawing, label, node_line}
 pub use Rattle.nj_ask.specs.Drawings.{edge_look, ellipse_look, left_out, more_text, node_look, node_name, point_look}
 pub use Rattle.nj_ask.specs.Inside.NodeLists.{node_model, is_full, AreFlagsWithin, SameFlags, SetsFlag, UnsetsFlag}
 pub use Rattle.nj_ask.specs.DrawnNodes.{of_edge, drawn_nodes, has_node, mention, mention_edge, node_of, is_folded}
-pub use Rattle.nj_ask.specs.Asks.{around, misuse, Refuses, sinks_of}
-pub use Rattle.nj_ask.specs.AskedWords.{AsksWith, ended_status, is_answered, AsksWords}
-pub use Rattle.nj_ask.specs.Inside.Asking.{AnswersTask, IsGiven, IsTask, IsTaken}
+pub use Rattle.nj_ask.specs.Asks.{listed, seeks_undeclared, IsText, around, misuse, sinks_of, Refuses}
+pub use Rattle.nj_ask.specs.Audits.{kind_lines, AnswersAudit, WouldBeMissing, unknown_kind_line, finding_line, finding_lines}
+pub use Rattle.nj_ask.specs.Audits.{finding_object, kind_line, line_about, lookup_lines, LookUp, LookUpIf, LooksUp}
+pub use Rattle.nj_ask.specs.AskedWords.{AsksWith, ended_status, AsksWords}
+pub use Rattle.nj_ask.specs.Inside.Asking.{AnswersTask, IsGiven, IsTask}
+pub use Rattle.nj_audit.specs.Kinds.{AskFor, first_unknown, contains}
+pub use Rattle.nj_ask.specs.AuditLaws.{AuditListsFindings, DoneFindsNothing}
+pub use Rattle.nj_ask.specs.Inside.AuditParts.{AreWarnings, HasServing, SaysUnknown}
 pub use Rattle.nj_ask.specs.Chains.{is_discovered, kind_end, kind_word, place_text}
 pub use Rattle.nj_ask.specs.Inside.ChainTexts.{step_line, IsChainText}
 pub use Rattle.nj_ask.specs.Affected.{changed_file, clean_name, path_in, line, is_asked_for, is_of_rules, line_of_output, lines_of_outputs}
@@ -34,14 +40,19 @@ pub use Rattle.nj_discovered.specs.Times.{DeclaredTimes}
 pub use Rattle.nj_graph.specs.Discovering.{AreDiscovered}
 pub use Rattle.nj_ask.specs.DiscoveredGraphs.{JoinsDiscovered, depfile_text, doubt_line, doubt_lines, fault_texts, no_time_line}
 pub use Rattle.nj_ask.specs.DiscoveredGraphs.{doubtful_edges, edge_discoveries, faulty_edges, state_of, IsTouched}
-pub use Rattle.nj_ask.specs.Inside.Findings.{AreFindingsOf, text_if_faulty, if_doubtful, if_faulty}
+pub use Rattle.nj_ask.specs.Joined.{Follows, HasDoubtfulEdges}
 pub use Rattle.nj_graph.specs.Edges.{first_output, edge_at, is_among, outputs_of, inputs_of, maker_of}
 pub use Rattle.nj_ask.specs.DrawingLaws.{EndsAreDrawn, NeededAreDrawn, NodesAreDistinct, NodesAreLimited}
+pub use Rattle.serde_json.specs.Data.{string}
+pub use Rattle.serde_json.specs.Written.{compact_text}
+pub use Rattle.std.specs.Str.Lossy.{utf8_lossy}
+pub use Rattle.nj_audit.specs.Findings.{finding_model}
+pub use Rattle.nj_ask.specs.KnownGraphs.{FindsUndeclared, undeclared_in, IsDeclared, IsDiscovered, KnowsGraph, LacksGraph, ReadsManifest}
+pub use Rattle.nj_ask.specs.KnownGraphs.{asks_discovered, discovered_line, sources_of}
+pub use Rattle.nj_ask.specs.Inside.GraphSteps.{AreInputsIn, KnowsByLog, LacksByLog, Discovers, LacksDiscovered, LacksMain, LacksManifest}
+pub use Rattle.nj_ask.specs.Inside.GraphSteps.{HasStatements}
 pub use Rattle.nj_graph.specs.Loads.{Loads}
-pub use Rattle.nj_graph.specs.Undeclared.{AreUndeclared, input_of_edge}
-pub use Rattle.nj_ask.specs.KnownGraphs.{IsDeclared, IsDiscovered, KnowsGraph, LacksGraph, ReadsManifest, asks_discovered, discovered_line}
-pub use Rattle.nj_ask.specs.KnownGraphs.{HasStatements, sources_of}
-pub use Rattle.nj_ask.specs.Inside.GraphSteps.{Discovers, LacksDiscovered, LacksMain, LacksManifest}
+pub use Rattle.nj_graph.specs.Undeclared.{input_of_edge}
 pub use Rattle.nj_ask.specs.Shape.{caveat_text, dyndep_files, dyndep_of, dyndep_text, line_if_changes, lines_of_changing, may_change}
 pub use Rattle.nj_ask.specs.Shape.{remade_text, shape_text, unjoined_files}
 pub use Rattle.nj_text.specs.Paths.{clean_path_of, is_absolute}
@@ -61,5 +72,6 @@ pub use Rattle.nj_names.specs.NameTables.{with_name}
 pub use Rattle.nj_ask.specs.Inside.Reached.{AreOpened, AddsWarning, AreAffected, AreTouched, CanTellAll, CanTellAt, unnamed_warning}
 pub use Rattle.nj_graph.specs.Changes.{IsAffected}
 pub use Rattle.nj_ask.specs.Laws.{DoneMissesNothing, ListedHaveReasons, WarningsAreUnique}
+pub use Rattle.nj_audit.specs.declared.kinds.Kind.TheVariants.{MissingSource}
 pub use Rattle.nj_ask.specs.Statuses.{exit_code}
 pub use Rattle.nj_graph.specs.Targets.{picked}

@@ -1,6 +1,7 @@
 -- How the code meets the definitions beside this directory.
 pub mod AnswerParts
 pub mod Asking
+pub mod AuditParts
 pub mod ChainTexts
 pub mod Failures
 pub mod FileLines

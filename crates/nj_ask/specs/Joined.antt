@@ -4,7 +4,6 @@ use Rattle.nj_graph.specs.declared.EdgeNo.{EdgeNo}
 use Rattle.nj_graph.specs.Graph.{GraphModel, edges_of, files_of}
 use Rattle.nj_scope.specs.Readings.{IsPrefix}
 use Rattle.nj_ask.specs.declared.discovered.Discovered.{Discovered}
-use Rattle.nj_ask.specs.declared.discovered.DiscoveredGraph.{DiscoveredGraph}
 
 -- a graph with as many edges, whose files begin with those of the old one
 pub record Follows (old new : GraphModel) : Type 0 where
@@ -18,7 +17,3 @@ AreEdgesOf g edges = All (λ (edge : EdgeNo). edge.0 < length (edges_of g)) edge
 -- the doubtful edges are edges of the graph
 abbrev pub HasDoubtfulEdges : Discovered → Type 0
 HasDoubtfulEdges known = AreEdgesOf known.graph known.doubts.edges.items
-
--- the edges with unknown inputs are edges of the graph
-abbrev pub HasEdges : DiscoveredGraph → Type 0
-HasEdges known = AreEdgesOf known.graph known.unknown.items

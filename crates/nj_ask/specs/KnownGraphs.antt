@@ -9,6 +9,8 @@ use Rattle.nj_graph.specs.declared.GraphFault.{GraphFault}
 use Rattle.nj_graph.specs.Graph.{GraphModel, IsGraphOf}
 use Rattle.nj_graph.specs.Joining.{Joins, JoinsPresent}
 use Rattle.nj_graph.specs.Loads.{LoadedModel, Loads}
+use Rattle.nj_graph.specs.Undeclared.{AreUndeclared, InputOfEdge}
+use Rattle.nj_audit.specs.LoggedInputs.{inputs_in}
 use Rattle.nj_questions.specs.Questions.{AskedGraph}
 use Rattle.nj_ask.specs.declared.discovered.Discovered.{Discovered}
 use Rattle.nj_ask.specs.declared.discovered.DiscoveredGraph.{DiscoveredGraph}
@@ -57,6 +59,7 @@ pub record IsDeclared (graph : GraphModel) (known : DiscoveredGraph) : Type 0 wh
   pub faults : known.faults.items ≡ []
   pub discoveries : known.discoveries.items ≡ []
   pub caveats : known.caveats.items ≡ []
+  pub undeclared : known.undeclared.items ≡ []
 
 -- a graph with discovered inputs, and what is not known of these and of the log
 pub record IsDiscovered (found : Discovered) (caveat : List ℕ) (known : DiscoveredGraph) : Type 0 where
@@ -67,15 +70,24 @@ pub record IsDiscovered (found : Discovered) (caveat : List ℕ) (known : Discov
   pub discoveries : known.discoveries ≡ found.doubts.discoveries
   pub caveats : known.caveats.items ≡ caveat ++ found.doubts.lines.items
 
--- The graph of these options.
-pub data KnowsGraph (asked : AskedGraph) (times : DeclaredTimes) (old new : Sources) (known : DiscoveredGraph) : Type 0 where
+-- the inputs that the log names and that edges do not declare, by their paths
+abbrev pub undeclared_in : DiscoveredGraph → List InputOfEdge
+undeclared_in known = inputs_in known.graph known.undeclared.items
+
+-- They are found by the statements of the manifest, if they are requested; else there are none.
+abbrev pub FindsUndeclared : (asked : Bool) → LogModel → List ReadStatement → List InputOfEdge → Type 0
+FindsUndeclared true log stated inputs = AreUndeclared log stated inputs
+FindsUndeclared false log stated inputs = inputs ≡ []
+
+-- The graph of these options; `undeclared` says whether undeclared inputs are requested.
+pub data KnowsGraph (asked : AskedGraph) (undeclared : Bool) (times : DeclaredTimes) (old new : Sources) (known : DiscoveredGraph) : Type 0 where
   declared : {loaded : LoadedModel} → asks_discovered asked ≡ false → ReadsManifest asked times old.files new.files (Ok loaded)
-      → new.built ≡ old.built → IsDeclared loaded.graph known → KnowsGraph asked times old new known
+      → new.built ≡ old.built → IsDeclared loaded.graph known → KnowsGraph asked undeclared times old new known
   discovered : {loaded : LoadedModel} {stated : List ReadStatement} {between : SourceState} {log : LogModel} {caveat : List ℕ}
       {found : Discovered} → asks_discovered asked ≡ true → ReadsManifest asked times old.files new.files (Ok loaded)
       → IsGraphOf loaded.graph stated → ReadsLog asked.log stated old.built between log caveat
       → JoinsDiscovered between new.built times log stated (Ok found) → IsDiscovered found caveat known
-      → KnowsGraph asked times old new known
+      → FindsUndeclared undeclared log stated (undeclared_in known) → KnowsGraph asked undeclared times old new known
 
 -- the line of a fault of a graph with the inputs of the deps log at a path, and of depfiles
 abbrev pub discovered_line : (path : List ℕ) → GraphFault → List ℕ
@@ -94,7 +106,3 @@ pub data LacksGraph (asked : AskedGraph) (times : DeclaredTimes) (old new : Sour
       → IsGraphOf loaded.graph stated → ReadsLog asked.log stated old.built between log caveat
       → JoinsDiscovered between new.built times log stated (Err fault)
       → LacksGraph asked times old new (discovered_line (log_path asked.log stated) fault)
-
--- there are statements of which it is the graph
-abbrev pub HasStatements : GraphModel → Type 0
-HasStatements g = (entries : List ReadStatement) × IsGraphOf g entries

@@ -3,6 +3,8 @@ pub mod Affected
 pub mod Answers
 pub mod AskedWords
 pub mod Asks
+pub mod Audits
+pub mod AuditLaws
 pub mod Chains
 pub mod DiscoveredGraphs
 pub mod Drawings

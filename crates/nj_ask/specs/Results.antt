@@ -2,8 +2,7 @@
 use Rattle.std.specs.Prelude.{◌≡◌, ℕ, List, Result, Ok, Err}
 use Rattle.nj_faults.specs.declared.fault.GraphFault.{GraphFault}
 use Rattle.nj_faults.specs.declared.fault.Cause.TheVariants as cause
-use Rattle.nj_tools.specs.Sinks.{SinkState, Takes, FailsWithin}
-use Rattle.nj_ask.specs.declared.answer.Answer.{Answer}
+use Rattle.nj_tools.specs.Sinks.{SinkState}
 use Rattle.nj_ask.specs.declared.answer.Told.{Told}
 use Rattle.nj_ask.specs.declared.failure.Failure.{Failure}
 use Rattle.nj_ask.specs.declared.failure.Failure.TheVariants.{Refused, Write, OutOfMemory}
@@ -24,19 +23,6 @@ abbrev pub SaysFault : GraphFault → (line : List ℕ) → Type 0
 SaysFault fault line = (line ≡ fault_line fault) × ¬ (fault.cause ≡ cause.OutOfMemory)
 
 -- ---- answers
-
--- how an answer is written to standard output
-abbrev pub WritesAnswer : Answer → (old new : SinkState) → Result Told Failure → Type 0
-WritesAnswer answer old new (Ok told) =
-    Takes old new answer.output.items × (told.looks ≡ answer.looks) × (told.warnings ≡ answer.warnings)
-WritesAnswer answer old new (Err (Refused line status)) = ⊥
-WritesAnswer answer old new (Err Write) = FailsWithin old new answer.output.items
-WritesAnswer answer old new (Err OutOfMemory) = ⊥
-
--- an answer is written, if there is one
-abbrev pub Delivers : Result Answer Failure → (old new : SinkState) → Result Told Failure → Type 0
-Delivers (Ok answer) old new told = WritesAnswer answer old new told
-Delivers (Err failure) old new told = (told ≡ Err failure) × (new ≡ old)
 
 -- how it is reported on standard error
 abbrev pub ConcludesTold : Result Told Failure → (old new : SinkState) → Status → Type 0

@@ -1,10 +1,11 @@
 //! Questions about a graph, asked of its files.
 
-ghost use Rattle.std.specs.Prelude.{◌≡◌, Ok, IfOk, IfErr, OnErr, None, Some, option_map, true};
-ghost use Rattle.nj_ask.specs.Cited.{around, AsksWith, AnswersTask, IsGiven, IsTask, IsTaken, OfStatements, HasEdges, question_model, subject_model, FailsBy, Usage, misuse, ended_status, is_answered};
+ghost use Rattle.std.specs.Prelude.{◌≡◌, Ok, IfOk, IfErr, None, Some, is_some};
+ghost use Rattle.nj_ask.specs.Cited.{SubjectModel, Ends, listed, seeks_undeclared, IsText, kind_lines, around, AsksWith, AnswersTask, IsGiven, IsTask, OfStatements, HasEdges, question_model, subject_model, FailsBy, Usage, misuse, ended_status, sinks_of};
 
 use crate::affected::{answer_affected, check_folder};
 use crate::answer::{Told, conclude, deliver};
+use crate::audit::{answer_audit, kinds_asked, list_kinds};
 use crate::discovered::DiscoveredGraph;
 use crate::draw::answer_draw;
 use crate::failure::Failure;
@@ -13,8 +14,11 @@ use crate::json::answer_json;
 use crate::keys::{PageAsked, answer_keys, page_asked};
 use crate::status::Status;
 use crate::why::answer_why;
+use nj_audit::{Kind, Kinds};
 use nj_graph::{FileSource, FileTimes};
-use nj_questions::{AffectedOptions, DrawOptions, KeysOptions, Question, Subject, WhyOptions};
+use nj_questions::{
+    AffectedOptions, AuditOptions, DrawOptions, KeysOptions, Question, Subject, WhyOptions,
+};
 use nj_tools::Sink;
 use std::alloc::Global;
 
@@ -30,6 +34,7 @@ pub struct Ended {
 #[derive(Drop)]
 enum Task<'q> {
     Affected(&'q AffectedOptions),
+    Audit(&'q AuditOptions, Kinds),
     Draw(&'q DrawOptions),
     Json,
     Keys(&'q KeysOptions, PageAsked),
@@ -37,86 +42,133 @@ enum Task<'q> {
 }
 
 /// Asks a question of its files: writes the answer to standard output, and to standard error what may
-/// be missing from it, or why there is none. `None` if it is one of `audit`; then nothing is read or
-/// written.
+/// be missing from it, or why there is none. Absolute paths below `folder` are the build's.
 pub(crate) fn ask<S: FileSource, B: FileSource, T: FileTimes, O: Sink, E: Sink>(
     alloc: Global,
     files: &mut S,
     built: &mut B,
     times: &T,
+    folder: &[u8],
     question: &Question,
     input: &[u8],
     out: &mut O,
     err: &mut E,
-) -> Option<Ended>
-    ensures { AsksWith (Ok question.now) (T.times times.now) input.now
+) -> Ended
+    ensures { AsksWith (Ok question.now) (T.times times.now) folder.now input.now
         (around (S.state files.old) (B.state built.old) (O.state out.old) (E.state err.old))
         (around (S.state files.new) (B.state built.new) (O.state out.new) (E.state err.new))
-        (option_map ended_status result) }
+        (ended_status result) }
 {
+    if lists_kinds(&question.subject) {
+        return without_graph(write_kinds(alloc, out, err));
+    }
     let task = match task_of(alloc, &question.subject) {
-        Ok(Some(task)) => task,
-        Ok(None) => return None,
-        Err(failure) => {
-            return Some(Ended {
-                status: conclude(err, &Err(failure)),
-                known: None,
-            });
-        }
+        Ok(task) => task,
+        Err(failure) => return without_graph(conclude(err, &Err(failure))),
     };
-    match known_graph(alloc, files, built, times, &question.graph) {
+    let seeks = seeks_undeclared(&task);
+    match known_graph(alloc, files, built, times, &question.graph, seeks) {
         Ok(known) => {
-            let told = perform(alloc, &known, &task, input, out);
-            Some(Ended {
+            let told = perform(alloc, &known, times, folder, &task, input, out);
+            Ended {
                 status: conclude(err, &told),
                 known: Some(known),
-            })
+            }
         }
-        Err(failure) => Some(Ended {
-            status: conclude(err, &Err(failure)),
-            known: None,
-        }),
+        Err(failure) => without_graph(conclude(err, &Err(failure))),
     }
 }
 
-/// What is asked, unless its options are refused; `None` for `audit`.
-fn task_of<'q>(alloc: Global, subject: &'q Subject) -> Result<Option<Task<'q>>, Failure>
-    ensures taken { IfOk result (IsTaken (subject_model subject.entry.now)) }
+/// A question that ended with this status, and without a graph.
+pub(crate) fn without_graph(status: Status) -> Ended
+    ensures { ended_status result ≡ status }
+{
+    Ended {
+        status,
+        known: None,
+    }
+}
+
+/// Whether the kinds of findings are listed, and nothing is read.
+fn lists_kinds(subject: &Subject) -> bool
+    ensures lists { result ≡ is_some (listed (subject_model subject.now)) }
+{
+    match subject {
+        Subject::Audit(options) => options.list,
+        _ => false,
+    }
+}
+
+/// Writes the kinds of findings.
+fn write_kinds<O: Sink, E: Sink>(alloc: Global, out: &mut O, err: &mut E) -> Status
+    ensures { Ends (IsText kind_lines) (sinks_of (O.state out.old) (E.state err.old))
+        (sinks_of (O.state out.new) (E.state err.new)) result }
+{
+    let told = deliver(out, list_kinds(alloc));
+    conclude(err, &told)
+}
+
+/// What is asked, unless its options are refused.
+fn task_of<'q>(alloc: Global, subject: &'q Subject) -> Result<Task<'q>, Failure>
+    requires { listed (subject_model subject.now) ≡ None }
+    ensures taken { IfOk result (IsTask (subject_model subject.entry.now)) }
     ensures refused { IfErr result (FailsBy Usage
         (λ line. misuse (subject_model subject.entry.now) ≡ Some line)) }
-    ensures answered { OnErr result (is_answered (subject_model subject.entry.now) ≡ true) }
 {
     match subject {
         Subject::Affected(options) => match check_folder(alloc, options) {
-            Ok(()) => Ok(Some(Task::Affected(options))),
+            Ok(()) => Ok(Task::Affected(options)),
             Err(failure) => Err(failure),
         },
-        Subject::Draw(options) => Ok(Some(Task::Draw(options))),
-        Subject::Json => Ok(Some(Task::Json)),
+        Subject::Audit(options) => match kinds_asked(alloc, options) {
+            Ok(kinds) => Ok(Task::Audit(options, kinds)),
+            Err(failure) => Err(failure),
+        },
+        Subject::Draw(options) => Ok(Task::Draw(options)),
+        Subject::Json => Ok(Task::Json),
         Subject::Keys(options) => match page_asked(alloc, options) {
-            Ok(page) => Ok(Some(Task::Keys(options, page))),
+            Ok(page) => Ok(Task::Keys(options, page)),
             Err(failure) => Err(failure),
         },
-        Subject::Why(options) => Ok(Some(Task::Why(options))),
-        Subject::Audit(_) => Ok(None),
+        Subject::Why(options) => Ok(Task::Why(options)),
+    }
+}
+
+/// Whether a deps log is searched for inputs that edges do not declare.
+fn seeks_undeclared(task: &Task<'_>) -> bool
+    ensures { (subject : SubjectModel) → IsTask subject task.now
+        → result ≡ seeks_undeclared subject }
+{
+    match task {
+        Task::Audit(_, kinds) => kinds.contains(Kind::UndeclaredInput),
+        _ => false,
     }
 }
 
 /// Writes the answer of a graph to standard output.
-fn perform<O: Sink>(
+fn perform<T: FileTimes, O: Sink>(
     alloc: Global,
     known: &DiscoveredGraph,
+    times: &T,
+    folder: &[u8],
     task: &Task<'_>,
     input: &[u8],
     out: &mut O,
 ) -> Result<Told, Failure>
     requires edges { HasEdges known.now }
     requires given { IsGiven task.now }
-    ensures { OfStatements known.now.graph (λ entries.
-        AnswersTask known.now entries task.now input.now (O.state out.old) (O.state out.new) result) }
+    ensures { OfStatements known.now.graph (λ entries. AnswersTask known.now entries
+        (T.times times.now) folder.now task.now input.now (O.state out.old) (O.state out.new)
+        result) }
 {
     match task {
         Task::Affected(options) => deliver(out, answer_affected(alloc, known, options, input)),
+        Task::Audit(options, kinds) => {
+            deliver(
+                out,
+                answer_audit(alloc, known, times, folder, options, *kinds),
+            )
+        }
         Task::Draw(options) => deliver(out, answer_draw(alloc, known, options)),
         Task::Json => answer_json(alloc, known, out),
         Task::Keys(options, page) => deliver(out, answer_keys(alloc, known, options, page)),

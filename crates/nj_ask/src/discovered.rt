@@ -6,7 +6,9 @@ ghost use Rattle.nj_ask.specs.Cited.{LogModel, DeclaredTimes, AreDiscovered, IsG
 
 use crate::doubts::{Doubts, EdgeFault, doubts_of};
 use nj_deps::DepsLog;
-use nj_graph::{Discoveries, EdgeNo, FileSource, FileTimes, Graph, GraphFault, HashKeys};
+use nj_graph::{
+    Discoveries, EdgeNo, FileSource, FileTimes, Graph, GraphFault, HashKeys, UndeclaredInput,
+};
 use nj_tools::EdgeDiscovery;
 use std::alloc::{AllocError, Global};
 
@@ -25,6 +27,8 @@ pub struct DiscoveredGraph {
     pub discoveries: Vec<EdgeDiscovery>,
     /// Why these inputs may not be as the last build discovered them, a line each.
     pub caveats: Vec<u8>,
+    /// Those inputs of the deps log that edges do not declare, if they are requested.
+    pub undeclared: Vec<UndeclaredInput>,
     /// Keys of hashes that whoever wrote the files does not know.
     pub keys: HashKeys,
 }

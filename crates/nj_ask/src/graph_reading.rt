@@ -1,8 +1,8 @@
 //! The graph that a question is about.
 
-ghost use Rattle.std.specs.Prelude.{◌≡◌, List, Err, IfErr, IfOk, Ok, map, option_copied, string_bytes, true};
+ghost use Rattle.std.specs.Prelude.{◌≡◌, List, Err, IfErr, IfOk, Ok, map, option_copied, string_bytes};
 ghost use Rattle.nj_scope.specs.ReadingList.{ReadStatement};
-ghost use Rattle.nj_ask.specs.Cited.{SourceState, IsGraphOf, files_of, Loads, AreUndeclared, input_of_edge, asked_graph, Fault, line, HasEdges, IsDeclared, IsDiscovered, KnowsGraph, LacksGraph, ReadsManifest, asks_discovered, discovered_line, FailsBy, Discovers, LacksDiscovered, LacksMain, LacksManifest, HasStatements, sources_of};
+ghost use Rattle.nj_ask.specs.Cited.{FindsUndeclared, undeclared_in, AreInputsIn, KnowsByLog, LacksByLog, SourceState, IsGraphOf, OfStatements, files_of, Loads, input_of_edge, asked_graph, Fault, line, HasEdges, IsDeclared, IsDiscovered, KnowsGraph, LacksGraph, ReadsManifest, asks_discovered, discovered_line, FailsBy, Discovers, LacksDiscovered, LacksMain, LacksManifest, HasStatements, sources_of};
 
 use crate::deps_log::{ReadLog, read_log};
 use crate::discovered::{Discovered, DiscoveredGraph, with_discovered};
@@ -17,70 +17,29 @@ use nj_graph::{
 use nj_questions::GraphOptions;
 use std::alloc::{AllocError, Global};
 
-/// The graph of a question, with those inputs of the deps log that edges do not declare, if they
-/// are requested.
-#[derive(Drop)]
-pub struct LoggedGraph {
-    pub known: DiscoveredGraph,
-    pub undeclared: Vec<UndeclaredInput>,
-}
-
 /// Reads the main file and all that it includes; then dyndep files and what builds discovered, if
 /// they are requested. Manifests and dyndep files come from `files`, and the deps log and depfiles
-/// from `built`.
-#[inline(never)]
-pub(crate) fn known_graph<S: FileSource, B: FileSource, T: FileTimes>(
-    alloc: Global,
-    files: &mut S,
-    built: &mut B,
-    times: &T,
-    asked: &GraphOptions,
-) -> Result<Box<DiscoveredGraph>, Failure>
-    ensures known { IfOk result (λ known. KnowsGraph (asked_graph asked.now) (T.times times.now)
-        (sources_of (S.state files.old) (B.state built.old))
-        (sources_of (S.state files.new) (B.state built.new)) known.value) }
-    ensures stated { IfOk result (λ known. HasStatements known.value.graph) }
-    ensures edges { IfOk result (λ known. HasEdges known.value) }
-    ensures lacks { IfErr result (FailsBy Fault (LacksGraph (asked_graph asked.now)
-        (T.times times.now) (sources_of (S.state files.old) (B.state built.old))
-        (sources_of (S.state files.new) (B.state built.new)))) }
-{
-    match logged_graph(alloc, files, built, times, asked, false) {
-        Ok(logged) => Ok(known_alone(alloc, logged)?),
-        Err(failure) => Err(failure),
-    }
-}
-
-/// The graph alone.
-#[inline(never)]
-fn known_alone(alloc: Global, logged: Box<LoggedGraph>) -> Result<Box<DiscoveredGraph>, AllocError>
-    ensures { IfOk result (λ known. known.value ≡ logged.value.known) }
-{
-    let LoggedGraph { known, .. } = Box::into_inner(logged);
-    Ok(Box::new(alloc, known)?)
-}
-
-/// Reads the same, and finds the inputs of the deps log that edges do not declare, if they are
-/// requested.
+/// from `built`. Where `seeks_undeclared` says so, finds those inputs of the deps log that edges do
+/// not declare.
 ///
 /// # Errors
 ///
 /// A fault of the manifest, of a dyndep file or of the deps log, or a dependency cycle by the
 /// inputs that builds discovered; or an allocation failed.
 #[inline(never)]
-pub fn logged_graph<S: FileSource, B: FileSource, T: FileTimes>(
+pub fn known_graph<S: FileSource, B: FileSource, T: FileTimes>(
     alloc: Global,
     files: &mut S,
     built: &mut B,
     times: &T,
     asked: &GraphOptions,
-    finds_undeclared: bool,
-) -> Result<Box<LoggedGraph>, Failure>
-    ensures known { IfOk result (λ logged. KnowsGraph (asked_graph asked.now) (T.times times.now)
-        (sources_of (S.state files.old) (B.state built.old))
-        (sources_of (S.state files.new) (B.state built.new)) logged.value.known) }
-    ensures stated { IfOk result (λ logged. HasStatements logged.value.known.graph) }
-    ensures edges { IfOk result (λ logged. HasEdges logged.value.known) }
+    seeks_undeclared: bool,
+) -> Result<Box<DiscoveredGraph>, Failure>
+    ensures known { IfOk result (λ known. KnowsGraph (asked_graph asked.now) seeks_undeclared
+        (T.times times.now) (sources_of (S.state files.old) (B.state built.old))
+        (sources_of (S.state files.new) (B.state built.new)) known.value) }
+    ensures stated { IfOk result (λ known. HasStatements known.value.graph) }
+    ensures edges { IfOk result (λ known. HasEdges known.value) }
     ensures lacks { IfErr result (FailsBy Fault (LacksGraph (asked_graph asked.now)
         (T.times times.now) (sources_of (S.state files.old) (B.state built.old))
         (sources_of (S.state files.new) (B.state built.new)))) }
@@ -90,8 +49,8 @@ pub fn logged_graph<S: FileSource, B: FileSource, T: FileTimes>(
         Err(failure) => return Err(failure),
     };
     let keys = files.hash_keys();
-    match logged_of(alloc, loaded, keys, built, times, asked, finds_undeclared) {
-        Ok(logged) => Ok(Box::new(alloc, logged)?),
+    match known_by(alloc, loaded, keys, built, times, asked, seeks_undeclared) {
+        Ok(known) => Ok(Box::new(alloc, known)?),
         Err(failure) => Err(failure),
     }
 }
@@ -190,42 +149,82 @@ fn named_log(asked: &GraphOptions) -> Option<&str>
 
 /// The graph of these files, with what builds discovered if it is requested.
 #[inline(never)]
-fn logged_of<B: FileSource, T: FileTimes>(
+fn known_by<B: FileSource, T: FileTimes>(
     alloc: Global,
     loaded: Box<Loaded>,
     keys: HashKeys,
     built: &mut B,
     times: &T,
     asked: &GraphOptions,
-    finds_undeclared: bool,
-) -> Result<LoggedGraph, Failure>
+    seeks_undeclared: bool,
+) -> Result<DiscoveredGraph, Failure>
     ensures known { (old new : SourceState) → ReadsManifest (asked_graph asked.now)
         (T.times times.now) old new (Ok loaded.value)
-        → IfOk result (λ logged. KnowsGraph (asked_graph asked.now) (T.times times.now)
-        (sources_of old (B.state built.old)) (sources_of new (B.state built.new)) logged.known) }
-    ensures edges { IfOk result (λ logged. HasEdges logged.known) }
+        → IfOk result (KnowsGraph (asked_graph asked.now) seeks_undeclared (T.times times.now)
+        (sources_of old (B.state built.old)) (sources_of new (B.state built.new))) }
+    ensures edges { IfOk result HasEdges }
     ensures lacks { (old new : SourceState) → ReadsManifest (asked_graph asked.now)
         (T.times times.now) old new (Ok loaded.value)
         → IfErr result (FailsBy Fault (LacksGraph (asked_graph asked.now) (T.times times.now)
         (sources_of old (B.state built.old)) (sources_of new (B.state built.new)))) }
 {
     let graph = Box::into_inner(loaded).into_graph();
-    if !asks_discovered(asked) {
-        let known = undiscovered(alloc, graph, keys);
-        let undeclared = Vec::new(alloc);
-        return Ok(LoggedGraph { known, undeclared });
+    if asks_discovered(asked) {
+        let named = named_log(asked);
+        return with_log(alloc, graph, keys, built, times, named, seeks_undeclared);
     }
-    let log = match read_log(alloc, built, &graph, named_log(asked)) {
-        Ok(log) => log,
-        Err(failure) => return Err(failure),
-    };
-    let Ok(undeclared) = undeclared_of(alloc, &graph, &log.log, finds_undeclared) else {
-        return Err(Failure::OutOfMemory);
-    };
-    match discover(alloc, graph, log, built, times, keys) {
-        Ok(known) => Ok(LoggedGraph { known, undeclared }),
+    Ok(undiscovered(alloc, graph, keys))
+}
+
+/// A graph with what builds discovered, by the deps log that is named or Ninja's own.
+#[inline(never)]
+fn with_log<B: FileSource, T: FileTimes>(
+    alloc: Global,
+    graph: Graph,
+    keys: HashKeys,
+    built: &mut B,
+    times: &T,
+    named: Option<&str>,
+    seeks_undeclared: bool,
+) -> Result<DiscoveredGraph, Failure>
+    ensures known { (stated : List ReadStatement) → IsGraphOf graph stated
+        → IfOk result (KnowsByLog (option_copied named.entry) seeks_undeclared
+        (B.state built.old) (B.state built.new) (T.times times.now) stated) }
+    ensures edges { IfOk result HasEdges }
+    ensures lacks { (stated : List ReadStatement) → IsGraphOf graph stated
+        → IfErr result (FailsBy Fault (LacksByLog (option_copied named.entry)
+        (B.state built.old) (B.state built.new) (T.times times.now) stated)) }
+{
+    match read_log(alloc, built, &graph, named) {
+        Ok(log) => with_log_read(alloc, graph, keys, log, built, times, seeks_undeclared),
         Err(failure) => Err(failure),
     }
+}
+
+/// The same by a log that was read.
+#[inline(never)]
+fn with_log_read<B: FileSource, T: FileTimes>(
+    alloc: Global,
+    graph: Graph,
+    keys: HashKeys,
+    log: ReadLog,
+    built: &mut B,
+    times: &T,
+    seeks_undeclared: bool,
+) -> Result<DiscoveredGraph, Failure>
+    ensures joins { (stated : List ReadStatement) → IsGraphOf graph stated
+        → IfOk result (Discovers (B.state built.old) (B.state built.new) (T.times times.now)
+        log.log log.caveat.items stated) }
+    ensures undeclared { (stated : List ReadStatement) → IsGraphOf graph stated
+        → IfOk result (λ known. FindsUndeclared seeks_undeclared log.log stated
+        (undeclared_in known)) }
+    ensures edges { IfOk result HasEdges }
+    ensures lacks { (stated : List ReadStatement) → IsGraphOf graph stated
+        → IfErr result (FailsBy Fault (LacksDiscovered (string_bytes log.path)
+        (B.state built.old) (B.state built.new) (T.times times.now) log.log stated)) }
+{
+    let undeclared = undeclared_of(alloc, &graph, &log.log, seeks_undeclared)?;
+    discover(alloc, graph, log, undeclared, built, times, keys)
 }
 
 /// A graph without the inputs that builds discovered.
@@ -240,6 +239,7 @@ fn undiscovered(alloc: Global, graph: Graph, keys: HashKeys) -> DiscoveredGraph
         faults: Vec::new(alloc),
         discoveries: Vec::new(alloc),
         caveats: Vec::new(alloc),
+        undeclared: Vec::new(alloc),
         keys,
     }
 }
@@ -250,31 +250,37 @@ fn undeclared_of(
     alloc: Global,
     graph: &Graph,
     log: &DepsLog,
-    finds_undeclared: bool,
+    seeks_undeclared: bool,
 ) -> Result<Vec<UndeclaredInput>, AllocError>
-    ensures { finds_undeclared ≡ true → (stated : List ReadStatement)
-        → IsGraphOf graph.now stated → IfOk result (λ inputs. AreUndeclared log.now stated
-        (map (input_of_edge (files_of graph.now)) inputs.items)) }
+    ensures found { OfStatements graph.now (λ stated. IfOk result (λ inputs.
+        FindsUndeclared seeks_undeclared log.now stated
+        (map (input_of_edge (files_of graph.now)) inputs.items))) }
+    ensures of { IfOk result (λ inputs. AreInputsIn graph.now inputs.items) }
 {
-    if finds_undeclared {
+    if seeks_undeclared {
         return undeclared_inputs(alloc, graph, log);
     }
     Ok(Vec::new(alloc))
 }
 
-/// The graph with the inputs that builds discovered, by this deps log and by depfiles and times.
+/// The graph with the inputs that builds discovered, by this deps log and by depfiles and times, and
+/// with these inputs that edges do not declare.
 #[inline(never)]
 fn discover<B: FileSource, T: FileTimes>(
     alloc: Global,
     graph: Graph,
     log: ReadLog,
+    undeclared: Vec<UndeclaredInput>,
     built: &mut B,
     times: &T,
     keys: HashKeys,
 ) -> Result<DiscoveredGraph, Failure>
+    requires { AreInputsIn graph undeclared.items }
     ensures joins { (stated : List ReadStatement) → IsGraphOf graph stated
         → IfOk result (Discovers (B.state built.old) (B.state built.new) (T.times times.now)
         log.log log.caveat.items stated) }
+    ensures undeclared { IfOk result (λ known.
+        undeclared_in known ≡ map (input_of_edge (files_of graph)) undeclared.items) }
     ensures edges { IfOk result HasEdges }
     ensures lacks { (stated : List ReadStatement) → IsGraphOf graph stated
         → IfErr result (FailsBy Fault (LacksDiscovered (string_bytes log.path)
@@ -282,7 +288,7 @@ fn discover<B: FileSource, T: FileTimes>(
 {
     let ReadLog { path, log, caveat } = log;
     match with_discovered(alloc, graph, &log, built, times) {
-        Ok(discovered) => Ok(with_doubts(discovered, caveat, keys)?),
+        Ok(discovered) => Ok(with_doubts(discovered, caveat, undeclared, keys)?),
         Err(fault) => Err(of_discovered(alloc, &path, &fault)),
     }
 }
@@ -291,9 +297,11 @@ fn discover<B: FileSource, T: FileTimes>(
 fn with_doubts(
     discovered: Discovered,
     caveat: Vec<u8>,
+    undeclared: Vec<UndeclaredInput>,
     keys: HashKeys,
 ) -> Result<DiscoveredGraph, AllocError>
-    ensures { IfOk result (IsDiscovered discovered caveat.items) }
+    ensures is { IfOk result (IsDiscovered discovered caveat.items) }
+    ensures undeclared { IfOk result (λ known. known.undeclared ≡ undeclared) }
 {
     let Discovered { graph, doubts } = discovered;
     let Doubts {
@@ -311,6 +319,7 @@ fn with_doubts(
         faults,
         discoveries,
         caveats,
+        undeclared,
         keys,
     })
 }

@@ -98,14 +98,20 @@ fn mark_of(alloc: Global, text: &str) -> Result<Mark, Failure>
 {
     match Mark::read(alloc, text) {
         Ok(mark) => Ok(mark),
-        Err(MarkFault::OutOfMemory) => Err(Failure::OutOfMemory),
-        Err(_bad_mark) => Err(Failure::in_words(
-            alloc,
-            b"bad mark '",
-            text.as_bytes(),
-            b"'",
-            Status::Usage,
-        )),
+        Err(fault) => Err(unread_mark(alloc, text, fault)),
+    }
+}
+
+/// That a text is not read as a mark, for this reason.
+fn unread_mark(alloc: Global, text: &str, fault: MarkFault) -> Failure
+    ensures { FailsBy Usage (λ line. (fault ≢ MarkFault.OutOfMemory)
+        × (line ≡ program_line (codes "bad mark '" ++ text.now ++ codes "'"))) result }
+{
+    match fault {
+        MarkFault::BadMark | MarkFault::MarkOutOfRange => {
+            Failure::in_words(alloc, b"bad mark '", text.as_bytes(), b"'", Status::Usage)
+        }
+        MarkFault::OutOfMemory => Failure::OutOfMemory,
     }
 }
 
@@ -171,7 +177,7 @@ pub(crate) fn targets_asked<'k>(
 }
 
 /// The texts of words.
-fn texts_of<'w>(alloc: Global, words: &'w [String]) -> Result<Vec<&'w str>, AllocError>
+pub(crate) fn texts_of<'w>(alloc: Global, words: &'w [String]) -> Result<Vec<&'w str>, AllocError>
     ensures { IfOk result (λ texts.
         map (λ text. text.now) texts.items ≡ map string_bytes words.entry.now) }
 {

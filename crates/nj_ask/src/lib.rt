@@ -1,10 +1,12 @@
-//! Answers about the graph of a Ninja build, and about what a change of files reaches in it.
+//! What `ninja-graph` does with its arguments: questions about the graph of a Ninja build, and their
+//! answers.
 #![tactic(auto)]
 
 mod affected;
 mod answer;
 mod arrows;
 mod asking;
+mod audit;
 mod chains;
 mod changes;
 mod depfiles;
@@ -15,6 +17,7 @@ mod draw;
 mod drawing;
 mod drawing_laws;
 mod failure;
+mod finding_lines;
 mod graph_reading;
 mod json;
 mod keys;
@@ -31,20 +34,20 @@ mod pages;
 mod quotes;
 mod report;
 mod shape;
+mod sources;
 mod status;
 mod why;
 mod words;
 
-pub use answer::{Answer, Told, conclude, deliver, refuse_words, report_out_of_memory};
+pub use answer::{Told, conclude, refuse_words, report_out_of_memory};
 pub use asking::Ended;
+pub use audit::audit_law;
 pub use discovered::{Discovered, DiscoveredGraph, with_discovered};
 pub use doubts::{Doubts, EdgeFault};
 pub use drawing_laws::drawing_law;
 pub use failure::Failure;
-pub use graph_reading::{LoggedGraph, logged_graph};
 pub use made_files::made_from;
 pub use manifest::is_set;
 pub use report::report_law;
-pub use shape::caveat_lines;
 pub use status::Status;
 pub use words::{ask_read_words, ask_words};

@@ -4,7 +4,7 @@ ghost use Rattle.std.specs.Prelude.{◌≡◌, map, option_map, string_bytes};
 ghost use Rattle.nj_ask.specs.Cited.{around, AsksWith, AsksWords, Refuses, sinks_of, ended_status};
 
 use crate::answer::{report, report_out_of_memory};
-use crate::asking::{Ended, ask};
+use crate::asking::{Ended, ask, without_graph};
 use crate::status::Status;
 use nj_graph::{FileSource, FileTimes};
 use nj_questions::{Question, Refusal, read_words};
@@ -20,24 +20,29 @@ const OLD_OPTION: &[u8] =
 /// to `err` what may be missing from it, or why there is none. `input` has the bytes of standard
 /// input, which `affected` alone takes. The directory of `-C` is not entered here.
 ///
-/// Returns the exit status; `None` for `audit`, for which nothing is done.
+/// `folder` is the path of the working directory, which is absolute: for `audit`, absolute paths in
+/// commands are the build's below it. If it is empty, none is. `times` also tells which sources there
+/// are.
+///
+/// Returns the exit status.
 pub fn ask_words<S: FileSource, B: FileSource, T: FileTimes, O: Sink, E: Sink>(
     alloc: Global,
     words: &[String],
     files: &mut S,
     built: &mut B,
     times: &T,
+    folder: &[u8],
     input: &[u8],
     out: &mut O,
     err: &mut E,
-) -> Option<Status>
-    ensures { AsksWords (map string_bytes words.now) (T.times times.now) input.now
+) -> Status
+    ensures { AsksWords (map string_bytes words.now) (T.times times.now) folder.now input.now
         (around (S.state files.old) (B.state built.old) (O.state out.old) (E.state err.old))
         (around (S.state files.new) (B.state built.new) (O.state out.new) (E.state err.new))
         result }
 {
     let read = read_words(alloc, words);
-    status_of(ask_read_words(alloc, &read, files, built, times, input, out, err))
+    ask_read_words(alloc, &read, files, built, times, folder, input, out, err).status
 }
 
 /// The same as [`ask_words`] for arguments that [`read_words`] has read.
@@ -47,29 +52,22 @@ pub fn ask_read_words<S: FileSource, B: FileSource, T: FileTimes, O: Sink, E: Si
     files: &mut S,
     built: &mut B,
     times: &T,
+    folder: &[u8],
     input: &[u8],
     out: &mut O,
     err: &mut E,
-) -> Option<Ended>
-    ensures { AsksWith read.now (T.times times.now) input.now
+) -> Ended
+    ensures { AsksWith read.now (T.times times.now) folder.now input.now
         (around (S.state files.old) (B.state built.old) (O.state out.old) (E.state err.old))
         (around (S.state files.new) (B.state built.new) (O.state out.new) (E.state err.new))
-        (option_map ended_status result) }
+        (ended_status result) }
 {
     match read {
-        Ok(question) => ask(alloc, files, built, times, question, input, out, err),
-        Err(refusal) => Some(Ended {
-            status: refuse(refusal, out, err),
-            known: None,
-        }),
+        Ok(question) => ask(
+            alloc, files, built, times, folder, question, input, out, err,
+        ),
+        Err(refusal) => without_graph(refuse(refusal, out, err)),
     }
-}
-
-/// The status alone. The graph is freed here, which no other function has to prove.
-fn status_of(ended: Option<Ended>) -> Option<Status>
-    ensures { result ≡ option_map ended_status ended }
-{
-    ended.map(|ended| ended.status)
 }
 
 /// Writes why arguments are no question: help and the version are for standard output.

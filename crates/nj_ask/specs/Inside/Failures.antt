@@ -36,3 +36,18 @@ Returns Is old new (Err (Refused line status)) =
     (output : List ℕ) × Is output (refused line.items status) × Takes old new output
 Returns Is old new (Err Write) = (output : List ℕ) × (ending : Ending) × Is output ending × FailsWithin old new output
 Returns Is old new (Err OutOfMemory) = (front : List ℕ) × IsFront Is front × Takes old new front
+
+-- ---- answers that are written
+
+-- how an answer is written to standard output
+abbrev pub WritesAnswer : Answer → (old new : SinkState) → Result Told Failure → Type 0
+WritesAnswer answer old new (Ok told) =
+    Takes old new answer.output.items × (told.looks ≡ answer.looks) × (told.warnings ≡ answer.warnings)
+WritesAnswer answer old new (Err (Refused line status)) = ⊥
+WritesAnswer answer old new (Err Write) = FailsWithin old new answer.output.items
+WritesAnswer answer old new (Err OutOfMemory) = ⊥
+
+-- an answer is written, if there is one
+abbrev pub Delivers : Result Answer Failure → (old new : SinkState) → Result Told Failure → Type 0
+Delivers (Ok answer) old new told = WritesAnswer answer old new told
+Delivers (Err failure) old new told = (told ≡ Err failure) × (new ≡ old)

@@ -3,6 +3,7 @@ use Rattle.std.specs.Prelude.{◌≡◌, ℕ, if◌then◌else◌, List, [], ◌
 use Rattle.nj_graph.specs.declared.Verdict.{Verdict}
 use Rattle.nj_graph.specs.Graph.{GraphModel, OfStatements, edges_of}
 use Rattle.nj_graph.specs.ReadingList.{ReadStatement}
+use Rattle.nj_ask.specs.declared.discovered.DiscoveredGraph.{DiscoveredGraph}
 use Rattle.nj_ask.specs.declared.discovered.Findings.{Findings}
 use Rattle.nj_ask.specs.DiscoveredGraphs.{doubt_lines, doubtful_edges, edge_discoveries, fault_text, fault_texts, faulty_edges, is_doubtful, is_faulty}
 use Rattle.nj_ask.specs.Joined.{AreEdgesOf}
@@ -28,3 +29,7 @@ if_faulty verdict edge = if is_faulty verdict then edge ∷ [] else []
 -- the text of the fault of its depfile, where it has one
 abbrev pub text_if_faulty : List ReadStatement → Verdict → (edge : ℕ) → List (List ℕ)
 text_if_faulty entries verdict edge = if is_faulty verdict then fault_text entries edge verdict ∷ [] else []
+
+-- the edges with unknown inputs are edges of the graph
+abbrev pub HasEdges : DiscoveredGraph → Type 0
+HasEdges known = AreEdgesOf known.graph known.unknown.items

@@ -1,4 +1,5 @@
-use Rattle.std.proofs.Common.{◌≡◌, [], ◌++◌, append-nil, drop, get_or, None, Some, option_map, slice_get, sym, ap}
+use Rattle.std.proofs.Common.{◌≡◌, [], ◌++◌, append-nil, drop, get_or, None, Some, option_map, slice_get, sym}
+use Rattle.std.proofs.Common.{ap}
 use Rattle.std.proofs.Common.{subst, ◌∙◌}
 use Rattle.std.proofs.lemmas.List.{drop_all}
 use Rattle.nj_graph.specs.declared.Step.{Step}
@@ -20,7 +21,8 @@ steps-preserved c =
     let steps = c.deref-step-items.result.now in
     let ds = c.args.discoveries.now in
     step-more g ds steps c.steps.step-index _ c.steps.lines.items c.push_step.new.lines.items
-    (chain_lines g ds (file_of c.args.from).path steps) (file_of c.steps.user).path (edge_of c.edge_at-edge.result)
+    (chain_lines g ds (file_of c.args.from).path steps) (file_of c.steps.user).path
+    (edge_of c.edge_at-edge.result)
     (file_of c.file_at-input.result) c.steps-test.true c.edge_at-edge.ensures c.file_at-input.ensures
     c.discovery_of.result c.discovery_of.ensures
     (c.in_ok-push_step.ensures ∙ ap (λ found. c.steps.lines.items

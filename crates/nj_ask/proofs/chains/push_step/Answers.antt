@@ -17,7 +17,8 @@ returns c =
     on_ok_weaker c.push_kind.result (seven-parts old
     (place_text detail.file detail.spot.line detail.spot.column)
     (rule_name edge.graph.declarations.rules detail.rule) (codes ": ") (file_of c.args.from).path
-    (codes " needs ") (file_of c.args.input).path (kind_end c.args.kind c.args.is_discovered) c.push_place.new.lines.items
+    (codes " needs ") (file_of c.args.input).path (kind_end c.args.kind c.args.is_discovered)
+    c.push_place.new.lines.items
     c.extend_from_slice.new.self.items c.extend_from_slice-2.new.self.items
     c.extend_from_slice-3.new.self.items c.extend_from_slice-4.new.self.items
     c.extend_from_slice-5.new.self.items c.push_kind.new.lines.items

@@ -1,2 +1,0 @@
--- What the contracts of this crate cite: each name comes from the module in its line.
-pub use Rattle.nj_ask.specs.Joined.{HasEdges}

@@ -1,2 +1,0 @@
--- what the contracts cite
-pub mod Cited
