@@ -32,8 +32,7 @@ impl Outcomes for Asked {
 struct Answered {
     output: MemorySink,
     error: MemorySink,
-    /// `None` if the question is left to the program.
-    status: Option<Status>,
+    status: Status,
 }
 
 /// What these arguments ask, over sinks that take so many bytes.
@@ -55,6 +54,7 @@ fn answered(
         &mut files,
         &mut built,
         &times,
+        given.folder(),
         &given.input,
         &mut output,
         &mut error,
@@ -64,11 +64,6 @@ fn answered(
         error,
         status,
     })
-}
-
-/// The exit status; 9 if the question is left to the program.
-fn code_of(answered: &Answered) -> u8 {
-    answered.status.map_or(9, |status| status.code())
 }
 
 /// Appends standard output, the status in brackets, and standard error. If this does not end with a
@@ -83,7 +78,7 @@ fn put_answer(
     let answered = answered(alloc, given, &words, given.output, given.error)?;
     text.extend_from_slice(answered.output.bytes())?;
     text.push(b'[')?;
-    text.push(b'0'.saturating_add(code_of(&answered)))?;
+    text.push(b'0'.saturating_add(answered.status.code()))?;
     let error = answered.error.bytes();
     if error.is_empty() {
         return text.extend_from_slice(b"]\n");
@@ -112,7 +107,7 @@ fn put_cut_off(
     for limit in 0..whole.len() {
         let cut = answered(alloc, given, &words, Some(limit), None)?;
         let is_front = cut.output.bytes() == &whole[..limit];
-        if code_of(&cut) == 4 && is_front && cut.error.bytes().is_empty() {
+        if cut.status.code() == 4 && is_front && cut.error.bytes().is_empty() {
             count = count.saturating_add(1);
         }
     }
@@ -130,17 +125,17 @@ fn put_cut_off_errors(
 ) -> Result<(), AllocError> {
     let words = words_of(alloc, words)?;
     let whole = answered(alloc, given, &words, None, None)?;
-    let status = if code_of(&whole) == 3 {
+    let status = if whole.status.code() == 3 {
         4
     } else {
-        code_of(&whole)
+        whole.status.code()
     };
     let told = whole.error.bytes();
     text.extend_from_slice(told)?;
     let mut count = 0_usize;
     for limit in 0..told.len() {
         let cut = answered(alloc, given, &words, None, Some(limit))?;
-        let is_same = code_of(&cut) == status && cut.output.bytes() == whole.output.bytes();
+        let is_same = cut.status.code() == status && cut.output.bytes() == whole.output.bytes();
         if is_same && cut.error.bytes() == &told[..limit] {
             count = count.saturating_add(1);
         }

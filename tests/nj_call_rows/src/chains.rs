@@ -2,7 +2,7 @@
 
 use crate::changes::{files_at, put_outputs};
 use crate::printer::put_shown;
-use nj_graph::{Error, Graph, Kind, Step};
+use nj_graph::{ChainKinds, Error, Graph, Kind, Step};
 use std::alloc::{AllocError, Global};
 
 /// Appends the outputs of the edges that the files at these paths need, in the order in which they
@@ -63,7 +63,11 @@ fn put_steps(
     let [from, to] = files.as_slice() else {
         return Ok(text.extend_from_slice(b"not two files")?);
     };
-    match graph.path_between(alloc, *from, *to, with_validations)? {
+    let kinds = ChainKinds {
+        order_only: true,
+        validations: with_validations,
+    };
+    match graph.path_between(alloc, *from, *to, kinds)? {
         Some(steps) => put_all_steps(alloc, text, graph, &steps)?,
         None => text.push(b'-')?,
     }

@@ -29,6 +29,8 @@ pub struct Given {
     pub failing_built: u64,
     /// Standard input.
     pub input: Vec<u8>,
+    /// The path of the working directory; `None`: `/w`.
+    pub folder: Option<String>,
     /// How many bytes standard output takes; `None`: all.
     pub output: Option<usize>,
     /// How many bytes standard error takes; `None`: all.
@@ -43,6 +45,7 @@ impl Given {
             failing: 0,
             failing_built: 0,
             input: Vec::new(alloc),
+            folder: None,
             output: None,
             error: None,
         }
@@ -58,6 +61,7 @@ impl Given {
             "repeat" => self.repeat(alloc, block)?,
             "log" => self.add_log(alloc, block)?,
             "input" => self.input.extend_from_slice(text)?,
+            "folder" => self.folder = Some(String::from_str(alloc, block.rest)?),
             "reading-fails" => self.failing = block.rest.parse().unwrap_or(0),
             "built-reading-fails" => self.failing_built = block.rest.parse().unwrap_or(0),
             "output-takes" => self.output = block.rest.parse().ok(),
@@ -72,6 +76,7 @@ impl Given {
         self.failing = 0;
         self.failing_built = 0;
         self.input.clear();
+        self.folder = None;
         self.output = None;
         self.error = None;
     }
@@ -131,6 +136,14 @@ impl Given {
         }
         source.fail_at(failing);
         Ok(source)
+    }
+
+    /// The path of the working directory.
+    pub fn folder(&self) -> &[u8] {
+        match &self.folder {
+            Some(folder) => folder.as_bytes(),
+            None => b"/w",
+        }
     }
 
     /// The text of the file that was given last under this name; nothing if there is none.
