@@ -271,7 +271,7 @@ GRAPH_TOOLS = {
     "draw": Tool({"--affected": None, "--fold": None, "--limit": "N", "--inputs": "K"}),
     "json": Tool({}),
     "keys": Tool({"--base": "DIR", "--take": "N", "--resume": "MARK"}, looks=((ANYTHING, MARK),)),
-    "why": Tool({"--validations": None}, ("test", "text/words.c"), ((NOTHING, NOTHING),)),
+    "why": Tool({"--validations": None, "--no-order-only": None}, ("test", "text/words.c"), ((NOTHING, NOTHING),)),
 }
 GRAPH_RUNS = {
     "diamond": [
@@ -296,6 +296,7 @@ GRAPH_RUNS = {
         "why d a",
         "why a d",
         "why d nothing",
+        "why --no-order-only d a",
         "",
         "--version",
         "why --help",
@@ -393,7 +394,7 @@ GRAPH_NESTED = (
     "json -C . -f build.ninja",
     "keys --base /w --take 1",
     "keys --resume 0 all",
-    "why --validations all d",
+    "why --validations --no-order-only all d",
     "why v d",
 )
 

@@ -129,9 +129,11 @@ def joined(edges, outputs):
     logged = {path: inputs for path, _, inputs in outputs}
     for edge in edges:
         own = {path for kind in COUNTED for path in edge[kind]}
-        paths = logged.get((edge["outputs"] + edge["implicit_outputs"])[0], []) if edge["deps"] else []
+        output = (edge["outputs"] + edge["implicit_outputs"])[0]
+        paths = logged.get(output, []) if edge["deps"] else []
         added = [path for path in dict.fromkeys(paths) if path not in own]
-        yield {**edge, "implicit_inputs": edge["implicit_inputs"] + added}
+        state = "known" if not edge["deps"] or output in logged else "no-record"
+        yield {**edge, "discovered_inputs": added, "discovered": state}
 
 
 def content_differs(graph, folder, edges, log, read, end):

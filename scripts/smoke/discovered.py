@@ -324,24 +324,24 @@ def names_are_texts(graph, folder):
 
 # ---- what other subcommands join
 
-INPUTS = "inputs", "implicit_inputs", "order_only_inputs"
+INPUTS = "inputs", "implicit_inputs", "discovered_inputs", "order_only_inputs", "discovered"
 JOINED = {
-    "gen.h": (["gen.in"], [], []),
-    "a.o": (["a.c"], ["a.h", "gen.h"], ["gen.h"]),
-    "b.o": (["b.c"], ["b.h"], ["gen.h"]),
-    "c.o": (["c.c"], [], ["gen.h"]),
-    "app": (["a.o", "b.o", "c.o"], [], []),
+    "gen.h": (["gen.in"], [], [], [], "known"),
+    "a.o": (["a.c"], [], ["a.h", "gen.h"], ["gen.h"], "known"),
+    "b.o": (["b.c"], [], ["b.h"], ["gen.h"], "known"),
+    "c.o": (["c.c"], [], [], ["gen.h"], "known"),
+    "app": (["a.o", "b.o", "c.o"], [], [], [], "known"),
 }
 CHAIN = """\
 build.ninja:13:1: mk: app needs b.o (explicit)
-build.ninja:11:1: cc_file: b.o needs b.h (implicit)
+build.ninja:11:1: cc_file: b.o needs b.h (discovered)
 """
-DRAWN = {"gen.in > mk > gen.h", "b.c b.h || gen.h > cc_file > b.o"}
+DRAWN = {"gen.in > mk > gen.h", "b.c ~ b.h || gen.h > cc_file > b.o"}
 
 
 @check
 def joined_edges(graph, folder):
-    """The edges of `json`; an order-only input that the log names is an implicit one too."""
+    """The edges of `json`; an order-only input that the log names is a discovered one too."""
     write_files(folder, FILES)
     found = graph.run(["json", *DEPS], folder).as_text()
     objects = [json.loads(line) for line in found.output.splitlines()]

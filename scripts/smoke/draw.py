@@ -2,10 +2,11 @@
 
 The projects are examples/project, a manifest of many edges with many inputs and, where CMake is
 installed, its manifest for examples/cmake. The wanted drawings were worked out by hand from their
-manifests, which are small, or follows from how the large one is made. Where Graphviz is installed, it
-has to take each drawing without a word.
+manifests, which are small, or follow from how the large one is made; or `drawing` makes them from the
+objects of `json`. Where Graphviz is installed, it has to take each drawing without a word.
 """
 
+import json
 import re
 import shutil
 import subprocess
@@ -17,10 +18,11 @@ from lib.projects import write_cmake
 from smoke.graph import DONE, FAULT, USAGE
 
 PROJECT, CMAKE = EXAMPLES / "project", EXAMPLES / "cmake"
-NODE = re.compile(r'  (\w+) \[(?:shape=(\w+), )?(?:label|tooltip)="(.*)"\];')
+NODE = re.compile(r'  (\w+) \[(?:shape=(\w+), )?(?:label|tooltip)="((?:[^"\\]|\\.)*)"(?:, xlabel="[^"]*")?\];')
 # The end that CMake appends to the names of its rules depends on its version.
 TARGET_OF_RULE = re.compile(r"(C_\w+?_(?:COMPILER|LINKER)|C_COMPILER)__\w+")
-ARROW = re.compile(r"  (\w+) -> (\w+)( \[style=dashed\])?;")
+ARROW = re.compile(r"  (\w+) -> (\w+)(?: \[style=(\w+)\])?;")
+SIGNS = {"": "", "dashed": "~ ", "dotted": "|| "}
 # A drawing of 30 nodes of a manifest of this kind has to fit on a screen, or two.
 WIDE_EDGES, WIDE_INPUTS, NODES, PIXELS = 3000, 30, 30, 4000
 
@@ -35,17 +37,17 @@ def nodes(text):
 
 
 def edges(text):
-    """The edges of a drawing: `INPUT || ORDER_ONLY > RULE > OUTPUT`, where a point has no RULE."""
+    """The edges of a drawing: `INPUT ~ DISCOVERED || ORDER_ONLY > RULE > OUTPUT`, where a point has no RULE."""
     found, into, out = nodes(text), {}, {}
-    for start, end, dashed in ARROW.findall(text):
+    for start, end, style in ARROW.findall(text):
         if found[end][0] in ("ellipse", "point"):
-            into.setdefault(end, []).append(("|| " if dashed else "") + found[start][1])
+            into.setdefault(end, []).append(SIGNS[style] + found[start][1])
         else:
             out.setdefault(start, []).append(found[end][1])
     drawn = set()
     for name, (shape, label) in found.items():
         if shape == "ellipse":
-            drawn.add(" > ".join([" ".join(into.get(name, [])), label, " ".join(out[name])]))
+            drawn.add(" > ".join([" ".join(into.get(name, [])), label, " ".join(out.get(name, []))]))
         elif shape == "point":
             drawn.add(" > ".join([" ".join(into.get(name, [])), label]))
     return drawn
@@ -88,29 +90,112 @@ def project_drawn(graph):
     yield from expect("no label", (status, "label=\"5 of" in whole), (DONE, False))
 
 
+STYLES = {"inputs": "", "implicit_inputs": "", "discovered_inputs": " [style=dashed]", "order_only_inputs": " [style=dotted]"}
+KINDS = ("outputs", "implicit_outputs", "inputs", "implicit_inputs", "order_only_inputs", "validations")
+
+
+def outputs_of(edge):
+    return edge["outputs"] + edge["implicit_outputs"]
+
+
+def inputs_of(edge):
+    """Each input with the style of its arrow."""
+    return [(path, style) for kind, style in STYLES.items() for path in edge[kind]]
+
+
+def needed(makers, files):
+    """The edges that files need, nearest first."""
+    found, nearest = {}, files
+    while nearest:
+        new = {makers[path]["edge"]: makers[path] for path in nearest if path in makers}
+        new = [edge for number, edge in new.items() if number not in found]
+        found |= {edge["edge"]: edge for edge in new}
+        nearest = [path for edge in new for path, _ in inputs_of(edge)]
+    return list(found.values())
+
+
+def touched(edges, files):
+    """The edges that a change of files affects, by number."""
+    changed, found = {*files}, {}
+    while new := [it for it in edges if it["edge"] not in found and changed & {path for path, _ in inputs_of(it)}]:
+        found |= {it["edge"]: it for it in new}
+        changed |= {path for it in new for path in outputs_of(it)}
+    return [found[number] for number in sorted(found)]
+
+
+def drawing(edges, files, affected=False, fold=False, limit=None, inputs=12):
+    """The text of a drawing, by the objects of all edges."""
+    named = dict.fromkeys(path for it in edges for kind in KINDS for path in it[kind])
+    named = {path: f"f{number}" for number, path in enumerate([*named, *dict.fromkeys(discovered(edges, named))])}
+    makers = {path: it for it in edges for path in outputs_of(it)}
+
+    def folds(edge):
+        return fold and edge["phony"]
+
+    def node(path):
+        return f"e{makers[path]['edge']}" if path in makers and folds(makers[path]) else named[path]
+
+    listed = touched(edges, files) if affected else needed(makers, files)
+    found = dict.fromkeys(map(node, files))
+    for it in listed:
+        if affected or any(node(path) in found for path in outputs_of(it)):
+            first = [path for path, _ in inputs_of(it)][:inputs]
+            found |= dict.fromkeys([f"e{it['edge']}", *map(node, outputs_of(it) + first)])
+    found = list(found)[:limit]
+    drawn = [it for it in listed if f"e{it['edge']}" in found]
+    text = ["digraph ninja {", "  rankdir=LR;", "  node [shape=box];"]
+    files_named = {name: path for path, name in named.items()}
+    for name in found:
+        if name in files_named:
+            text.append(f'  {name} [label="{files_named[name]}"];')
+            continue
+        edge = edges[int(name[1:])]
+        more = sum(node(path) not in found for path, _ in inputs_of(edge))
+        if folds(edge):
+            more = f', xlabel="and {more} more"' if more else ""
+            text.append(f'  {name} [shape=point, tooltip="{outputs_of(edge)[0]}"{more}];')
+        else:
+            more = f"\\nand {more} more" if more else ""
+            text.append(f'  {name} [shape=ellipse, label="{edge["rule"]}{more}"];')
+    for edge in sorted(drawn, key=lambda it: found.index(f"e{it['edge']}")):
+        name = f"e{edge['edge']}"
+        after = [] if folds(edge) else dict.fromkeys(map(node, outputs_of(edge)))
+        text += [f"  {name} -> {other};" for other in after if other in found]
+        before = dict((node(path), style) for path, style in reversed(inputs_of(edge)))
+        before = {node(path): before[node(path)] for path, _ in inputs_of(edge)}
+        text += [f"  {other} -> {name}{style};" for other, style in before.items() if other in found]
+    if len(drawn) != len(listed):
+        text.append(f'  label="{len(drawn)} of {len(listed)} edges";')
+    return "".join(f"{line}\n" for line in [*text, "}"])
+
+
+def discovered(edges, named):
+    return [path for it in edges for path in it["discovered_inputs"] if path not in named]
+
+
+def edge_objects(graph, folder):
+    return [json.loads(line) for line in graph.run(["json"], folder).as_text().output.splitlines()]
+
+
+def texts_differ(graph, folder, edges, files, **how):
+    words = [f"--{name}" if value is True else f"--{name}={value}" for name, value in how.items()]
+    yield from expect(words + files, run(graph, folder, words + files), (DONE, drawing(edges, files, **how), ""))
+
+
 @check
 def limits(graph):
-    """The nearest edges come first; files that are drawn anyway have their arrows."""
-    wanted = {"out/words_test.o out/libtext.a > link > out/words_test"}
-    words = ["--limit", "4", "out/words_test.o^"]
-    yield from drawing_differs("four nodes", graph, PROJECT, words, wanted)
-    cut = run(graph, PROJECT, words).output
-    yield from expect("cut", 'label="1 of 5 edges";' in cut, True)
-    for limit in range(12):
-        text = run(graph, PROJECT, ["--limit", str(limit)]).output
-        yield from expect(f"nodes of {limit}", len(nodes(text)), limit)
-        ends = {name for start, end, _ in ARROW.findall(text) for name in (start, end)}
-        yield from expect(f"ends of {limit}", ends <= set(nodes(text)), True)
-    wanted = {"out/main.o > link\\nand 1 more > out/count", "main.c > cc > out/main.o"}
-    yield from drawing_differs("one input", graph, PROJECT, ["--inputs", "1"], wanted)
-    yield from expect("label", 'label="2 of 5 edges";' in run(graph, PROJECT, ["--inputs=1"]).output, True)
-    wanted = {" > link\\nand 2 more > out/count"}
-    yield from drawing_differs("no inputs", graph, PROJECT, ["--inputs", "0"], wanted)
-    wanted = {edge for edge in LIBRARY | COUNT | TEST if "lines" in edge or "libtext" in edge}
-    words = ["--affected", "--inputs", "1", "text/lines.c", "text/words.c"]
-    drawn = edges(run(graph, PROJECT, words).output)
-    # the object is drawn before the archive, so its arrow is there though it is the second input
-    yield from expect("arrows", "out/words.o out/lines.o > ar > out/libtext.a" in drawn, True)
+    """With each number of nodes and of inputs."""
+    edges = edge_objects(graph, PROJECT)
+    for files in ["out/count"], ["test"], ["out/words_test", "out/count"], ["main.c"]:
+        for limit in range(20):
+            yield from texts_differ(graph, PROJECT, edges, files, limit=limit)
+        for inputs in range(4):
+            yield from texts_differ(graph, PROJECT, edges, files, inputs=inputs)
+            yield from texts_differ(graph, PROJECT, edges, files, inputs=inputs, fold=True, limit=9)
+    for files in ["text/lines.c"], ["text/words.c", "main.c"], ["out/libtext.a"]:
+        for limit in range(0, 20, 3):
+            yield from texts_differ(graph, PROJECT, edges, files, affected=True, limit=limit)
+            yield from texts_differ(graph, PROJECT, edges, files, affected=True, inputs=1, limit=limit)
 
 
 def write_wide(folder):
@@ -172,10 +257,16 @@ def cmake_drawn(graph, folder):
     wanted = {
         f"{CMAKE}/src/words.c || cmake_object_order_depends_target_text > C_COMPILER > {OBJECT}",
         f"{OBJECT} > C_STATIC_LIBRARY_LINKER > libtext.a",
-        "CMakeFiles/count.dir/src/main.c.o libtext.a || libtext.a > C_EXECUTABLE_LINKER > count",
+        "CMakeFiles/count.dir/src/main.c.o libtext.a > C_EXECUTABLE_LINKER > count",
     }
     whole = wanted | {"libtext.a > phony > text", "libtext.a count > phony > all"}
     words = ["--affected", str(CMAKE / "src/words.c")]
     yield from drawing_differs("affected", graph, folder, words, whole)
     points = {"libtext.a > text", "libtext.a count > all", " > cmake_object_order_depends_target_text"}
     yield from drawing_differs("folded", graph, folder, ["--fold", *words], wanted | points)
+    edges = edge_objects(graph, folder)
+    for fold, affected in [(fold, affected) for fold in (False, True) for affected in (False, True)]:
+        how = {name: True for name, value in [("fold", fold), ("affected", affected)] if value}
+        for files in ["all"], [str(CMAKE / "src/words.c")], ["libtext.a", "count"]:
+            yield from texts_differ(graph, folder, edges, files, **how)
+            yield from texts_differ(graph, folder, edges, files, inputs=1, limit=7, **how)

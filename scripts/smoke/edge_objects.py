@@ -15,7 +15,8 @@ from smoke.graph import DONE, FAULT, USAGE
 
 PROJECT = EXAMPLES / "project"
 PAGE = ROOT / "man/ninja-graph.1"
-KINDS = ["outputs", "implicit_outputs", "inputs", "implicit_inputs", "order_only_inputs", "validations"]
+INPUTS = ["inputs", "implicit_inputs", "discovered_inputs", "order_only_inputs"]
+KINDS = ["outputs", "implicit_outputs", *INPUTS, "validations", "discovered"]
 VALUES = """command description depfile deps rspfile rspfile_content pool dyndep generator restat""".split()
 KEYS = ["edge", "place", "rule", "phony", *KINDS, *VALUES]
 EVERY_KEY = """\
@@ -55,8 +56,10 @@ WANTED = [
         "implicit_outputs": ["d"],
         "inputs": ["s t", "u"],
         "implicit_inputs": ["v"],
+        "discovered_inputs": [],
         "order_only_inputs": ["dd", "w"],
         "validations": ["x"],
+        "discovered": "not-requested",
         "command": "every 's t' u > a 'b c' @a 'b c'.rsp",
         "description": "EVERY \"a 'b c'\"\t",
         "depfile": "a b c.d",
@@ -77,8 +80,10 @@ WANTED = [
         "implicit_outputs": [],
         "inputs": ["a"],
         "implicit_inputs": [],
+        "discovered_inputs": [],
         "order_only_inputs": [],
         "validations": [],
+        "discovered": "not-requested",
         **dict.fromkeys(VALUES, ""),
         "generator": "of the file",
     },
@@ -136,7 +141,7 @@ def explained_differs(graph, program, folder, *words):
         line = (folder / place["file"]).read_text().splitlines()[place["line"] - 1]
         yield from expect(f"{name}, place", line.startswith("build "), True)
         first = (it["outputs"] + it["implicit_outputs"])[0]
-        signs = zip(["", "| ", "|| "], KINDS[2:5])
+        signs = zip(["", "| ", "| ", "|| "], INPUTS)
         inputs = [sign + path for sign, kind in signs for path in it[kind]]
         if not words:
             wanted = queried(program, folder, first)

@@ -2,8 +2,8 @@
 
 They are the rows of tests/nj_ask_rows, which `make test` runs over files, times and sinks in memory.
 Here each file of the file `times` is on a disk, and was last changed then. A row is left to `make test`
-if a reading fails in it, or a sink or a time, if it is about a directory, or if it is left to the
-program.
+if a reading fails in it, or a sink or a time, or if it is about a directory or names the one in which
+it runs.
 """
 
 import os
@@ -19,9 +19,10 @@ from smoke.rows import ending_text, files_of_at_most
 
 ROWS = TESTS / "nj_ask_rows/data"
 # At least so many rows of each kind are run.
-LEAST = {"ask": 135, "ask-cut-off": 4}
+LEAST = {"ask": 240, "ask-cut-off": 7}
 TIMES = "times"
-LEFT = b"[9]\n"
+# The working directory of rows.
+FOLDER = b"/w/"
 
 
 def times_of(files):
@@ -33,7 +34,7 @@ def times_of(files):
 def is_run(files, row):
     """Whether a row is run here."""
     is_plain = not row.limits and "fails" not in times_of(files).values() and b"-C" not in row.words()
-    return row.kind in LEAST and is_plain and row.text != LEFT
+    return row.kind in LEAST and is_plain and not any(FOLDER in text for text in files.values())
 
 
 def write_timed_files(files, folder):

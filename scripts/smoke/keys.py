@@ -196,7 +196,7 @@ def refusals(graph):
     relative = "ninja-graph: 'out' of --base is not absolute\n"
     words = ["-f", "none.ninja", "--base", "/", "--base=out"]
     yield from expect("relative", run(graph, PROJECT, words), (USAGE, "", relative))
-    bad = "ninja-graph: bad mark\n"
+    bad = "ninja-graph: bad mark '0.'\n"
     words = ["-f", "none.ninja", "--resume", "0."]
     yield from expect("no mark", run(graph, PROJECT, words), (USAGE, "", bad))
     unknown = "ninja-graph: unknown target 'nothing'\n"

@@ -110,7 +110,7 @@ def findings(graph, folder):
     yield from audit_differs(graph, build, wanted + Counter(shell) + missing)
 
 
-KINDS = {"": "inputs", "|": "implicit_inputs", "||": "order_only_inputs"}
+KINDS = [("", "inputs"), ("|", "implicit_inputs"), ("|", "discovered_inputs"), ("||", "order_only_inputs")]
 
 
 def keys_by_objects(graph, folder):
@@ -119,7 +119,7 @@ def keys_by_objects(graph, folder):
     for it in objects(graph, folder):
         edge = Edge("", "", it["command"], it["rspfile"], it["rspfile_content"])
         edge.outputs = it["outputs"] + it["implicit_outputs"]
-        edge.inputs = [(bars, path) for bars, kind in KINDS.items() for path in it[kind]]
+        edge.inputs = [(bars, path) for bars, kind in KINDS for path in it[kind]]
         edges.append((edge, it["phony"]))
     known = Keys([edge for edge, _ in edges])
     return {edge.outputs[0]: known.key(edge.outputs[0]).hex() for edge, is_phony in edges if not is_phony}

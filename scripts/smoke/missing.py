@@ -234,12 +234,11 @@ def built_by_hand(made):
 
 
 def is_stated(edges, found):
-    """Whether these are edges of the manifest, some of which have more implicit inputs at the end."""
+    """Whether these are edges of the manifest, some of which have discovered inputs."""
     for edge, other in zip(edges, found):
         own = {path for kind in COUNTED for path in edge[kind]}
-        stated, inputs = edge["implicit_inputs"], other["implicit_inputs"]
-        added = inputs[len(stated) :]
-        is_same = {**edge, "implicit_inputs": inputs} == other and inputs[: len(stated)] == stated
+        added = other["discovered_inputs"]
+        is_same = {**edge, "discovered_inputs": added, "discovered": other["discovered"]} == other
         if not is_same or (added and not edge["deps"]) or own & {*added} or len({*added}) < len(added):
             return False
     return True

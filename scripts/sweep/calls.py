@@ -117,6 +117,12 @@ def with_caveat(runs, ending, caveat):
     return Ending(LOOK, ending.output, error)
 
 
+def for_another_reason(ending, was, now):
+    """How a run ends like this one, where `json` gives another reason why it is not known what an edge discovers."""
+    word = b'"discovered":"%b"'
+    return Ending(ending.status, ending.output.replace(word % was, word % now), ending.error)
+
+
 def asks_about_targets(runs):
     """Whether a run is about some targets, and not about all edges."""
     return bool({"why", "keys", "draw"} & {*runs.words}) and "--affected" not in runs.words
@@ -131,7 +137,7 @@ def unread(runs, number):
     ending, text = runs.run_with(name, None), f"{name}: it cannot be read"
     if ending.status != FAULT and asks_about_targets(runs):
         return Ending(FAULT, b"", f"{GRAPH}: {text}\n".encode())
-    return with_caveat(runs, ending, text)
+    return with_caveat(runs, for_another_reason(ending, b"no-depfile", b"depfile-fault"), text)
 
 
 def wanted_open(runs, opened, way):
@@ -175,7 +181,8 @@ def wanted_statx(runs, path):
     if path == dyndep_of(runs):
         return runs.run_with(path, None)
     if path in RECORDS and log in runs.project.files:
-        return with_caveat(runs, runs.run_with(path, b""), f"{path}: its time cannot be read")
+        newer = for_another_reason(runs.run_with(path, b""), b"newer-output", b"no-time")
+        return with_caveat(runs, newer, f"{path}: its time cannot be read")
     return None
 
 

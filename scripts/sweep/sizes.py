@@ -212,7 +212,8 @@ def of_discovery():
 
 def objects(edges):
     """The output of `json` for these edges, each given as what differs from an empty one."""
-    empty = {**dict.fromkeys(edge_objects.KINDS, []), **dict.fromkeys(edge_objects.VALUES, "")}
+    empty = {**dict.fromkeys(edge_objects.KINDS, []), "discovered": "not-requested"}
+    empty |= dict.fromkeys(edge_objects.VALUES, "")
     for number, (line, about) in enumerate(edges):
         place = {"file": MAIN, "line": line, "column": 1}
         whole = {"edge": number, "place": place, "rule": "", "phony": False, **empty, **about}
@@ -250,12 +251,13 @@ def objects_of_discovery():
     return lines(objects(edges))
 
 
-def objects_with_log(logged):
+def objects_with_log(logged, state):
     """The objects of the last manifest, to which a log gives these inputs of each edge but the first."""
-    edges = [(HEAD_OF_LOGGED, {"rule": "gen", "outputs": ["g"], "command": "gen"})]
+    known = {"discovered": state}
+    edges = [(HEAD_OF_LOGGED, {"rule": "gen", "outputs": ["g"], "command": "gen", **known})]
     for n in ALL:
-        about = {"rule": "cc", "outputs": [f"o{n}"], "inputs": [f"s{n}"], "implicit_inputs": logged}
-        edges.append((HEAD_OF_LOGGED + 1 + n, {**about, "command": f"cc o{n}", "deps": "gcc"}))
+        about = {"rule": "cc", "outputs": [f"o{n}"], "inputs": [f"s{n}"], "discovered_inputs": logged}
+        edges.append((HEAD_OF_LOGGED + 1 + n, {**about, "command": f"cc o{n}", "deps": "gcc", **known}))
     return lines(objects(edges))
 
 
@@ -334,6 +336,7 @@ def graph_of_chain():
         yield f"keys --resume {mark}", done(lines(keys[taken:]))
     yield f"why {LAST} e0", done(partial(chains, line_of_chain, "explicit", ALL[-1]))
     yield f"why e{HALF} e7", done(chains(line_of_chain, "explicit", HALF, 7))
+    yield f"why --no-order-only e{HALF} e7", done(chains(line_of_chain, "explicit", HALF, 7))
     yield f"why e0 {LAST}", (LOOK, "", "")
 
 
@@ -384,7 +387,7 @@ def graph_of_log():
     about = '"column":1,"kind":"undeclared-input","name":"g"}'
     in_json = lines(f'{{"file":"{MAIN}","line":{line},{about}' for line, _ in found)
     outputs = lines(f"o{n}" for n in ALL)
-    arrows = {f"s{n} h g > cc > o{n}" for n in ALL}
+    arrows = {f"s{n} ~ h ~ g > cc > o{n}" for n in ALL}
     of_gen = key([b"gen", b"", b""], b"g", [])
     inputs = [(b"", b"s7", b""), (b"|", b"h", b""), (b"|", b"g", of_gen)]
     of_cc = key([b"cc o7", b"", b""], b"o7", inputs)
@@ -396,12 +399,12 @@ def graph_of_log():
         yield f"audit {word} --json --except missing-source", (LOOK, in_json, "")
         yield f"draw {word} --affected h", done(arrows), draw.edges
         yield f"draw {word} --inputs 1 o3", done({"s3 > cc\\nand 2 more > o3"}), draw.edges
-        yield f"json {word}", done(partial(objects_with_log, ["h", "g"]))
+        yield f"json {word}", done(partial(objects_with_log, ["h", "g"], "known"))
         yield f"keys {word} o7", done(lines([f"{of_gen.hex()} g", f"{of_cc.hex()} o7"]))
-        line = f"{MAIN}:{HEAD_OF_LOGGED + 10}:1: cc: o9 needs h (implicit)"
+        line = f"{MAIN}:{HEAD_OF_LOGGED + 10}:1: cc: o9 needs h (discovered)"
         yield f"why {word} o9 h", done(lines([line]))
     yield "audit --only missing-source", (LOOK, missing, "")
-    yield "json", done(partial(objects_with_log, []))
+    yield "json", done(partial(objects_with_log, [], "not-requested"))
 
 
 MANIFESTS = {
