@@ -21,7 +21,7 @@ _ninja_graph_options() {
     case $1 in
         affected) echo '--source-dir --rule --prefix --no-phony --ignore-unknown --allow-empty' ;;
         draw) echo '--affected --fold --limit --inputs' ;;
-        why) echo '--validations' ;;
+        why) echo '--validations --no-order-only' ;;
         audit) echo '--only --except --json --list' ;;
         keys) echo '--base --take --resume' ;;
     esac

@@ -106,6 +106,7 @@ complete -c ninja-graph -n '__ninja_graph_is draw' -l fold -d 'Draw each phony e
 complete -c ninja-graph -n '__ninja_graph_is draw' -l limit -x -d 'How many nodes at most'
 complete -c ninja-graph -n '__ninja_graph_is draw' -l inputs -x -d 'How many inputs of an edge at most'
 complete -c ninja-graph -n '__ninja_graph_is why' -l validations -d 'Take validations as inputs too'
+complete -c ninja-graph -n '__ninja_graph_is why' -l no-order-only -d 'Leave out order-only inputs'
 
 complete -c ninja-graph -n '__ninja_graph_is audit' -l only -x -d 'Find this kind alone' \
     -a '(__ninja_graph_kinds)'
