@@ -148,14 +148,14 @@ module _ (X : Type 0) (makers : ℕ → List (Option ℕ)) (count : ℕ) (rank :
 
     -- an edge is opened
     module _ (f : Frame) (here : f.at ≡ place)
-        (at : slice_get (top_row makers (map maker files) path) place ≡ Some (Some f.edge))
-        (fresh : get_or flags f.edge false ≡ false) where
-      at-all : slice_get (top_row makers row path) f.at ≡ Some (Some f.edge)
-      at-all = ap (slice_get (top_row makers row path)) here ∙ found-all (Some f.edge) at
+        (at : slice_get (top_row makers (map maker files) path) place ≡ Some (Some f.edge.0))
+        (fresh : get_or flags f.edge.0 false ≡ false) where
+      at-all : slice_get (top_row makers row path) f.at ≡ Some (Some f.edge.0)
+      at-all = ap (slice_get (top_row makers row path)) here ∙ found-all (Some f.edge.0) at
 
-      undone : list_any (nat_eq f.edge) (done path f.at) ≡ false
-      undone = ap (λ p. list_any (nat_eq f.edge) (done path p)) here
-          ∙ sym (h.standing.flagged f.edge (found-below f.edge at)) ∙ fresh
+      undone : list_any (nat_eq f.edge.0) (done path f.at) ≡ false
+      undone = ap (λ p. list_any (nat_eq f.edge.0) (done path p)) here
+          ∙ sym (h.standing.flagged f.edge.0 (found-below f.edge.0 at)) ∙ fresh
 
       pub growing-open : Growing files (path ++ f ∷ []) 0 flags
       growing-open = record {
@@ -163,7 +163,7 @@ module _ (X : Type 0) (makers : ℕ → List (Option ℕ)) (count : ℕ) (rank :
             (subst (λ p. IsStanding makers count row path p flags) (sym here) h.standing);
         grown = h.grown ∙ ap (λ (es : List ℕ). listed (each_once nat_eq es))
             (sym (done_at-open makers count row path f ∙ ap (done path) here));
-        bottom = bottom-push path f place 0 here (length files) h.bottom (found-in (Some f.edge) at);
+        bottom = bottom-push path f place 0 here (length files) h.bottom (found-in (Some f.edge.0) at);
       }
 
       pub turns-open : turns_left makers count row path place
@@ -204,13 +204,13 @@ module _ (X : Type 0) (makers : ℕ → List (Option ℕ)) (count : ℕ) (rank :
     past-all = ap (λ (r : List (Option ℕ)). slice_get r place)
         (top_row-push makers row path f ∙ sym (top_row-push makers (map maker files) path f)) ∙ past
 
-    pub closed-below : f.edge < count
+    pub closed-below : f.edge.0 < count
     closed-below = closed-within makers count rank ranked row inside path f place flags h.standing past-all
 
-    pub growing-close : Growing (files ++ checks f.edge) path (f.at + 1) (set flags f.edge true)
+    pub growing-close : Growing (files ++ checks f.edge.0) path (f.at + 1) (set flags f.edge.0 true)
     growing-close =
         let D = done (path ++ f ∷ []) place in
-        let e = f.edge in
+        let e = f.edge.0 in
         let fresh : list_any (nat_eq e) D ≡ false =
         closed-fresh makers count rank ranked row inside path f place flags h.standing past-all in
         let single : without D (each_once nat_eq (e ∷ [])) ≡ e ∷ [] = rw fresh refl in

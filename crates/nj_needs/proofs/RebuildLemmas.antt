@@ -94,8 +94,8 @@ module _ (w v : Walk) (graph : v.turns.graph ≡ w.turns.graph) (targets : v.tur
       let linked : IsLinked (makers_of g) (row_of g ts) (w.path.items ++ f ∷ []) =
       subst (IsLinked (makers_of g) (row_of g ts)) grown (rw (← graph, ← targets) after.standing.linked) in
       let here = (IsLinked-pop (makers_of g) (row_of g ts) w.path.items f linked).1 in
-      let edge : f.edge ≡ there.0 =
-      same_Some f.edge there.0 (same_Some (Some f.edge) (Some there.0)
+      let edge : f.edge.0 ≡ there.0 =
+      same_Some f.edge.0 there.0 (same_Some (Some f.edge.0) (Some there.0)
       (sym here ∙ ap (slice_get (top_of g ts w.path.items)) at ∙ there-now)) in
       let top : top_of g ts v.path.items ≡ makers_of g there.0 =
       ap (top_of g ts) grown ∙ top_row-push (makers_of g) (row_of g ts) w.path.items f ∙ ap (makers_of g) edge
@@ -159,7 +159,7 @@ module _ (w : Walk) (numbers : List ℕ) (i : ℕ) (past : length numbers ≤ i)
       omega (
         arith,
         slice_get_within (top_of w.turns.graph.now w.turns.targets.now
-            (take (length numbers - 1) w.path.items)) f.at (Some f.edge) r.1,
+            (take (length numbers - 1) w.path.items)) f.at (Some f.edge.0) r.1,
       )
 
   -- once it is closed, all is done that is done at the mark

@@ -110,24 +110,25 @@ module _ (makers : ℕ → List (Option ℕ)) (count : ℕ) (rank : ℕ → ℕ)
         (done-within (makers m) (within makers count rank ranked m) (r ∷ mark) valid x i),
   )
   done-split row inside (f ∷ []) h q m mark at valid =
-      let d = done-split (makers f.edge) (within makers count rank ranked f.edge) [] h.1 q m mark at valid in
-      let front = unfolded_row makers count (take f.at row) in (
-        d.0,
-        ap (λ (k : List (Option ℕ)). front ++ done makers count k (q ∷ mark))
-            (inputs-some makers row f.at f.edge h.0)
-            ∙ ap (λ (us : List ℕ). front ++ us) d.1
-            ∙ sym (append_assoc front (done_at makers count (makers f.edge) [] q) d.0),
-        d.2,
-      )
-  done-split row inside (f ∷ g ∷ path) h q m mark at valid =
-      let d = done-split (makers f.edge) (within makers count rank ranked f.edge) (g ∷ path) h.1 q m mark at
+      let d = done-split (makers f.edge.0) (within makers count rank ranked f.edge.0) [] h.1 q m mark at
       valid in
       let front = unfolded_row makers count (take f.at row) in (
         d.0,
-        ap (λ (k : List (Option ℕ)). front ++ done makers count k (places (g ∷ path) ++ q ∷ mark))
-            (inputs-some makers row f.at f.edge h.0)
+        ap (λ (k : List (Option ℕ)). front ++ done makers count k (q ∷ mark))
+            (inputs-some makers row f.at f.edge.0 h.0)
             ∙ ap (λ (us : List ℕ). front ++ us) d.1
-            ∙ sym (append_assoc front (done_at makers count (makers f.edge) (g ∷ path) q) d.0),
+            ∙ sym (append_assoc front (done_at makers count (makers f.edge.0) [] q) d.0),
+        d.2,
+      )
+  done-split row inside (f ∷ g ∷ path) h q m mark at valid =
+      let d = done-split (makers f.edge.0) (within makers count rank ranked f.edge.0) (g ∷ path) h.1 q m mark
+      at valid in
+      let front = unfolded_row makers count (take f.at row) in (
+        d.0,
+        ap (λ (k : List (Option ℕ)). front ++ done makers count k (places (g ∷ path) ++ q ∷ mark))
+            (inputs-some makers row f.at f.edge.0 h.0)
+            ∙ ap (λ (us : List ℕ). front ++ us) d.1
+            ∙ sym (append_assoc front (done_at makers count (makers f.edge.0) (g ∷ path) q) d.0),
         d.2,
       )
 
@@ -276,5 +277,5 @@ module _ (w v : Walk) (graph : v.turns.graph ≡ w.turns.graph) (targets : v.tur
 
   pub turn-goes : (t : Turn) → TurnIs w t v → Goes
   turn-goes Looked t = looked-goes t
-  turn-goes (Closed e phony) t = closed-goes e phony t
+  turn-goes (Closed e phony) t = closed-goes e.0 phony t
   turn-goes Ended t = ended-goes t

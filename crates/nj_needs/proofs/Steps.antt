@@ -72,8 +72,8 @@ module _ (makers : ℕ → List (Option ℕ)) (count : ℕ) (rank : ℕ → ℕ)
 
   -- an edge is opened that is not done
   pub open-comes : (path : List Frame) (f : Frame) (flags : List Bool)
-      → slice_get (top_row makers row path) f.at ≡ Some (Some f.edge)
-      → list_any (nat_eq f.edge) (done_now path f.at) ≡ false
+      → slice_get (top_row makers row path) f.at ≡ Some (Some f.edge.0)
+      → list_any (nat_eq f.edge.0) (done_now path f.at) ≡ false
       → IsStanding makers count row path f.at flags → IsStanding makers count row (path ++ f ∷ []) 0 flags
   open-comes path f flags at fresh h =
       let is : done_now (path ++ f ∷ []) 0 ≡ done_now path f.at = done_at-open makers count row path f in
@@ -81,10 +81,11 @@ module _ (makers : ℕ → List (Option ℕ)) (count : ℕ) (rank : ℕ → ℕ)
         linked = IsLinked-push makers row path f h.linked at;
         place_in = omega arith;
         undone = λ e i. ap (list_any (nat_eq e)) is
-            ∙ elim (In-append_cases (opened path) (f.edge ∷ []) e
-            (subst (λ es. In es e) (map_push (λ (g : Frame). g.edge) path f) i)) [
+            ∙ elim (In-append_cases (opened path) (f.edge.0 ∷ []) e
+            (subst (λ es. In es e) (map_push (λ (g : Frame). g.edge.0) path f) i)) [
               | inl old ↦ h.undone e old
-              | inr new ↦ ap (λ y. list_any (nat_eq y) (done_now path f.at)) (In-single f.edge e new) ∙ fresh
+              | inr new ↦ ap (λ y. list_any (nat_eq y) (done_now path f.at)) (In-single f.edge.0 e new)
+                  ∙ fresh
             ];
         flags_len = h.flags_len;
         flagged = λ e lt. h.flagged e lt ∙ ap (list_any (nat_eq e)) (sym is);
@@ -97,20 +98,20 @@ module _ (makers : ℕ → List (Option ℕ)) (count : ℕ) (rank : ℕ → ℕ)
       absurd (omega arith))
 
   pub open-turns : (path : List Frame) (f : Frame) → IsLinked makers row path
-      → slice_get (top_row makers row path) f.at ≡ Some (Some f.edge)
-      → list_any (nat_eq f.edge) (done_now path f.at) ≡ false
+      → slice_get (top_row makers row path) f.at ≡ Some (Some f.edge.0)
+      → list_any (nat_eq f.edge.0) (done_now path f.at) ≡ false
       → turns_left makers count row path f.at ≡ turns_left makers count row (path ++ f ∷ []) 0 + 1
   open-turns path f linked at fresh =
       turns_left-open makers count row path f
-      (slice_get_within (top_row makers row path) f.at (Some f.edge) at)
+      (slice_get_within (top_row makers row path) f.at (Some f.edge.0) at)
       (done_at-open makers count row path f)
-      (top-in_order makers count rank ranked row inside path linked f.at f.edge at) fresh
-      (not-opened path f.at f.edge linked at)
+      (top-in_order makers count rank ranked row inside path linked f.at f.edge.0 at) fresh
+      (not-opened path f.at f.edge.0 linked at)
 
   -- an edge is closed
   past-row : (path : List Frame) (f : Frame) (place : ℕ)
-      → slice_get (top_row makers row (path ++ f ∷ [])) place ≡ None → length (makers f.edge) ≤ place
-  past-row path f place none = past (makers f.edge) place
+      → slice_get (top_row makers row (path ++ f ∷ [])) place ≡ None → length (makers f.edge.0) ≤ place
+  past-row path f place none = past (makers f.edge.0) place
       (ap (λ (r : List (Option ℕ)). slice_get r place) (sym (top_row-push makers row path f)) ∙ none)
     where
       past : (r : List (Option ℕ)) (p : ℕ) → slice_get r p ≡ None → length r ≤ p
@@ -121,49 +122,50 @@ module _ (makers : ℕ → List (Option ℕ)) (count : ℕ) (rank : ℕ → ℕ)
   module _ (path : List Frame) (f : Frame) (place : ℕ) (flags : List Bool)
       (h : IsStanding makers count row (path ++ f ∷ []) place flags)
       (none : slice_get (top_row makers row (path ++ f ∷ [])) place ≡ None) where
-    pub closed-done : done_now path (f.at + 1) ≡ done_now (path ++ f ∷ []) place ++ f.edge ∷ []
+    pub closed-done : done_now path (f.at + 1) ≡ done_now (path ++ f ∷ []) place ++ f.edge.0 ∷ []
     closed-done = done_at-close makers count rank ranked row inside path f place h.linked
         (past-row path f place none)
 
-    popped : IsLinked makers row path × (slice_get (top_row makers row path) f.at ≡ Some (Some f.edge))
+    popped : IsLinked makers row path × (slice_get (top_row makers row path) f.at ≡ Some (Some f.edge.0))
     popped = IsLinked-pop makers row path f h.linked
 
-    pub closed-fresh : list_any (nat_eq f.edge) (done_now (path ++ f ∷ []) place) ≡ false
-    closed-fresh = h.undone f.edge (subst (λ es. In es f.edge) (sym (map_push (λ (g : Frame). g.edge) path f))
-        (In-last (opened path) f.edge))
+    pub closed-fresh : list_any (nat_eq f.edge.0) (done_now (path ++ f ∷ []) place) ≡ false
+    closed-fresh = h.undone f.edge.0 (subst (λ es. In es f.edge.0)
+        (sym (map_push (λ (g : Frame). g.edge.0) path f))
+        (In-last (opened path) f.edge.0))
 
-    pub closed-within : f.edge < count
-    closed-within = top-within makers count rank ranked row inside path f.at f.edge popped.1
+    pub closed-within : f.edge.0 < count
+    closed-within = top-within makers count rank ranked row inside path f.at f.edge.0 popped.1
 
-    pub close-comes : IsStanding makers count row path (f.at + 1) (set flags f.edge true)
+    pub close-comes : IsStanding makers count row path (f.at + 1) (set flags f.edge.0 true)
     close-comes =
         let D = done_now (path ++ f ∷ []) place in
         record {
           linked = popped.0;
-          place_in = omega (arith, slice_get_within (top_row makers row path) f.at (Some f.edge) popped.1);
+          place_in = omega (arith, slice_get_within (top_row makers row path) f.at (Some f.edge.0) popped.1);
           undone = λ e i. ap (list_any (nat_eq e)) closed-done
-              ∙ false_from_ne_true (list_any (nat_eq e) (D ++ f.edge ∷ []))
-              (λ j. elim (In-append_cases D (f.edge ∷ []) e j) [
+              ∙ false_from_ne_true (list_any (nat_eq e) (D ++ f.edge.0 ∷ []))
+              (λ j. elim (In-append_cases D (f.edge.0 ∷ []) e j) [
                 | inl s ↦
                     let u : list_any (nat_eq e) D ≡ false =
-                    h.undone e (subst (λ es. In es e) (sym (map_push (λ (g : Frame). g.edge) path f))
-                    (In-append_left (opened path) (f.edge ∷ []) e i)) in
+                    h.undone e (subst (λ es. In es e) (sym (map_push (λ (g : Frame). g.edge.0) path f))
+                    (In-append_left (opened path) (f.edge.0 ∷ []) e i)) in
                     absurd (let s' : list_any (nat_eq e) D ≡ true = s in cc)
-                | inr t ↦ let is : e ≡ f.edge = In-single f.edge e t in let r : rank f.edge < rank e =
-                    rank-opened makers count rank ranked row path popped.0 f.at f.edge popped.1 e i in
+                | inr t ↦ let is : e ≡ f.edge.0 = In-single f.edge.0 e t in let r : rank f.edge.0 < rank e =
+                    rank-opened makers count rank ranked row path popped.0 f.at f.edge.0 popped.1 e i in
                     let same = ap rank is in absurd (omega arith)
               ]);
-          flags_len = length-set flags f.edge true ∙ h.flags_len;
-          flagged = λ e lt. elim (cases_eq e f.edge) [
+          flags_len = length-set flags f.edge.0 true ∙ h.flags_len;
+          flagged = λ e lt. elim (cases_eq e f.edge.0) [
             | inl is ↦
-                ap (λ y. get_or (set flags f.edge true) y false) is
-                ∙ get_or-set_same flags f.edge true false (omega (arith, closed-within, h.flags_len))
+                ap (λ y. get_or (set flags f.edge.0 true) y false) is
+                ∙ get_or-set_same flags f.edge.0 true false (omega (arith, closed-within, h.flags_len))
                 ∙ sym (ap (λ y. list_any (nat_eq y) (done_now path (f.at + 1))) is
-                ∙ ap (list_any (nat_eq f.edge)) closed-done ∙ In-last D f.edge)
+                ∙ ap (list_any (nat_eq f.edge.0)) closed-done ∙ In-last D f.edge.0)
             | inr differs ↦
-                get_or-set_other flags f.edge e true false differs ∙ h.flagged e lt
-                ∙ sym (ap (list_any (nat_eq e)) closed-done ∙ list_any-append (nat_eq e) D (f.edge ∷ [])
-                ∙ ap (λ b. list_any (nat_eq e) D || (b || false)) (ne_eqb e f.edge differs)
+                get_or-set_other flags f.edge.0 e true false differs ∙ h.flagged e lt
+                ∙ sym (ap (list_any (nat_eq e)) closed-done ∙ list_any-append (nat_eq e) D (f.edge.0 ∷ [])
+                ∙ ap (λ b. list_any (nat_eq e) D || (b || false)) (ne_eqb e f.edge.0 differs)
                 ∙ or_nothing (list_any (nat_eq e) D))
           ];
         }
@@ -173,24 +175,24 @@ module _ (makers : ℕ → List (Option ℕ)) (count : ℕ) (rank : ℕ → ℕ)
         or_nothing false = refl
 
     pub close-left : (phony : ℕ → Bool) → left_at makers count phony row (path ++ f ∷ []) place
-        ≡ cond (phony f.edge) (left_at makers count phony row path (f.at + 1))
-        (f.edge ∷ left_at makers count phony row path (f.at + 1))
+        ≡ cond (phony f.edge.0) (left_at makers count phony row path (f.at + 1))
+        (f.edge.0 ∷ left_at makers count phony row path (f.at + 1))
     close-left phony =
         let D = done_now (path ++ f ∷ []) place in
         let E = done_now path (f.at + 1) in
         let r = done_front makers count rank ranked row inside path (f.at + 1) popped.0 in
         let N = order makers count row in
         let np : ℕ → Bool = λ e. not (phony e) in
-        let is : unfolded_row makers count row ≡ D ++ f.edge ∷ r.0 =
-        r.1 ∙ ap (λ (es : List ℕ). es ++ r.0) closed-done ∙ append_assoc D (f.edge ∷ []) r.0 in
-        let next : without D N ≡ f.edge ∷ without E N =
+        let is : unfolded_row makers count row ≡ D ++ f.edge.0 ∷ r.0 =
+        r.1 ∙ ap (λ (es : List ℕ). es ++ r.0) closed-done ∙ append_assoc D (f.edge.0 ∷ []) r.0 in
+        let next : without D N ≡ f.edge.0 ∷ without E N =
         subst (λ (us : List ℕ). without D (each_once nat_eq us)
-        ≡ f.edge ∷ without (D ++ f.edge ∷ []) (each_once nat_eq us)) (sym is)
-        (without-next D f.edge r.0 closed-fresh)
-        ∙ ap (λ (es : List ℕ). f.edge ∷ without es N) (sym closed-done) in
+        ≡ f.edge.0 ∷ without (D ++ f.edge.0 ∷ []) (each_once nat_eq us)) (sym is)
+        (without-next D f.edge.0 r.0 closed-fresh)
+        ∙ ap (λ (es : List ℕ). f.edge.0 ∷ without es N) (sym closed-done) in
         filter_comm (λ e. not (list_any (nat_eq e) D)) np N ∙ ap (filter np) next
-        ∙ by_test (phony f.edge) f.edge (filter np (without E N))
-        ∙ ap (λ (es : List ℕ). cond (phony f.edge) es (f.edge ∷ es))
+        ∙ by_test (phony f.edge.0) f.edge.0 (filter np (without E N))
+        ∙ ap (λ (es : List ℕ). cond (phony f.edge.0) es (f.edge.0 ∷ es))
         (filter_comm np (λ e. not (list_any (nat_eq e) E)) N)
       where
         by_test : (b : Bool) (e : ℕ) (es : List ℕ) → cond (not b) (e ∷ es) es ≡ cond b es (e ∷ es)

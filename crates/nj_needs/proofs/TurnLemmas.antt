@@ -5,6 +5,7 @@ use Rattle.std.specs.Prelude.{nat_eq, slice_get}
 use Rattle.std.specs.List.{list_any}
 use Rattle.std.proofs.lemmas.Option.{slice_get_within, same_Some}
 use Rattle.nj_names.specs.declared.files.FileNo.{FileNo}
+use Rattle.nj_edges.specs.declared.edges.EdgeNo.{EdgeNo}
 use Rattle.nj_edges.specs.EdgeGraphs.{EdgeGraph}
 use Rattle.nj_needs.specs.Counts.{saturated}
 use Rattle.nj_needs.specs.Inside.Tops.{counted}
@@ -14,7 +15,7 @@ use Rattle.nj_needs.specs.Marks.{done, without, edge_at}
 use Rattle.nj_needs.specs.Inside.Paths.{IsLinked, places, IsStanding}
 use Rattle.nj_needs.specs.Inside.Reserved.{Reserved}
 use Rattle.nj_needs.specs.Inside.Tops.{IsTop}
-use Rattle.nj_needs.specs.Walks.{bound_of, commands_of}
+use Rattle.nj_needs.specs.Walks.{bound_of, commands_of, number_of}
 use Rattle.nj_needs.specs.Inside.Standing.{left_of, turns_left_of, done_of, top_of, IsWalkAt, HasLooked}
 use Rattle.nj_needs.specs.Inside.Standing.{HasClosed, HasEnded}
 use Rattle.nj_needs.specs.declared.frame.Frame.{Frame}
@@ -86,14 +87,14 @@ module _ (g : EdgeGraph) (targets : List FileNo) (turns : ℕ) (path : Reserved 
   -- an edge is opened
   module _ (f : Frame) (after : Reserved Frame) (grown : after.items ≡ path.items ++ f ∷ [])
       (same_capacity : after.capacity ≡ path.capacity) (here : f.at ≡ place)
-      (at : slice_get (top_of g targets path.items) place ≡ Some (Some f.edge))
-      (fresh : get_or flags f.edge false ≡ false) where
-    at' : slice_get (top_of g targets path.items) f.at ≡ Some (Some f.edge)
+      (at : slice_get (top_of g targets path.items) place ≡ Some (Some f.edge.0))
+      (fresh : get_or flags f.edge.0 false ≡ false) where
+    at' : slice_get (top_of g targets path.items) f.at ≡ Some (Some f.edge.0)
     at' = ap (slice_get (top_of g targets path.items)) here ∙ at
 
-    fresh' : list_any (nat_eq f.edge) (done_of g targets path.items f.at) ≡ false
-    fresh' = ap (λ p. list_any (nat_eq f.edge) (done_of g targets path.items p)) here
-        ∙ sym (h.standing.flagged f.edge (top-edge_within place f.edge at)) ∙ fresh
+    fresh' : list_any (nat_eq f.edge.0) (done_of g targets path.items f.at) ≡ false
+    fresh' = ap (λ p. list_any (nat_eq f.edge.0) (done_of g targets path.items p)) here
+        ∙ sym (h.standing.flagged f.edge.0 (top-edge_within place f.edge.0 at)) ∙ fresh
 
     opened-turn : turns_left_of g targets path.items place ≡ turns_left_of g targets after.items 0 + 1
     opened-turn =
@@ -154,11 +155,11 @@ module _ (g : EdgeGraph) (targets : List FileNo) (turns : ℕ) (path : Reserved 
         ∙ close-turns (makers_of g) (count_of g) h.acyclic.0 h.acyclic.1 (row_of g targets) inside after.items
         f place flags stood past'
 
-    pub close-within : f.edge < count_of g
+    pub close-within : f.edge.0 < count_of g
     close-within = closed-within (makers_of g) (count_of g) h.acyclic.0 h.acyclic.1 (row_of g targets) inside
         after.items f place flags stood past'
 
-    pub walk-close : IsWalkAt g targets (counted turns) after (f.at + 1) (set flags f.edge true) begun
+    pub walk-close : IsWalkAt g targets (counted turns) after (f.at + 1) (set flags f.edge.0 true) begun
     walk-close = record {
       acyclic = h.acyclic;
       inside = h.inside;
@@ -175,7 +176,8 @@ module _ (g : EdgeGraph) (targets : List FileNo) (turns : ℕ) (path : Reserved 
         ap (λ (fs : List Frame). done (makers_of g) (count_of g) (row_of g targets) (places fs)) shrunk
         ∙ done-places (makers_of g) (count_of g) (row_of g targets) after.items f stood.linked
 
-    pub turn-close : HasClosed g targets path.items place after.items (f.at + 1) f.edge (is_phony g f.edge)
+    pub turn-close : HasClosed g targets path.items place after.items (f.at + 1) f.edge.0
+        (is_phony g f.edge.0)
     turn-close = record {
       popped = (f, shrunk, refl, refl);
       left = ap (λ (fs : List Frame). left_of g targets fs place) shrunk
@@ -199,7 +201,7 @@ module _ (g : EdgeGraph) (targets : List FileNo) (turns : ℕ) (path : Reserved 
           let r = IsLinked-pop (makers_of g) (row_of g targets) after.items f stood.linked in
           path-capacity (makers_of g) (count_of g) h.acyclic.0 h.acyclic.1 (count_of g) (row_of g targets)
           (Below-targets (makers_of g) (count_of g) h.acyclic.0 h.acyclic.1 (row_of g targets) inside)
-          after.items r.0 f.at f.edge r.1;
+          after.items r.0 f.at f.edge.0 r.1;
     }
 
   -- nothing is left
@@ -228,19 +230,25 @@ module _ (g : EdgeGraph) (targets : List FileNo) (turns : ℕ) (path : Reserved 
         past-end (y ∷ r) (suc p) e = omega (arith, past-end r p e)
 
 -- the row in which the last open edge has the walk look
-pub row-top : (g : EdgeGraph) (targets : List FileNo) (path : List Frame) (edge : Option ℕ) → IsTop path edge
-    → row_in g targets edge ≡ top_of g targets path
+pub row-top : (g : EdgeGraph) (targets : List FileNo) (path : List Frame) (edge : Option EdgeNo)
+    → IsTop path edge → row_in g targets edge ≡ top_of g targets path
 row-top g targets path edge empty = grind (arith, top_row-push)
 
 pub top-is_edge : (g : EdgeGraph) (targets : List FileNo) (turns : ℕ) (path : Reserved Frame) (place : ℕ)
     (flags : List Bool) (begun : ℕ) → IsWalkAt g targets turns path place flags begun
-    → (edge : Option ℕ) → IsTop path.items edge → (e : ℕ) → edge ≡ Some e → e < count_of g
+    → (edge : Option EdgeNo) → IsTop path.items edge → (e : EdgeNo) → edge ≡ Some e → e.0 < count_of g
 top-is_edge g targets turns path place flags begun h None top e is = absurd cc
 top-is_edge g targets turns path place flags begun h (Some x) top e is =
     let linked : IsLinked (makers_of g) (row_of g targets) (top.0 ++ top.1 ∷ []) =
     subst (IsLinked (makers_of g) (row_of g targets)) top.2 h.standing.linked in
     let r = IsLinked-pop (makers_of g) (row_of g targets) top.0 top.1 linked in
-    let low : top.1.edge < count_of g =
+    let low : top.1.edge.0 < count_of g =
     top-within (makers_of g) (count_of g) h.acyclic.0 h.acyclic.1 (row_of g targets)
-    (λ m a. h.inside m (Contains-from_Among (row_of g targets) m a)) top.0 top.1.at top.1.edge r.1 in
-    subst (λ y. y < count_of g) (top.3 ∙ same_Some x e is) low
+    (λ m a. h.inside m (Contains-from_Among (row_of g targets) m a)) top.0 top.1.at top.1.edge.0 r.1 in
+    subst (λ (y : EdgeNo). y.0 < count_of g) (top.3 ∙ same_Some x e is) low
+
+-- a maker with a number is the edge with this number
+pub numbered : (maker : Option EdgeNo) (m : ℕ) → number_of maker ≡ Some m
+    → (e : EdgeNo) × (maker ≡ Some e) × (e.0 ≡ m)
+numbered None m is = absurd cc
+numbered (Some e) m is = (e, refl, same_Some e.0 m is)

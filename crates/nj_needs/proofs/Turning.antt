@@ -18,12 +18,12 @@ use Rattle.nj_needs.proofs.Striking.{Differ, Differ-first, In-first_from}
 module _ (makers : ℕ → List (Option ℕ)) where
   pub turns_open-push : (row : List (Option ℕ)) (path : List Frame) (f : Frame) (place : ℕ)
       → turns_open makers row (path ++ f ∷ []) place
-      ≡ turns_open makers row path (f.at + 1) + 1 + (length (makers f.edge) - place)
+      ≡ turns_open makers row path (f.at + 1) + 1 + (length (makers f.edge.0) - place)
   turns_open-push row [] f place = refl
   turns_open-push row (g ∷ path) f place =
-      let r : turns_open makers (makers g.edge) (path ++ f ∷ []) place
-      ≡ turns_open makers (makers g.edge) path (f.at + 1) + 1 + (length (makers f.edge) - place) =
-      turns_open-push (makers g.edge) path f place in
+      let r : turns_open makers (makers g.edge.0) (path ++ f ∷ []) place
+      ≡ turns_open makers (makers g.edge.0) path (f.at + 1) + 1 + (length (makers f.edge.0) - place) =
+      turns_open-push (makers g.edge.0) path f place in
       omega arith
 
   pub turns_open-pass : (row : List (Option ℕ)) (path : List Frame) (place : ℕ)
@@ -31,9 +31,9 @@ module _ (makers : ℕ → List (Option ℕ)) where
       → turns_open makers row path place ≡ turns_open makers row path (place + 1) + 1
   turns_open-pass row [] place lt = omega arith
   turns_open-pass row (g ∷ path) place lt =
-      let r : turns_open makers (makers g.edge) path place
-      ≡ turns_open makers (makers g.edge) path (place + 1) + 1 =
-      turns_open-pass (makers g.edge) path place lt in
+      let r : turns_open makers (makers g.edge.0) path place
+      ≡ turns_open makers (makers g.edge.0) path (place + 1) + 1 =
+      turns_open-pass (makers g.edge.0) path place lt in
       omega arith
 
   abbrev weight : ℕ → ℕ
@@ -131,54 +131,55 @@ module _ (makers : ℕ → List (Option ℕ)) where
     pub turns_left-open : (row : List (Option ℕ)) (path : List Frame) (f : Frame)
         → f.at < length (top_row makers row path)
         → done_at makers count row (path ++ f ∷ []) 0 ≡ done_at makers count row path f.at
-        → In (unfolded_row makers count row) f.edge
-        → list_any (nat_eq f.edge) (done_at makers count row path f.at) ≡ false
-        → list_any (nat_eq f.edge) (opened path) ≡ false
+        → In (unfolded_row makers count row) f.edge.0
+        → list_any (nat_eq f.edge.0) (done_at makers count row path f.at) ≡ false
+        → list_any (nat_eq f.edge.0) (opened path) ≡ false
         → turns_left makers count row path f.at ≡ turns_left makers count row (path ++ f ∷ []) 0 + 1
     turns_left-open row path f lt done_same ordered fresh closed =
         let D = done_at makers count row path f.at in
         let seen = D ++ opened path in
         let other = done_at makers count row (path ++ f ∷ []) 0 ++ opened (path ++ f ∷ []) in
-        let is : other ≡ seen ++ f.edge ∷ [] =
+        let is : other ≡ seen ++ f.edge.0 ∷ [] =
         ap (λ (es : List ℕ). es ++ opened (path ++ f ∷ [])) done_same
-        ∙ ap (λ (es : List ℕ). D ++ es) (map_push (λ (g : Frame). g.edge) path f)
-        ∙ sym (append_assoc D (opened path) (f.edge ∷ [])) in
-        let not_seen : list_any (nat_eq f.edge) seen ≡ false =
-        list_any-append (nat_eq f.edge) D (opened path) ∙ rw (fresh, closed) refl in
-        let now_seen : list_any (nat_eq f.edge) other ≡ true =
-        subst (λ es. In es f.edge) (sym is) (In-last seen f.edge) in
-        let others : (x : ℕ) → (x ≡ f.edge → ⊥) → list_any (nat_eq x) seen ≡ list_any (nat_eq x) other =
+        ∙ ap (λ (es : List ℕ). D ++ es) (map_push (λ (g : Frame). g.edge.0) path f)
+        ∙ sym (append_assoc D (opened path) (f.edge.0 ∷ [])) in
+        let not_seen : list_any (nat_eq f.edge.0) seen ≡ false =
+        list_any-append (nat_eq f.edge.0) D (opened path) ∙ rw (fresh, closed) refl in
+        let now_seen : list_any (nat_eq f.edge.0) other ≡ true =
+        subst (λ es. In es f.edge.0) (sym is) (In-last seen f.edge.0) in
+        let others : (x : ℕ) → (x ≡ f.edge.0 → ⊥) → list_any (nat_eq x) seen ≡ list_any (nat_eq x) other =
         λ x differs.
         same_tests (list_any (nat_eq x) seen) (list_any (nat_eq x) other)
-        (λ i. subst (λ es. In es x) (sym is) (In-append_left seen (f.edge ∷ []) x i))
-        (λ i. elim (In-append_cases seen (f.edge ∷ []) x (subst (λ es. In es x) is i))
-        [ inl s ↦ s | inr t ↦ absurd (differs (In-single f.edge x t)) ]) in
-        let unseen = turns_unseen-new seen other (order makers count row) f.edge
+        (λ i. subst (λ es. In es x) (sym is) (In-append_left seen (f.edge.0 ∷ []) x i))
+        (λ i. elim (In-append_cases seen (f.edge.0 ∷ []) x (subst (λ es. In es x) is i))
+        [ inl s ↦ s | inr t ↦ absurd (differs (In-single f.edge.0 x t)) ]) in
+        let unseen = turns_unseen-new seen other (order makers count row) f.edge.0
         (Differ-first (unfolded_row makers count row))
-        (In-first_from (unfolded_row makers count row) f.edge ordered) not_seen now_seen others in
+        (In-first_from (unfolded_row makers count row) f.edge.0 ordered) not_seen now_seen others in
         let open_ = turns_open-pass row path f.at lt in
         let pushed = turns_open-push row path f 0 in
         omega (arith, unseen, open_, pushed)
 
     -- an edge is closed
     pub turns_left-close : (row : List (Option ℕ)) (path : List Frame) (f : Frame) (place : ℕ)
-        → length (makers f.edge) ≤ place
+        → length (makers f.edge.0) ≤ place
         → done_at makers count row path (f.at + 1)
-        ≡ done_at makers count row (path ++ f ∷ []) place ++ f.edge ∷ []
+        ≡ done_at makers count row (path ++ f ∷ []) place ++ f.edge.0 ∷ []
         → turns_left makers count row (path ++ f ∷ []) place ≡ turns_left makers count row path (f.at + 1) + 1
     turns_left-close row path f place past done_more =
         let D = done_at makers count row (path ++ f ∷ []) place in
         let E = done_at makers count row path (f.at + 1) in
         let O = opened path in
-        let pushed : opened (path ++ f ∷ []) ≡ O ++ f.edge ∷ [] = map_push (λ (g : Frame). g.edge) path f in
+        let pushed : opened (path ++ f ∷ []) ≡ O ++ f.edge.0 ∷ [] =
+        map_push (λ (g : Frame). g.edge.0) path f in
         let same : (x : ℕ) → list_any (nat_eq x) (D ++ opened (path ++ f ∷ []))
         ≡ list_any (nat_eq x) (E ++ O) = λ x.
         ap (λ (es : List ℕ). list_any (nat_eq x) (D ++ es)) pushed
-        ∙ list_any-append (nat_eq x) D (O ++ f.edge ∷ [])
-        ∙ ap (λ b. list_any (nat_eq x) D || b) (list_any-append (nat_eq x) O (f.edge ∷ []))
-        ∙ or_turned (list_any (nat_eq x) D) (list_any (nat_eq x) O) (list_any (nat_eq x) (f.edge ∷ []))
-        ∙ ap (λ b. b || list_any (nat_eq x) O) (sym (list_any-append (nat_eq x) D (f.edge ∷ [])))
-        ∙ sym (list_any-append (nat_eq x) (D ++ f.edge ∷ []) O)
+        ∙ list_any-append (nat_eq x) D (O ++ f.edge.0 ∷ [])
+        ∙ ap (λ b. list_any (nat_eq x) D || b) (list_any-append (nat_eq x) O (f.edge.0 ∷ []))
+        ∙ or_turned (list_any (nat_eq x) D) (list_any (nat_eq x) O) (list_any (nat_eq x) (f.edge.0 ∷ []))
+        ∙ ap (λ b. b || list_any (nat_eq x) O) (sym (list_any-append (nat_eq x) D (f.edge.0 ∷ [])))
+        ∙ sym (list_any-append (nat_eq x) (D ++ f.edge.0 ∷ []) O)
         ∙ ap (λ (es : List ℕ). list_any (nat_eq x) (es ++ O)) (sym done_more) in
         let unseen = turns_unseen-same (D ++ opened (path ++ f ∷ [])) (E ++ O) (order makers count row) same
         in

@@ -18,32 +18,32 @@ use Rattle.nj_needs.proofs.Unfolding.{In-row_from, In-unfolded, falls, within, u
 module _ (makers : ℕ → List (Option ℕ)) where
   -- an edge on top of the path
   pub top_row-push : (row : List (Option ℕ)) (path : List Frame) (f : Frame)
-      → top_row makers row (path ++ f ∷ []) ≡ makers f.edge
+      → top_row makers row (path ++ f ∷ []) ≡ makers f.edge.0
   top_row-push row [] f = refl
-  top_row-push row (g ∷ path) f = top_row-push (makers g.edge) path f
+  top_row-push row (g ∷ path) f = top_row-push (makers g.edge.0) path f
 
   pub IsLinked-push : (row : List (Option ℕ)) (path : List Frame) (f : Frame) → IsLinked makers row path
-      → slice_get (top_row makers row path) f.at ≡ Some (Some f.edge) → IsLinked makers row (path ++ f ∷ [])
+      → slice_get (top_row makers row path) f.at ≡ Some (Some f.edge.0) → IsLinked makers row (path ++ f ∷ [])
   IsLinked-push row [] f h at = (at, tt)
-  IsLinked-push row (g ∷ path) f h at = (h.0, IsLinked-push (makers g.edge) path f h.1 at)
+  IsLinked-push row (g ∷ path) f h at = (h.0, IsLinked-push (makers g.edge.0) path f h.1 at)
 
   pub IsLinked-pop : (row : List (Option ℕ)) (path : List Frame) (f : Frame)
       → IsLinked makers row (path ++ f ∷ [])
-      → IsLinked makers row path × (slice_get (top_row makers row path) f.at ≡ Some (Some f.edge))
+      → IsLinked makers row path × (slice_get (top_row makers row path) f.at ≡ Some (Some f.edge.0))
   IsLinked-pop row [] f h = (tt, h.0)
-  IsLinked-pop row (g ∷ path) f h = let r = IsLinked-pop (makers g.edge) path f h.1 in ((h.0, r.0), r.1)
+  IsLinked-pop row (g ∷ path) f h = let r = IsLinked-pop (makers g.edge.0) path f h.1 in ((h.0, r.0), r.1)
 
 module _ (makers : ℕ → List (Option ℕ)) (count : ℕ) where
   pub done_at-push : (row : List (Option ℕ)) (path : List Frame) (f : Frame) (place : ℕ)
       → done_at makers count row (path ++ f ∷ []) place
-      ≡ done_at makers count row path f.at ++ unfolded_row makers count (take place (makers f.edge))
+      ≡ done_at makers count row path f.at ++ unfolded_row makers count (take place (makers f.edge.0))
   done_at-push row [] f place = refl
   done_at-push row (g ∷ path) f place =
       ap (λ (us : List ℕ). unfolded_row makers count (take g.at row) ++ us)
-      (done_at-push (makers g.edge) path f place)
+      (done_at-push (makers g.edge.0) path f place)
       ∙ sym (append_assoc (unfolded_row makers count (take g.at row))
-      (done_at makers count (makers g.edge) path f.at)
-      (unfolded_row makers count (take place (makers f.edge))))
+      (done_at makers count (makers g.edge.0) path f.at)
+      (unfolded_row makers count (take place (makers f.edge.0))))
 
   pub done_at-open : (row : List (Option ℕ)) (path : List Frame) (f : Frame)
       → done_at makers count row (path ++ f ∷ []) 0 ≡ done_at makers count row path f.at
@@ -68,9 +68,9 @@ module _ (makers : ℕ → List (Option ℕ)) (count : ℕ) where
   done_at-pass row [] place x at = row_more row place x at
   done_at-pass row (g ∷ path) place x at =
       ap (λ (us : List ℕ). unfolded_row makers count (take g.at row) ++ us)
-      (done_at-pass (makers g.edge) path place x at)
+      (done_at-pass (makers g.edge.0) path place x at)
       ∙ sym (append_assoc (unfolded_row makers count (take g.at row))
-      (done_at makers count (makers g.edge) path place) (made_by (unfolded makers count) x))
+      (done_at makers count (makers g.edge.0) path place) (made_by (unfolded makers count) x))
 
 module _ (makers : ℕ → List (Option ℕ)) (count : ℕ) (rank : ℕ → ℕ) (ranked : IsRank makers count rank) where
   -- the edges of a row are below a rank
@@ -86,28 +86,28 @@ module _ (makers : ℕ → List (Option ℕ)) (count : ℕ) (rank : ℕ → ℕ)
       → (p m : ℕ) → slice_get (top_row makers row path) p ≡ Some (Some m) → rank m < bound
   rank-top bound row below [] h p m at = below m (Among-get row p m at)
   rank-top bound row below (f ∷ path) h p m at =
-      let here : rank f.edge < bound = below f.edge (Among-get row f.at f.edge h.0) in
-      let deep : rank m < rank f.edge = rank-top (rank f.edge) (makers f.edge) (Below-makers f.edge) path h.1
-      p m at in
+      let here : rank f.edge.0 < bound = below f.edge.0 (Among-get row f.at f.edge.0 h.0) in
+      let deep : rank m < rank f.edge.0 =
+      rank-top (rank f.edge.0) (makers f.edge.0) (Below-makers f.edge.0) path h.1 p m at in
       omega (arith, here, deep)
 
   pub rank-opened : (row : List (Option ℕ)) (path : List Frame) → IsLinked makers row path
       → (p m : ℕ) → slice_get (top_row makers row path) p ≡ Some (Some m) → (x : ℕ) → In (opened path) x
       → rank m < rank x
   rank-opened row [] h p m at x i = absurd cc
-  rank-opened row (f ∷ path) h p m at x i = elim (In-cons_cases f.edge (opened path) x i) [
+  rank-opened row (f ∷ path) h p m at x i = elim (In-cons_cases f.edge.0 (opened path) x i) [
     | inl is ↦ subst (λ y. rank m < rank y) (sym is)
-        (rank-top (rank f.edge) (makers f.edge) (Below-makers f.edge) path h.1 p m at)
-    | inr t ↦ rank-opened (makers f.edge) path h.1 p m at x t
+        (rank-top (rank f.edge.0) (makers f.edge.0) (Below-makers f.edge.0) path h.1 p m at)
+    | inr t ↦ rank-opened (makers f.edge.0) path h.1 p m at x t
   ]
 
   pub path-short : (bound : ℕ) (row : List (Option ℕ)) → Below bound row → (path : List Frame)
       → IsLinked makers row path → length path ≤ bound
   path-short bound row below [] h = omega arith
   path-short bound row below (f ∷ path) h =
-      let here : rank f.edge < bound = below f.edge (Among-get row f.at f.edge h.0) in
-      let deep : length path ≤ rank f.edge =
-      path-short (rank f.edge) (makers f.edge) (Below-makers f.edge) path h.1 in
+      let here : rank f.edge.0 < bound = below f.edge.0 (Among-get row f.at f.edge.0 h.0) in
+      let deep : length path ≤ rank f.edge.0 =
+      path-short (rank f.edge.0) (makers f.edge.0) (Below-makers f.edge.0) path h.1 in
       omega (arith, here, deep)
 
   pub path-capacity : (bound : ℕ) (row : List (Option ℕ)) → Below bound row → (path : List Frame)
@@ -115,9 +115,9 @@ module _ (makers : ℕ → List (Option ℕ)) (count : ℕ) (rank : ℕ → ℕ)
       → (p m : ℕ) → slice_get (top_row makers row path) p ≡ Some (Some m) → length path < bound
   path-capacity bound row below [] h p m at = omega (arith, below m (Among-get row p m at))
   path-capacity bound row below (f ∷ path) h p m at =
-      let here : rank f.edge < bound = below f.edge (Among-get row f.at f.edge h.0) in
-      let deep : length path < rank f.edge =
-      path-capacity (rank f.edge) (makers f.edge) (Below-makers f.edge) path h.1 p m at in
+      let here : rank f.edge.0 < bound = below f.edge.0 (Among-get row f.at f.edge.0 h.0) in
+      let deep : length path < rank f.edge.0 =
+      path-capacity (rank f.edge.0) (makers f.edge.0) (Below-makers f.edge.0) path h.1 p m at in
       omega (arith, here, deep)
 
   module _ (row₀ : List (Option ℕ)) (inside₀ : (m : ℕ) → Among row₀ m → m < count) where
@@ -129,7 +129,7 @@ module _ (makers : ℕ → List (Option ℕ)) (count : ℕ) (rank : ℕ → ℕ)
       → (p m : ℕ) → slice_get (top_row makers row path) p ≡ Some (Some m) → m < count
   top-within row inside [] p m at = inside m (Among-get row p m at)
   top-within row inside (f ∷ path) p m at =
-      top-within (makers f.edge) (within makers count rank ranked f.edge) path p m at
+      top-within (makers f.edge.0) (within makers count rank ranked f.edge.0) path p m at
 
   pub top-in_order : (row : List (Option ℕ)) → ((m : ℕ) → Among row m → m < count) → (path : List Frame)
       → IsLinked makers row path
@@ -138,14 +138,14 @@ module _ (makers : ℕ → List (Option ℕ)) (count : ℕ) (rank : ℕ → ℕ)
   top-in_order row inside [] h p m at = In-row_from (unfolded makers count) row m m (Among-get row p m at)
       (In-unfolded makers count m)
   top-in_order row inside (f ∷ path) h p m at =
-      let a = Among-get row f.at f.edge h.0 in
+      let a = Among-get row f.at f.edge.0 h.0 in
       let U = unfolded makers count in
-      let deep : In (unfolded_row makers count (makers f.edge)) m =
-      top-in_order (makers f.edge) (within makers count rank ranked f.edge) path h.1 p m at in
-      let own : In (U f.edge) m = subst (λ us. In us m)
-      (sym (unfolded-row makers count rank ranked f.edge (inside f.edge a)))
-      (In-append_left (unfolded_row makers count (makers f.edge)) (f.edge ∷ []) m deep) in
-      In-row_from U row f.edge m a own
+      let deep : In (unfolded_row makers count (makers f.edge.0)) m =
+      top-in_order (makers f.edge.0) (within makers count rank ranked f.edge.0) path h.1 p m at in
+      let own : In (U f.edge.0) m = subst (λ us. In us m)
+      (sym (unfolded-row makers count rank ranked f.edge.0 (inside f.edge.0 a)))
+      (In-append_left (unfolded_row makers count (makers f.edge.0)) (f.edge.0 ∷ []) m deep) in
+      In-row_from U row f.edge.0 m a own
 
   -- the edges done contain those that they need
   pub done_closed : (row : List (Option ℕ)) → ((m : ℕ) → Among row m → m < count)
@@ -157,13 +157,13 @@ module _ (makers : ℕ → List (Option ℕ)) (count : ℕ) (rank : ℕ → ℕ)
       j
   done_closed row inside (f ∷ path) place x y i j =
       let front = unfolded_row makers count (take f.at row) in
-      let deep = done_at makers count (makers f.edge) path place in
+      let deep = done_at makers count (makers f.edge.0) path place in
       elim (In-append_cases front deep x i) [
         | inl here ↦ In-append_left front deep y
             (closed_row makers count rank ranked (take f.at row) (λ m a. inside m (Among-take f.at row m a)) x
             y here j)
         | inr there ↦ In-append_right front deep y
-            (done_closed (makers f.edge) (within makers count rank ranked f.edge) path place x y there j)
+            (done_closed (makers f.edge.0) (within makers count rank ranked f.edge.0) path place x y there j)
       ]
 
   -- the edges done are a prefix of the unfolded order
@@ -178,42 +178,42 @@ module _ (makers : ℕ → List (Option ℕ)) (count : ℕ) (rank : ℕ → ℕ)
       )
   done_front row inside (f ∷ path) place h =
       let F = made_by (unfolded makers count) in
-      let r = done_front (makers f.edge) (within makers count rank ranked f.edge) path place h.1 in
-      let lt : f.at < length row = slice_get_within row f.at (Some f.edge) h.0 in
-      let own : f.edge < count = inside f.edge (Among-get row f.at f.edge h.0) in
+      let r = done_front (makers f.edge.0) (within makers count rank ranked f.edge.0) path place h.1 in
+      let lt : f.at < length row = slice_get_within row f.at (Some f.edge.0) h.0 in
+      let own : f.edge.0 < count = inside f.edge.0 (Among-get row f.at f.edge.0 h.0) in
       let after = flat_map F (drop (f.at + 1) row) in
       let front = unfolded_row makers count (take f.at row) in
-      let deep = done_at makers count (makers f.edge) path place in
-      let opened_row : drop f.at row ≡ Some f.edge ∷ drop (f.at + 1) row =
-      drop_more row f.at (Some f.edge) lt ∙ ap (λ (x : Option ℕ). x ∷ drop (f.at + 1) row)
-      (get_or_from_slice_get row f.at (Some f.edge) (Some f.edge) h.0) in
-      let mine : unfolded makers count f.edge ≡ deep ++ (r.0 ++ f.edge ∷ []) =
-      unfolded-row makers count rank ranked f.edge own ∙ ap (λ (us : List ℕ). us ++ f.edge ∷ []) r.1
-      ∙ append_assoc deep r.0 (f.edge ∷ []) in
-      let whole : unfolded_row makers count row ≡ front ++ ((deep ++ (r.0 ++ f.edge ∷ [])) ++ after) =
+      let deep = done_at makers count (makers f.edge.0) path place in
+      let opened_row : drop f.at row ≡ Some f.edge.0 ∷ drop (f.at + 1) row =
+      drop_more row f.at (Some f.edge.0) lt ∙ ap (λ (x : Option ℕ). x ∷ drop (f.at + 1) row)
+      (get_or_from_slice_get row f.at (Some f.edge.0) (Some f.edge.0) h.0) in
+      let mine : unfolded makers count f.edge.0 ≡ deep ++ (r.0 ++ f.edge.0 ∷ []) =
+      unfolded-row makers count rank ranked f.edge.0 own ∙ ap (λ (us : List ℕ). us ++ f.edge.0 ∷ []) r.1
+      ∙ append_assoc deep r.0 (f.edge.0 ∷ []) in
+      let whole : unfolded_row makers count row ≡ front ++ ((deep ++ (r.0 ++ f.edge.0 ∷ [])) ++ after) =
       ap (flat_map F) (sym (take-append-drop f.at row)) ∙ flat_map-append F (take f.at row) (drop f.at row)
       ∙ ap (λ (os : List (Option ℕ)). front ++ flat_map F os) opened_row
       ∙ ap (λ (us : List ℕ). front ++ (us ++ after)) mine in (
-        (r.0 ++ f.edge ∷ []) ++ after,
-        whole ∙ ap (λ (us : List ℕ). front ++ us) (append_assoc deep (r.0 ++ f.edge ∷ []) after)
-            ∙ sym (append_assoc front deep ((r.0 ++ f.edge ∷ []) ++ after)),
+        (r.0 ++ f.edge.0 ∷ []) ++ after,
+        whole ∙ ap (λ (us : List ℕ). front ++ us) (append_assoc deep (r.0 ++ f.edge.0 ∷ []) after)
+            ∙ sym (append_assoc front deep ((r.0 ++ f.edge.0 ∷ []) ++ after)),
       )
 
   -- an edge is closed
   pub done_at-close : (row : List (Option ℕ)) → ((m : ℕ) → Among row m → m < count)
       → (path : List Frame) (f : Frame) (place : ℕ) → IsLinked makers row (path ++ f ∷ [])
-      → length (makers f.edge) ≤ place
+      → length (makers f.edge.0) ≤ place
       → done_at makers count row path (f.at + 1)
-      ≡ done_at makers count row (path ++ f ∷ []) place ++ f.edge ∷ []
+      ≡ done_at makers count row (path ++ f ∷ []) place ++ f.edge.0 ∷ []
   done_at-close row inside path f place h past =
       let r = IsLinked-pop makers row path f h in
-      let own : f.edge < count = top-within row inside path f.at f.edge r.1 in
+      let own : f.edge.0 < count = top-within row inside path f.at f.edge.0 r.1 in
       let before = done_at makers count row path f.at in
-      let mine = unfolded_row makers count (makers f.edge) in
-      let all : take place (makers f.edge) ≡ makers f.edge = take_all place (makers f.edge) past in
-      done_at-pass makers count row path f.at (Some f.edge) r.1
-      ∙ ap (λ (us : List ℕ). before ++ us) (unfolded-row makers count rank ranked f.edge own)
-      ∙ sym (append_assoc before mine (f.edge ∷ []))
-      ∙ ap (λ (us : List ℕ). us ++ f.edge ∷ [])
+      let mine = unfolded_row makers count (makers f.edge.0) in
+      let all : take place (makers f.edge.0) ≡ makers f.edge.0 = take_all place (makers f.edge.0) past in
+      done_at-pass makers count row path f.at (Some f.edge.0) r.1
+      ∙ ap (λ (us : List ℕ). before ++ us) (unfolded-row makers count rank ranked f.edge.0 own)
+      ∙ sym (append_assoc before mine (f.edge.0 ∷ []))
+      ∙ ap (λ (us : List ℕ). us ++ f.edge.0 ∷ [])
       (ap (λ (os : List (Option ℕ)). before ++ unfolded_row makers count os) (sym all)
       ∙ sym (done_at-push makers count row path f place))

@@ -35,8 +35,8 @@ pub fn grow_targets(
             let Some(frame) = path.pop() else {
                 return Ok(files);
             };
-            flags[frame.edge] = true;
-            add_validations(graph, EdgeNo(frame.edge), &mut files)?;
+            flags[frame.edge.0] = true;
+            add_validations(graph, frame.edge, &mut files)?;
             place = frame.at + 1;
             continue;
         };
@@ -64,14 +64,14 @@ fn add_validations(
 }
 
 // The maker of a file, if it has one that is not done.
-fn undone(flags: &[bool], maker: Option<usize>) -> Option<usize>
-    requires { ForSome maker (λ e. e < length flags.now) }
+fn undone(flags: &[bool], maker: Option<EdgeNo>) -> Option<EdgeNo>
+    requires { ForSome maker (λ e. e.0 < length flags.now) }
     ensures left { IfSome result (λ e.
-        (maker ≡ Some e) × (slice_index_or flags.now e false ≡ false)) }
-    ensures done { IfNone result (ForSome maker (λ e. slice_index_or flags.now e false ≡ true)) }
+        (maker ≡ Some e) × (slice_index_or flags.now e.0 false ≡ false)) }
+    ensures done { IfNone result (ForSome maker (λ e. slice_index_or flags.now e.0 false ≡ true)) }
 {
     let edge = maker?;
-    if flags[edge] {
+    if flags[edge.0] {
         return None;
     }
     Some(edge)

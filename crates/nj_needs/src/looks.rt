@@ -1,7 +1,7 @@
 //! A look at a place of a row: of the inputs of an edge, or of the targets.
 
 ghost use Rattle.nj_needs.specs.Walks.{number_of};
-ghost use Rattle.std.specs.Prelude.{◌≡◌, ◌+◌, ◌^◌, ◌<◌, length, All, IfSome, slice_get};
+ghost use Rattle.std.specs.Prelude.{◌≡◌, ◌+◌, ◌^◌, ◌<◌, length, All, IfSome, option_map, slice_get};
 ghost use Rattle.nj_needs.specs.Cited.{ForSome, count_of, row_in};
 
 use nj_edges::{EdgeGraph, EdgeNo, FileNo};
@@ -12,23 +12,17 @@ use nj_edges::{EdgeGraph, EdgeNo, FileNo};
 pub(crate) fn look_at(
     graph: &EdgeGraph,
     targets: &[FileNo],
-    edge: Option<usize>,
+    edge: Option<EdgeNo>,
     place: usize,
-) -> Option<Option<usize>>
+) -> Option<Option<EdgeNo>>
     requires targets_in { All (λ f. f.0 < length graph.now.files) targets.now }
-    requires edge_in { ForSome edge (λ e. e < count_of graph.now) }
-    ensures found { result ≡ slice_get (row_in graph.now targets.now edge) place }
+    requires edge_in { ForSome edge (λ e. e.0 < count_of graph.now) }
+    ensures found { option_map number_of result
+        ≡ slice_get (row_in graph.now targets.now edge) place }
     ensures fits { IfSome result (λ _. place + 1 < 2 ^ 64) }
 {
     match edge {
-        Some(edge) => Some(number_of(graph.maker_at(EdgeNo(edge), place)?)),
-        None => Some(number_of(graph.maker(*targets.get(place)?))),
+        Some(edge) => graph.maker_at(edge, place),
+        None => Some(graph.maker(*targets.get(place)?)),
     }
-}
-
-// The number of a maker.
-fn number_of(maker: Option<EdgeNo>) -> Option<usize>
-    ensures { result ≡ number_of maker }
-{
-    Some(maker?.0)
 }

@@ -43,8 +43,7 @@ impl<'g> Needs<'g> {
         ensures same { IsSameWalk self.old self.new }
         ensures known { IfSome result (λ edge. edge.0 < length self.old.graph.edges) }
     {
-        let edge = next_edge(&mut self.walk, &mut self.saved)?;
-        Some(EdgeNo(edge))
+        next_edge(&mut self.walk, &mut self.saved)
     }
 
     /// The address of the edge that `next` returned last, also after `None`; before any, the mark

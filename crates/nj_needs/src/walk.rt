@@ -7,6 +7,7 @@ ghost use Rattle.nj_needs.specs.Cited.{saturated, IsWalk, TurnIs, top_of, IsTop}
 use crate::frame::Frame;
 use crate::needs::beginning::turns::Turns;
 use crate::reserved_list::ReservedList;
+use nj_edges::EdgeNo;
 use std::alloc::{AllocError, Global};
 
 /// Where a walk is: the open edges, the first that was opened first; the next place in the
@@ -27,7 +28,7 @@ pub(crate) struct Walk<'g> {
 #[derive(Drop)]
 pub(crate) enum Turn {
     Looked,
-    Closed(usize, bool),
+    Closed(EdgeNo, bool),
     Ended,
 }
 
@@ -71,7 +72,7 @@ impl<'g> Walk<'g> {
             self.place += 1;
             return Turn::Looked;
         };
-        if self.flags.get(maker) {
+        if self.flags.get(maker.0) {
             self.place += 1;
             return Turn::Looked;
         }
@@ -104,7 +105,7 @@ impl<'g> Walk<'g> {
 }
 
 // The last open edge.
-pub(crate) fn top_edge(path: &[Frame]) -> Option<usize>
+pub(crate) fn top_edge(path: &[Frame]) -> Option<EdgeNo>
     ensures { IsTop path.now result }
 {
     match path {

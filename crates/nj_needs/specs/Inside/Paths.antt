@@ -10,21 +10,21 @@ use Rattle.nj_needs.specs.declared.frame.Frame.{Frame}
 -- the row in which the walk is, where `row` is the one below the path
 abbrev pub top_row : (makers : ℕ → List (Option ℕ)) → (row : List (Option ℕ)) → List Frame → List (Option ℕ)
 top_row makers row [] = row
-top_row makers row (f ∷ path) = top_row makers (makers f.edge) path
+top_row makers row (f ∷ path) = top_row makers (makers f.edge.0) path
 
 -- each open edge is at its index in the row below
 abbrev pub IsLinked : (makers : ℕ → List (Option ℕ)) → (row : List (Option ℕ)) → List Frame → Type 0
 IsLinked makers row [] = Unit {0}
-IsLinked makers row (f ∷ path) = (slice_get row f.at ≡ Some (Some f.edge)) × IsLinked makers (makers f.edge) path
+IsLinked makers row (f ∷ path) = (slice_get row f.at ≡ Some (Some f.edge.0)) × IsLinked makers (makers f.edge.0) path
 
 -- the edges done: in each row the unfolded order of the places before the one where the walk is
 abbrev pub done_at : (makers : ℕ → List (Option ℕ)) → (count : ℕ) → (row : List (Option ℕ)) → List Frame → (place : ℕ) → List ℕ
 done_at makers count row [] place = unfolded_row makers count (take place row)
-done_at makers count row (f ∷ path) place = unfolded_row makers count (take f.at row) ++ done_at makers count (makers f.edge) path place
+done_at makers count row (f ∷ path) place = unfolded_row makers count (take f.at row) ++ done_at makers count (makers f.edge.0) path place
 
 -- the open edges
 abbrev pub opened : List Frame → List ℕ
-opened path = map (λ f. f.edge) path
+opened path = map (λ f. f.edge.0) path
 
 -- their indexes: the address of the last of them
 abbrev pub places : List Frame → List ℕ
@@ -33,7 +33,7 @@ places path = map (λ f. f.at) path
 -- the turns that are left in the rows of the path, the closing of its edges among them
 abbrev pub turns_open : (makers : ℕ → List (Option ℕ)) → (row : List (Option ℕ)) → List Frame → (place : ℕ) → ℕ
 turns_open makers row [] place = length row - place
-turns_open makers row (f ∷ path) place = (length row - (f.at + 1)) + 1 + turns_open makers (makers f.edge) path place
+turns_open makers row (f ∷ path) place = (length row - (f.at + 1)) + 1 + turns_open makers (makers f.edge.0) path place
 
 -- the turns for the edges of a list that were not seen
 abbrev pub turns_unseen : (makers : ℕ → List (Option ℕ)) → (seen : List ℕ) → List ℕ → ℕ

@@ -53,7 +53,7 @@ pub record HasLooked (g : EdgeGraph) (targets : List FileNo) (path : List Frame)
 -- an edge is closed
 pub record HasClosed (g : EdgeGraph) (targets : List FileNo) (path : List Frame) (place : ℕ)
     (after : List Frame) (next : ℕ) (e : ℕ) (phony : Bool) : Type 0 where
-  pub popped : (f : Frame) × (path ≡ after ++ f ∷ []) × (f.edge ≡ e) × (next ≡ f.at + 1)
+  pub popped : (f : Frame) × (path ≡ after ++ f ∷ []) × (f.edge.0 ≡ e) × (next ≡ f.at + 1)
   pub left : left_of g targets path place ≡ (if phony then left_of g targets after next else e ∷ left_of g targets after next)
   pub turn : turns_left_of g targets path place ≡ turns_left_of g targets after next + 1
   pub rest : rest_of g targets (places path) ≡ left_of g targets after next
@@ -73,5 +73,5 @@ pub record HasEnded (g : EdgeGraph) (targets : List FileNo) (path : List Frame) 
 abbrev pub TurnIs : Walk → Turn → Walk → Type 0
 TurnIs old Looked new = HasLooked old.turns.graph.now old.turns.targets.now old.path.items old.place new.path.items new.place
 TurnIs old (Closed e phony) new =
-    HasClosed old.turns.graph.now old.turns.targets.now old.path.items old.place new.path.items new.place e phony
+    HasClosed old.turns.graph.now old.turns.targets.now old.path.items old.place new.path.items new.place e.0 phony
 TurnIs old Ended new = HasEnded old.turns.graph.now old.turns.targets.now old.path.items old.place new.path.items new.place

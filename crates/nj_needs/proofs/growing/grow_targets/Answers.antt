@@ -1,11 +1,12 @@
-use Rattle.std.proofs.Common.{◌≡◌, ℕ, Bool, true, false, Some, None, List, [], length, get_or, refl, sym, ap}
+use Rattle.std.proofs.Common.{◌≡◌, Bool, false, Some, None, List, [], length, get_or, refl, sym, ap}
 use Rattle.std.proofs.Common.{subst, ◌∙◌, arith}
 use Rattle.std.specs.Prelude.{slice_get}
 use Rattle.std.proofs.lemmas.List.{append-nil, nil_from_length}
 use Rattle.nj_needs.specs.Inside.Standing.{top_of}
 use Rattle.nj_needs.specs.Inside.Tops.{IsTop}
+use Rattle.nj_needs.specs.Walks.{number_of}
 use Rattle.nj_needs.proofs.GrowingSteps.{comes, below, top-edge, len-flags, pass, pass-less, opened}
-use Rattle.nj_needs.proofs.GrowingSteps.{open-less, ended, close-below, closed, close-less}
+use Rattle.nj_needs.proofs.GrowingSteps.{open-less, ended, close-below, closed, close-less, done-flag}
 use Rattle.nj_needs.proofs.growing.grow_targets.Goals as goal
 
 pub look_at-found-requires-clause-edge_in : goal.look_at-found-requires-clause-edge_in
@@ -97,13 +98,13 @@ undone-requires c =
     let ts = c.args.targets.now in
     let acyclic = c.edge_count.ensures.acyclic in
     let w = c.turns in
-    let at : slice_get (top_of g w.files.items w.path.items) w.place ≡ Some c.in-Some.maker =
+    let at : slice_get (top_of g w.files.items w.path.items) w.place ≡ Some (number_of c.in-Some.maker) =
     comes g g c.deref.result.now w.files.items c.deref-in-turns.result.now w.path.items c.top_edge.result
     (Some c.in-Some.maker) w.place refl c.deref.ensures.value
     c.deref-in-turns.ensures.value c.top_edge.ensures c.in-Some.ensures.found in
     λ x is.
-    let low = below g ts acyclic w.files.items w.path.items w.place w.flags.items w.invariant x
-    (at ∙ ap Some is) in
+    let low = below g ts acyclic w.files.items w.path.items w.place w.flags.items w.invariant x.0
+    (at ∙ ap (λ o. Some (number_of o)) is) in
     omega (
       arith,
       low,
@@ -117,16 +118,17 @@ turns-smaller-in-Some-undone c =
     let ts = c.args.targets.now in
     let acyclic = c.edge_count.ensures.acyclic in
     let w = c.turns in
-    let at : slice_get (top_of g w.files.items w.path.items) w.place ≡ Some c.in-Some.maker =
+    let at : slice_get (top_of g w.files.items w.path.items) w.place ≡ Some (number_of c.in-Some.maker) =
     comes g g c.deref.result.now w.files.items c.deref-in-turns.result.now w.path.items c.top_edge.result
     (Some c.in-Some.maker) w.place refl c.deref.ensures.value
     c.deref-in-turns.ensures.value c.top_edge.ensures c.in-Some.ensures.found in
-    let e = c.in-Some-undone.edge in
+    let e = c.in-Some-undone.edge.0 in
     let left = c.in-Some-undone.ensures.left in
     let fresh : get_or w.flags.items e false ≡ false =
     ap (λ (fs : List Bool). get_or fs e false) (sym c.deref-in-turns-2.ensures.value) ∙ left.1 in
     open-less g ts acyclic w.files.items w.path.items w.place w.flags.items w.invariant _
-    c.push.new.self.items c.in_ok-push-in-Some-undone.ensures.items refl (at ∙ ap Some left.0) fresh
+    c.push.new.self.items c.in_ok-push-in-Some-undone.ensures.items refl
+    (at ∙ ap (λ o. Some (number_of o)) left.0) fresh
 
 pub turns-preserved-in-Some-undone : goal.turns-preserved-in-Some-undone
 turns-preserved-in-Some-undone c =
@@ -134,16 +136,16 @@ turns-preserved-in-Some-undone c =
     let ts = c.args.targets.now in
     let acyclic = c.edge_count.ensures.acyclic in
     let w = c.turns in
-    let at : slice_get (top_of g w.files.items w.path.items) w.place ≡ Some c.in-Some.maker =
+    let at : slice_get (top_of g w.files.items w.path.items) w.place ≡ Some (number_of c.in-Some.maker) =
     comes g g c.deref.result.now w.files.items c.deref-in-turns.result.now w.path.items c.top_edge.result
     (Some c.in-Some.maker) w.place refl c.deref.ensures.value
     c.deref-in-turns.ensures.value c.top_edge.ensures c.in-Some.ensures.found in
-    let e = c.in-Some-undone.edge in
+    let e = c.in-Some-undone.edge.0 in
     let left = c.in-Some-undone.ensures.left in
     let fresh : get_or w.flags.items e false ≡ false =
     ap (λ (fs : List Bool). get_or fs e false) (sym c.deref-in-turns-2.ensures.value) ∙ left.1 in
     opened g ts acyclic w.files.items w.path.items w.place w.flags.items w.invariant _ c.push.new.self.items
-    c.in_ok-push-in-Some-undone.ensures.items refl (at ∙ ap Some left.0) fresh
+    c.in_ok-push-in-Some-undone.ensures.items refl (at ∙ ap (λ o. Some (number_of o)) left.0) fresh
 
 pub turns-smaller : goal.turns-smaller
 turns-smaller c =
@@ -151,15 +153,14 @@ turns-smaller c =
     let ts = c.args.targets.now in
     let acyclic = c.edge_count.ensures.acyclic in
     let w = c.turns in
-    let at : slice_get (top_of g w.files.items w.path.items) w.place ≡ Some c.in-Some.maker =
+    let at : slice_get (top_of g w.files.items w.path.items) w.place ≡ Some (number_of c.in-Some.maker) =
     comes g g c.deref.result.now w.files.items c.deref-in-turns.result.now w.path.items c.top_edge.result
     (Some c.in-Some.maker) w.place refl c.deref.ensures.value
     c.deref-in-turns.ensures.value c.top_edge.ensures c.in-Some.ensures.found in
-    let flagged : (m : ℕ) → c.in-Some.maker ≡ Some m → get_or w.flags.items m false ≡ true =
-    λ m is. ap (λ (fs : List Bool). get_or fs m false) (sym c.deref-in-turns-2.ensures.value)
-    ∙ c.in-None.ensures.done m is in
-    pass-less g ts acyclic w.files.items w.path.items w.place w.flags.items w.invariant c.in-Some.maker at
-    flagged
+    let flagged = done-flag c.deref-in-turns-2.result.now w.flags.items c.in-Some.maker
+    c.deref-in-turns-2.ensures.value c.in-None.ensures.done in
+    pass-less g ts acyclic w.files.items w.path.items w.place w.flags.items w.invariant
+    (number_of c.in-Some.maker) at flagged
 
 pub turns-preserved : goal.turns-preserved
 turns-preserved c =
@@ -167,11 +168,11 @@ turns-preserved c =
     let ts = c.args.targets.now in
     let acyclic = c.edge_count.ensures.acyclic in
     let w = c.turns in
-    let at : slice_get (top_of g w.files.items w.path.items) w.place ≡ Some c.in-Some.maker =
+    let at : slice_get (top_of g w.files.items w.path.items) w.place ≡ Some (number_of c.in-Some.maker) =
     comes g g c.deref.result.now w.files.items c.deref-in-turns.result.now w.path.items c.top_edge.result
     (Some c.in-Some.maker) w.place refl c.deref.ensures.value
     c.deref-in-turns.ensures.value c.top_edge.ensures c.in-Some.ensures.found in
-    let flagged : (m : ℕ) → c.in-Some.maker ≡ Some m → get_or w.flags.items m false ≡ true =
-    λ m is. ap (λ (fs : List Bool). get_or fs m false) (sym c.deref-in-turns-2.ensures.value)
-    ∙ c.in-None.ensures.done m is in
-    pass g ts acyclic w.files.items w.path.items w.place w.flags.items w.invariant c.in-Some.maker at flagged
+    let flagged = done-flag c.deref-in-turns-2.result.now w.flags.items c.in-Some.maker
+    c.deref-in-turns-2.ensures.value c.in-None.ensures.done in
+    pass g ts acyclic w.files.items w.path.items w.place w.flags.items w.invariant
+    (number_of c.in-Some.maker) at flagged

@@ -11,7 +11,7 @@ returns-in_ok-get-in-None-clause-found c =
     let targets = c.args.targets.now in
     let file = c.in_ok-get-in-None.field-0.now in
     let found = c.in_ok-get-in-None.ensures.lookup in
-    ap Some (c.number_of-in-None.ensures ∙ c.maker.ensures.maker)
+    ap Some c.maker.ensures.maker
     ∙ sym (row-at g targets c.args.place file (ltb-true c.args.place (length targets) (sym found.0))
     found.1)
     ∙ ap (λ edge. slice_get (row_in g targets edge) c.args.place) (sym c.in-None.is)

@@ -33,7 +33,7 @@ turns-smaller-in-Looked c = looked-less c.turns.walk c.take_turn.new.self c.in-L
 pub save-requires-clause-front : goal.save-requires-clause-front
 save-requires-clause-front c =
     let e = c.in-Closed.ensures in
-    rw c.as_slice.ensures (closed-front c.turns.walk c.take_turn.new.self e.graph e.targets c.in-Closed.edge
+    rw c.as_slice.ensures (closed-front c.turns.walk c.take_turn.new.self e.graph e.targets c.in-Closed.edge.0
     c.in-Closed.phony e.turn c.turns.saved c.back_to.new.self
     c.back_to.ensures.numbers (c.back_to.ensures.kept ∙ ap (λ n. min c.turns.saved.kept n) c.len.ensures)
     c.turns.invariant.needs.front)
@@ -42,13 +42,13 @@ pub save-requires-clause-capacity : goal.save-requires-clause-capacity
 save-requires-clause-capacity c =
     let e = c.in-Closed.ensures in
     rw c.as_slice.ensures (returned-capacity c.turns.walk c.take_turn.new.self e.graph e.targets
-    c.in-Closed.edge c.in-Closed.phony e.turn c.turns.saved c.back_to.new.self
+    c.in-Closed.edge.0 c.in-Closed.phony e.turn c.turns.saved c.back_to.new.self
     c.back_to.ensures.numbers c.turns.invariant.needs)
 
 pub returns-then-not-phony-clause-after : goal.returns-then-not-phony-clause-after
 returns-then-not-phony-clause-after c =
     let e = c.in-Closed.ensures in
-    returned-needs c.turns.walk c.take_turn.new.self e.graph e.targets c.in-Closed.edge c.in-Closed.phony
+    returned-needs c.turns.walk c.take_turn.new.self e.graph e.targets c.in-Closed.edge.0 c.in-Closed.phony
     e.turn c.turns.saved c.back_to.new.self c.save.new.self
     c.back_to.ensures.numbers c.save.ensures.capacity
     (subst (KeepsFront c.save.new.self) c.as_slice.ensures c.save.ensures.kept)
@@ -60,8 +60,8 @@ returns-then-not-phony-clause-next c =
     let e = c.in-Closed.ensures in
     record {
       first = sym c.turns.invariant.left ∙ returned-left c.turns.walk c.take_turn.new.self e.graph e.targets
-          c.in-Closed.edge c.in-Closed.phony e.turn c.if-not-phony.true;
-      mark = returned-first c.turns.walk c.take_turn.new.self e.graph e.targets c.in-Closed.edge
+          c.in-Closed.edge.0 c.in-Closed.phony e.turn c.if-not-phony.true;
+      mark = returned-first c.turns.walk c.take_turn.new.self e.graph e.targets c.in-Closed.edge.0
           c.in-Closed.phony e.turn c.save.new.self
           (c.save.ensures.numbers ∙ ap (λ (p : List Frame). places p ++ (c.take_turn.new.self.place - 1) ∷ [])
           c.as_slice.ensures);
@@ -71,14 +71,15 @@ pub returns-then-not-phony-clause-known : goal.returns-then-not-phony-clause-kno
 returns-then-not-phony-clause-known c =
     let w = c.turns.walk in
     let h = c.turns.invariant.needs.walk in
-    let below = first-below w.turns.graph.now w.turns.targets.now (places w.path.items) c.in-Closed.edge
+    let below = first-below w.turns.graph.now w.turns.targets.now (places w.path.items) c.in-Closed.edge.0
     h.acyclic h.inside c.in-Closed.ensures.turn.first in
-    subst (λ g. c.in-Closed.edge < count_of g.now) c.turns.invariant.graph below
+    subst (λ g. c.in-Closed.edge.0 < count_of g.now) c.turns.invariant.graph below
 
 pub turns-smaller : goal.turns-smaller
 turns-smaller c =
     let e = c.in-Closed.ensures in
-    closed-less c.turns.walk c.take_turn.new.self e.graph e.targets c.in-Closed.edge c.in-Closed.phony e.turn
+    closed-less c.turns.walk c.take_turn.new.self e.graph e.targets c.in-Closed.edge.0 c.in-Closed.phony
+    e.turn
 
 pub turns-preserved : goal.turns-preserved
 turns-preserved c =
@@ -87,18 +88,19 @@ turns-preserved c =
     let e = c.in-Closed.ensures in
     let i = c.turns.invariant in
     record {
-      needs = closed-needs w v e.graph e.targets c.in-Closed.edge c.in-Closed.phony e.turn c.turns.saved
+      needs = closed-needs w v e.graph e.targets c.in-Closed.edge.0 c.in-Closed.phony e.turn c.turns.saved
           c.back_to.new.self c.back_to.ensures.numbers
           (c.back_to.ensures.kept ∙ ap (λ n. min c.turns.saved.kept n) c.len.ensures) c.if-not-phony.false
           i.needs e.walk;
       graph = e.graph ∙ i.graph;
       targets = e.targets ∙ i.targets;
       begun = e.begun ∙ i.begun;
-      left = closed-left w v e.graph e.targets c.in-Closed.edge c.in-Closed.phony e.turn c.if-not-phony.false
+      left = closed-left w v e.graph e.targets c.in-Closed.edge.0 c.in-Closed.phony e.turn
+          c.if-not-phony.false
           ∙ i.left;
       turns = omega (
         arith,
-        closed-less w v e.graph e.targets c.in-Closed.edge c.in-Closed.phony e.turn,
+        closed-less w v e.graph e.targets c.in-Closed.edge.0 c.in-Closed.phony e.turn,
         i.turns,
       );
       mark = c.back_to.ensures.numbers ∙ i.mark;
@@ -109,7 +111,7 @@ returns-then-not-phony-clause-turns c =
     let e = c.in-Closed.ensures in
     omega (
       arith,
-      closed-less c.turns.walk c.take_turn.new.self e.graph e.targets c.in-Closed.edge
+      closed-less c.turns.walk c.take_turn.new.self e.graph e.targets c.in-Closed.edge.0
           c.in-Closed.phony e.turn,
       c.turns.invariant.turns,
     )

@@ -1,4 +1,5 @@
-use Rattle.std.proofs.Common.{◌≡◌, ◌<◌, ℕ, Some, drop}
+use Rattle.std.proofs.Common.{◌≡◌, ◌<◌, Some, drop}
+use Rattle.nj_edges.specs.declared.edges.EdgeNo.{EdgeNo}
 use Rattle.nj_needs.specs.Counts.{saturated}
 use Rattle.nj_needs.specs.Graphs.{makers_of, count_of, row_of}
 use Rattle.nj_needs.specs.Inside.Tops.{row_in}
@@ -7,7 +8,7 @@ use Rattle.nj_needs.proofs.resuming.leads.Given as goal
 
 abbrev pub invariant-steps : goal.invariant-steps
 invariant-steps l = record {
-  edge_in : (e : ℕ) → l.edge ≡ Some e → e < count_of l.fn.turns.graph.now;
+  edge_in : (e : EdgeNo) → l.edge ≡ Some e → e.0 < count_of l.fn.turns.graph.now;
   rest : is_valid (makers_of l.fn.turns.graph.now) (row_in l.fn.turns.graph.now l.fn.turns.targets.now l.edge)
       (drop l.number-index l.numbers)
       ≡ is_valid (makers_of l.fn.turns.graph.now) (row_of l.fn.turns.graph.now l.fn.turns.targets.now)

@@ -4,12 +4,13 @@
 //! The fields are private, and the constructor is visible only in the module above, where a walk
 //! begins. So whoever is handed a `Turns` takes turns by it alone, and no count can be dropped.
 
-ghost use Rattle.std.specs.Prelude.{◌≡◌, ◌+◌, ◌^◌, ◌<◌, length, true, All, IfSome, is_some, slice_get, slice_set, if◌then◌else◌};
+ghost use Rattle.std.specs.Prelude.{◌≡◌, ◌+◌, ◌^◌, ◌<◌, length, true, All, IfSome, is_some, option_map, slice_get, slice_set, if◌then◌else◌};
 ghost use Rattle.std.specs.Option.{ForSome};
 ghost use Rattle.nj_cycles.specs.Cycles.{IsAcyclic};
 ghost use Rattle.nj_needs.specs.Graphs.{makers_of, count_of, is_phony, row_of};
 ghost use Rattle.nj_needs.specs.Inside.Tops.{counted, row_in};
 ghost use Rattle.nj_needs.specs.Needs.{AreWithin};
+ghost use Rattle.nj_needs.specs.Walks.{number_of};
 
 use crate::looks::look_at;
 use crate::reserved_list::ReservedList;
@@ -51,9 +52,9 @@ impl<'g> Turns<'g> {
 
     /// A look at a place: in the inputs of an edge, or in the targets if there is none. `None` past
     /// the end, which takes no turn, and `Some(None)` at a source.
-    pub fn look(&mut self, edge: Option<usize>, place: usize) -> Option<Option<usize>>
-        requires { ForSome edge (λ e. e < count_of self.old.graph.now) }
-        ensures found { result
+    pub fn look(&mut self, edge: Option<EdgeNo>, place: usize) -> Option<Option<EdgeNo>>
+        requires { ForSome edge (λ e. e.0 < count_of self.old.graph.now) }
+        ensures found { option_map number_of result
             ≡ slice_get (row_in self.old.graph.now self.old.targets.now edge) place }
         ensures fits { IfSome result (λ _. place + 1 < 2 ^ 64) }
         ensures graph { self.new.graph ≡ self.old.graph }
@@ -67,18 +68,18 @@ impl<'g> Turns<'g> {
     }
 
     /// Closes an edge: sets its flag. Returns whether it is phony.
-    pub fn close(&mut self, edge: usize, flags: &mut ReservedList<bool>) -> bool
-        requires edge_in { edge < count_of self.old.graph.now }
-        requires flag_in { edge < length flags.old.items }
-        ensures phony { result ≡ is_phony self.old.graph.now edge }
-        ensures flag { flags.new.items ≡ slice_set flags.old.items edge true }
+    pub fn close(&mut self, edge: EdgeNo, flags: &mut ReservedList<bool>) -> bool
+        requires edge_in { edge.0 < count_of self.old.graph.now }
+        requires flag_in { edge.0 < length flags.old.items }
+        ensures phony { result ≡ is_phony self.old.graph.now edge.0 }
+        ensures flag { flags.new.items ≡ slice_set flags.old.items edge.0 true }
         ensures graph { self.new.graph ≡ self.old.graph }
         ensures targets { self.new.targets ≡ self.old.targets }
         ensures turn { self.new.taken ≡ counted self.old.taken }
     {
         self.taken = self.taken.saturating_add(1);
-        flags.set(edge, true);
-        self.graph.is_phony(EdgeNo(edge))
+        flags.set(edge.0, true);
+        self.graph.is_phony(edge)
     }
 
     /// How many turns were taken.

@@ -31,7 +31,7 @@ returns-clause-walk c =
     let w = c.args.self.now in
     let f = c.in-Some.frame in
     let base : IsWalkAt w.turns.graph.now w.turns.targets.now (counted w.turns.taken) c.pop.new.self
-    (f.at + 1) (set w.flags.items f.edge true) w.begun =
+    (f.at + 1) (set w.flags.items f.edge.0 true) w.begun =
     walk-close w.turns.graph.now w.turns.targets.now w.turns.taken w.path w.place w.flags.items w.begun
     c.requires.walk
     f c.pop.new.self c.in-Some.ensures.items c.in-Some.ensures.capacity c.requires.past in
