@@ -221,6 +221,13 @@ impl Edges {
         self.lists.rows.count()
     }
 
+    /// The number of the edge that is being read, which is the next after those that were read.
+    pub fn open_edge(&self) -> EdgeNo
+        ensures { result.0 ≡ length self.now.edges }
+    {
+        EdgeNo(self.lists.rows.count())
+    }
+
     /// The edge that makes the file at this path, of those that were read; `None` if none does.
     pub(crate) fn maker_read(&self, path: &[u8]) -> Option<EdgeNo>
         ensures maker { option_map (λ edge. edge.0) result ≡ maker_of self.now.edges path.now }

@@ -26,6 +26,7 @@ use Rattle.nj_scope.specs.Readings.{IsPrefix}
 use Rattle.nj_scope.specs.ReadingList.{ReadStatement, scope_of, value_after, rules_read}
 use Rattle.nj_edge_env.specs.Blocks.{BlocksModel, bound_in, names_in}
 use Rattle.nj_names.specs.declared.files.FileNo.{FileNo}
+use Rattle.nj_edges.specs.declared.edges.EdgeNo.{EdgeNo}
 use Rattle.nj_edges.specs.EdgeTables.{EdgeTable, no_files}
 use Rattle.nj_edges.specs.Inside.EdgesHeld.{AreNumbers, paths_at}
 use Rattle.nj_edges.proofs.EdgeLemmas.{all-append, all-of, all-push}
@@ -77,7 +78,8 @@ has-none held table blocks block_names details defaults dyndeps references = rec
     files_known = subst (AllByRecursion (λ (p : DyndepEdge). p.file.0 < length held.table.files))
         (sym dyndeps)
         tt;
-    edges_known = subst (AllByRecursion (λ (p : DyndepEdge). p.edge < length held.table.edges)) (sym dyndeps)
+    edges_known = subst (AllByRecursion (λ (p : DyndepEdge). p.edge.0 < length held.table.edges))
+        (sym dyndeps)
         tt;
   };
   built = record {
@@ -340,7 +342,7 @@ names-next edges e n new old was here others = by (eqb_tells n (length edges)) (
         ∙ sym (get_or_past (all ++ one) n [] (omega (arith, above, apart, whole, count))) ∙ sym appended
 
 -- the pending edges with one more edge
-dyndep-all : (P : DyndepEdge → Type 0) (edge : ℕ) (file : Option FileNo) (held : List DyndepEdge)
+dyndep-all : (P : DyndepEdge → Type 0) (edge : EdgeNo) (file : Option FileNo) (held : List DyndepEdge)
     → AllByRecursion P held → IfSome file (λ f. P (record { edge = edge; file = f }))
     → AllByRecursion P (with_dyndep edge file held)
 dyndep-all P edge None held all one = all
@@ -357,16 +359,16 @@ any-known : {P : Type 0} (number : Option FileNo) → P → IfSome number (λ f.
 any-known None p = tt
 any-known (Some f) p = p
 
-pending-next : (files : List (List ℕ)) (held : List DyndepEdge) (edge : ℕ) (number : Option FileNo)
+pending-next : (files : List (List ℕ)) (held : List DyndepEdge) (edge : EdgeNo) (number : Option FileNo)
     (file : Option (List ℕ)) → IsFileGiven files number file
     → map (pending_named files) (with_dyndep edge number held)
-    ≡ map (pending_named files) held ++ pending_at edge false file
+    ≡ map (pending_named files) held ++ pending_at edge.0 false file
 pending-next files held edge None None meant = sym (append-nil (map (pending_named files) held))
 pending-next files held edge None (Some path) meant = absurd (true≢false (sym (ap is_some meant)))
 pending-next files held edge (Some f) None meant = absurd (true≢false (ap is_some meant))
 pending-next files held edge (Some f) (Some path) meant =
     map-append (pending_named files) held (record { edge = edge; file = f } ∷ [])
-    ∙ ap (λ p. map (pending_named files) held ++ record { edge = edge; file = p } ∷ [])
+    ∙ ap (λ p. map (pending_named files) held ++ record { edge = edge.0; file = p } ∷ [])
     (ap (λ (o : Option (Option (List ℕ))). unwrap_or (unwrap_or o None) []) meant)
 
 -- a statement to which nothing was joined
@@ -375,7 +377,7 @@ fresh e = record e { was_joined = false; discovered = None }
 
 pub has-build : (old new : BuildingModel) (e : ReadStatement) (before : List ReadStatement)
     (outputs : OutputsModel) (rule : NameModel) (inputs : InputsModel) (lines : List LineModel)
-    (d : Detail) (dyndep : Option FileNo) → HasEdges old before
+    (d : Detail) (at : EdgeNo) (dyndep : Option FileNo) → HasEdges old before
     → AddsEdge old.table new.table (edge_of_build (fresh e) before outputs rule inputs lines).paths
     → ((n : ℕ) (name : List ℕ) → bound_in new.records.blocks n name
     ≡ (if n == length old.records.details then option_or (build_block e before lines name)
@@ -388,7 +390,8 @@ pub has-build : (old new : BuildingModel) (e : ReadStatement) (before : List Rea
     → IsRecordOf new.records.names d (edge_of_build (fresh e) before outputs rule inputs lines)
     (assigned_of before (edge_of_build (fresh e) before outputs rule inputs lines))
     → new.records.defaults ≡ old.records.defaults
-    → new.records.dyndeps ≡ with_dyndep (length old.records.details) dyndep old.records.dyndeps
+    → at.0 ≡ length old.records.details
+    → new.records.dyndeps ≡ with_dyndep at dyndep old.records.dyndeps
     → IsFileGiven new.table.files dyndep (dyndep_of before
     (edge_of_build (fresh e) before outputs rule inputs lines))
     → HasReferences new.references (rules_read before)
@@ -399,8 +402,8 @@ pub has-build : (old new : BuildingModel) (e : ReadStatement) (before : List Rea
           None;
     } ∷ before)
 unfolding edges_read defaults_read pending_read assigned_read restats_read
-has-build old new e before outputs rule inputs lines d dyndep has adds blocks own_names other_names names
-    details is defaults dyndeps meant references = record {
+has-build old new e before outputs rule inputs lines d at dyndep has adds blocks own_names other_names names
+    details is defaults last dyndeps meant references = record {
       none_open = adds.none_open;
       fits = record {
         as_many = ap length details ∙ length-append was.details (d ∷ []) ∙ ap (λ n. n + 1) has.fits.as_many
@@ -418,17 +421,17 @@ has-build old new e before outputs rule inputs lines d dyndep has adds blocks ow
         defaults_known = subst (AreNumbers (length files)) (sym defaults)
             (files-more old.table.files files adds.files was.defaults has.fits.defaults_known);
         files_known = subst (AllByRecursion (λ (p : DyndepEdge). p.file.0 < length files)) (sym dyndeps)
-            (dyndep-all (λ (p : DyndepEdge). p.file.0 < length files) number dyndep was.dyndeps
+            (dyndep-all (λ (p : DyndepEdge). p.file.0 < length files) at dyndep was.dyndeps
             (pending-more old.table.files files adds.files was.dyndeps has.fits.files_known)
             (file-known files dyndep (dyndep_of before edge) meant));
-        edges_known = subst (AllByRecursion (λ (p : DyndepEdge). p.edge < length new.table.edges))
-            (sym dyndeps) (dyndep-all (λ (p : DyndepEdge). p.edge < length new.table.edges) number dyndep
+        edges_known = subst (AllByRecursion (λ (p : DyndepEdge). p.edge.0 < length new.table.edges))
+            (sym dyndeps) (dyndep-all (λ (p : DyndepEdge). p.edge.0 < length new.table.edges) at dyndep
             was.dyndeps
-            (all-of (λ (p : DyndepEdge). p.edge < length old.table.edges)
-            (λ (p : DyndepEdge). p.edge < length new.table.edges)
+            (all-of (λ (p : DyndepEdge). p.edge.0 < length old.table.edges)
+            (λ (p : DyndepEdge). p.edge.0 < length new.table.edges)
             (λ p below. let count = edges in omega (arith, below, count)) was.dyndeps has.fits.edges_known)
             (any-known dyndep (let count = edges in let many = has.fits.as_many
-            in omega (arith, count, many))));
+            in omega (arith, count, many, last))));
       };
       built = record {
         paths = adds.edges ∙ ap (λ es. es ++ edge.paths ∷ []) has.built.paths
@@ -455,11 +458,11 @@ has-build old new e before outputs rule inputs lines d dyndep has adds blocks ow
             ∙ has.built.defaults;
         pending =
             ap (map (pending_named files)) dyndeps
-            ∙ pending-next files was.dyndeps number dyndep (dyndep_of before edge) meant
-            ∙ ap (λ ps. ps ++ pending_at number false (dyndep_of before edge))
+            ∙ pending-next files was.dyndeps at dyndep (dyndep_of before edge) meant
+            ∙ ap (λ ps. ps ++ pending_at at.0 false (dyndep_of before edge))
             (pending-same old.table.files files adds.files was.dyndeps has.fits.files_known
             ∙ has.built.pending)
-            ∙ ap (λ n. pending_read before ++ pending_at n false (dyndep_of before edge)) count;
+            ∙ ap (λ n. pending_read before ++ pending_at n false (dyndep_of before edge)) (last ∙ count);
         assigned =
             ap (map (assigned_named strings)) details
             ∙ map-append (assigned_named strings) was.details (d ∷ [])

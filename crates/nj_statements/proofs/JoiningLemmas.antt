@@ -64,35 +64,35 @@ joins-err after expected stated joined (Ok x) f is h = absurd is
 -- ---- files and their numbers
 
 -- these are bound to files below this number
-abbrev pub AreKnown : (count : ℕ) → List (Option FileNo) → Type 0
-AreKnown count bound = AllByRecursion (λ file. IfSome file (λ f. f.0 < count)) bound
+abbrev pub AreKnown : (count : ℕ) → List (Option DyndepEdge) → Type 0
+AreKnown count bound = AllByRecursion (λ b. IfSome b (λ d. d.file.0 < count)) bound
 
 pub path-there : (files : List (List ℕ)) (f : FileNo) → f.0 < length files
     → slice_get files f.0 ≡ Some (path_at files f)
 path-there files f below = let at = slice_get-get_or files f.0 [] below in
     at ∙ sym (ap (λ o. Some (unwrap_or o [])) at)
 
-known-at : (count : ℕ) (bound : List (Option FileNo)) → AreKnown count bound → (n : ℕ)
-    → IfSome (get_or bound n None) (λ f. f.0 < count)
+known-at : (count : ℕ) (bound : List (Option DyndepEdge)) → AreKnown count bound → (n : ℕ)
+    → IfSome (get_or bound n None) (λ d. d.file.0 < count)
 known-at count [] known n = tt
 known-at count (b ∷ bound) (here, known) zero = here
 known-at count (b ∷ bound) (here, known) (suc n) = known-at count bound known n
 
-pub known-weaker : (count more : ℕ) (bound : List (Option FileNo)) → count ≤ more → AreKnown count bound
-    → AreKnown more bound
+pub known-weaker : (count more : ℕ) (bound : List (Option DyndepEdge)) → count ≤ more
+    → AreKnown count bound → AreKnown more bound
 known-weaker count more [] rises known = tt
 known-weaker count more (None ∷ bound) rises (here, known) = (tt, known-weaker count more bound rises known)
-known-weaker count more (Some f ∷ bound) rises (here, known) =
+known-weaker count more (Some d ∷ bound) rises (here, known) =
     (omega (arith, here, rises), known-weaker count more bound rises known)
 
-pub known-still : (count : ℕ) (bound : List (Option FileNo)) (was : List Bool) → AreKnown count bound
+pub known-still : (count : ℕ) (bound : List (Option DyndepEdge)) (was : List Bool) → AreKnown count bound
     → AreKnown count (still_pending bound was)
 known-still count [] was known = tt
 known-still count (b ∷ bound) [] known = known
 known-still count (b ∷ bound) (true ∷ was) (here, known) = (tt, known-still count bound was known)
 known-still count (b ∷ bound) (false ∷ was) (here, known) = (here, known-still count bound was known)
 
-pub get-named : (files : List (List ℕ)) (bound : List (Option FileNo)) (n : ℕ)
+pub get-named : (files : List (List ℕ)) (bound : List (Option DyndepEdge)) (n : ℕ)
     → get_or (map (file_named files) bound) n None ≡ file_named files (get_or bound n None)
 get-named files [] n = refl
 get-named files (b ∷ bound) zero = refl
@@ -100,17 +100,17 @@ get-named files (b ∷ bound) (suc n) = get-named files bound n
 
 -- A path is the path of one file.
 pub path-bound : (files : List (List ℕ)) → IsDistinct bytes_eq files
-    → (b : Option FileNo) (file : FileNo) (path : List ℕ) → slice_get files file.0 ≡ Some path
-    → IfSome b (λ f. f.0 < length files)
+    → (b : Option DyndepEdge) (file : FileNo) (path : List ℕ) → slice_get files file.0 ≡ Some path
+    → IfSome b (λ d. d.file.0 < length files)
     → is_path (file_named files b) path ≡ is_bound_to b file
 path-bound files once None file path here known = refl
-path-bound files once (Some f) file path here known =
-    ap (bytes_eq (path_at files f)) (sym (ap (λ o. unwrap_or o []) here))
-    ∙ sym (same-number files once f.0 (path_at files f) (path-there files f known) file
+path-bound files once (Some d) file path here known =
+    ap (bytes_eq (path_at files d.file)) (sym (ap (λ o. unwrap_or o []) here))
+    ∙ sym (same-number files once d.file.0 (path_at files d.file) (path-there files d.file known) file
     (slice_get_within files file.0 path here))
 
 pub first-path : (files : List (List ℕ)) → IsDistinct bytes_eq files
-    → (ws : List (Option FileNo)) (file : FileNo) (path : List ℕ) → slice_get files file.0 ≡ Some path
+    → (ws : List (Option DyndepEdge)) (file : FileNo) (path : List ℕ) → slice_get files file.0 ≡ Some path
     → AreKnown (length files) ws
     → first_edge (λ w. is_path w path) (map (file_named files) ws) ≡ first_edge (λ w. is_bound_to w file) ws
 first-path files once [] file path here known = refl
@@ -171,18 +171,18 @@ was-other (suc n) (w ∷ was) (suc m) below h =
 
 -- ---- files that are named besides
 
-bound-kept : (files more : List (List ℕ)) (bs : List (Option FileNo)) → IsPrefix files more
+bound-kept : (files more : List (List ℕ)) (bs : List (Option DyndepEdge)) → IsPrefix files more
     → AreKnown (length files) bs → map (file_named more) bs ≡ map (file_named files) bs
 bound-kept files more [] grows known = refl
 bound-kept files more (None ∷ bs) grows (here, known) =
     ap (λ os. None ∷ os) (bound-kept files more bs grows known)
-bound-kept files more (Some f ∷ bs) grows (here, known) =
+bound-kept files more (Some d ∷ bs) grows (here, known) =
     ap (λ p. Some p ∷ map (file_named more) bs)
-    (ap (λ fs. path_at fs f) grows.1 ∙ path_at-more files grows.0 f here)
-    ∙ ap (λ os. Some (path_at files f) ∷ os) (bound-kept files more bs grows known)
+    (ap (λ fs. path_at fs d.file) grows.1 ∙ path_at-more files grows.0 d.file here)
+    ∙ ap (λ os. Some (path_at files d.file) ∷ os) (bound-kept files more bs grows known)
 
 -- the edge that is meant is bound to the file
-pub meant-binds : (bound : List (Option FileNo)) (file : FileNo) (edge : ℕ) (maker : Option ℕ)
+pub meant-binds : (bound : List (Option DyndepEdge)) (file : FileNo) (edge : ℕ) (maker : Option ℕ)
     → if_bound bound file maker ≡ Some edge
     → (maker ≡ Some edge) × (is_bound_to (get_or bound edge None) file ≡ true)
 meant-binds bound file edge None h = absurd (true≢false (sym (ap is_some h)))
@@ -240,6 +240,7 @@ noted-held j held restat edge noted is =
       };
       dyndep_files_known = held.dyndep_files_known;
       dyndep_edges_known = held.dyndep_edges_known;
+      bound_by_number = held.bound_by_number;
       bound_known = held.bound_known;
       pending_known = held.pending_known;
       enough_pending = held.enough_pending;
@@ -263,7 +264,7 @@ module _ (j : JoiningFields) (held : JoiningIsHeld j) where
       → first_edge (λ w. is_bound_to w file) (still_pending j.bound j.table.was_joined) ≡ Some edge
       → edge < length j.table.stated
   unjoined-known file edge first =
-      let h = (first-passes (λ (w : Option FileNo). is_bound_to w file)
+      let h = (first-passes (λ (w : Option DyndepEdge). is_bound_to w file)
       (still_pending j.bound j.table.was_joined)
       edge None first).0 in
       let a = still-length j.bound j.table.was_joined in
@@ -290,8 +291,9 @@ module _ (j : JoiningFields) (held : JoiningIsHeld j) where
           dyndep_files_known = pending-more j.table.files after.files keeps.files j.dyndep_files
               held.dyndep_files_known;
           dyndep_edges_known = subst (λ (es : List EdgePaths). AllByRecursion
-              (λ (d : DyndepEdge). d.edge < length es) j.dyndep_files) (sym keeps.stated)
+              (λ (d : DyndepEdge). d.edge.0 < length es) j.dyndep_files) (sym keeps.stated)
               held.dyndep_edges_known;
+          bound_by_number = held.bound_by_number;
           bound_known = held.bound_known;
           pending_known = omega (arith, rises, known);
           enough_pending = λ file. subst (λ was. count_pending file (still_pending j.bound was) ≤ get_or
@@ -348,13 +350,14 @@ module _ (j : JoiningFields) (held : JoiningIsHeld j) where
       unjoined-inside = by (get_or j.bound edge None) binds
           (known-at (length j.unjoined) j.bound held.bound_known edge)
         where
-          by : (b : Option FileNo) → is_bound_to b file ≡ true → IfSome b (λ f. f.0 < length j.unjoined)
-              → file.0 < length j.unjoined
+          by : (b : Option DyndepEdge) → is_bound_to b file ≡ true
+              → IfSome b (λ d. d.file.0 < length j.unjoined) → file.0 < length j.unjoined
           by None h known = absurd (true≢false (sym h))
-          by (Some f) h known = same (eqb_tells f.0 file.0) known
+          by (Some d) h known = same (eqb_tells d.file.0 file.0) known
             where
-              same : ((f.0 == file.0) ≡ true × (f.0 ≡ file.0)) ⊎ ((f.0 == file.0) ≡ false × (f.0 ≢ file.0))
-                  → f.0 < length j.unjoined → file.0 < length j.unjoined
+              same : ((d.file.0 == file.0) ≡ true × (d.file.0 ≡ file.0))
+                  ⊎ ((d.file.0 == file.0) ≡ false × (d.file.0 ≢ file.0))
+                  → d.file.0 < length j.unjoined → file.0 < length j.unjoined
               same (inl (is, e)) known = subst (λ n. n < length j.unjoined) e known
               same (inr (is, apart)) known = absurd (true≢false (sym h ∙ is))
 
@@ -382,6 +385,7 @@ module _ (j : JoiningFields) (held : JoiningIsHeld j) where
         fits = held.fits;
         dyndep_files_known = held.dyndep_files_known;
         dyndep_edges_known = held.dyndep_edges_known;
+        bound_by_number = held.bound_by_number;
         bound_known = subst (λ n. AreKnown n j.bound) (sym (length-set j.unjoined file.0 (count - 1)))
             held.bound_known;
         pending_known = subst (λ n. n ≤ length j.table.files) (sym (length-set j.unjoined file.0 (count - 1)))
@@ -391,7 +395,7 @@ module _ (j : JoiningFields) (held : JoiningIsHeld j) where
             other.0 0) (sym left) (enough other (eqb_tells file.0 other.0));
       }
         where
-          ws : List (Option FileNo)
+          ws : List (Option DyndepEdge)
           ws = still_pending j.bound j.table.was_joined
 
           enough : (other : FileNo) → ((file.0 == other.0) ≡ true × (file.0 ≡ other.0))
@@ -408,10 +412,10 @@ module _ (j : JoiningFields) (held : JoiningIsHeld j) where
               let was : count ≡ get_or j.unjoined other.0 0 = is ∙ ap (λ n. get_or j.unjoined n 0) e in
               omega (arith, now, one, most, was)
             where
-              same-bound-to : (b : Option FileNo) → file.0 ≡ other.0 → is_bound_to b file ≡ true
+              same-bound-to : (b : Option DyndepEdge) → file.0 ≡ other.0 → is_bound_to b file ≡ true
                   → is_bound_to b other ≡ true
               same-bound-to None e h = h
-              same-bound-to (Some f) e h = ap (λ n. f.0 == n) (sym e) ∙ h
+              same-bound-to (Some d) e h = ap (λ n. d.file.0 == n) (sym e) ∙ h
           enough other (inr (differ, apart)) =
               let now = get_or-set_other j.unjoined file.0 other.0 (count - 1) 0 (λ e. apart (sym e)) in
               let less = count-less other ws edge in
@@ -439,7 +443,7 @@ module _ (j : JoiningFields) (held : JoiningIsHeld j) where
           let ws = still_pending j.bound j.table.was_joined in
           ap (λ ps. pending_on name ps (Some edge))
           (has.unjoined ∙ ap (pending_from 0)
-          (sym (still-map (path_at j.table.files) j.bound j.table.was_joined)))
+          (sym (still-map (λ (d : DyndepEdge). path_at j.table.files d.file) j.bound j.table.was_joined)))
           ∙ unjoined-at name 0 (map (file_named j.table.files) ws) edge edge
           (let e : edge ≡ 0 + edge = omega arith in e)
           ∙ ap (λ o. is_path o name) (get-named j.table.files ws edge)
@@ -454,7 +458,7 @@ module _ (j : JoiningFields) (held : JoiningIsHeld j) where
           (map (file_named j.table.files) (still_pending j.bound j.table.was_joined)))
       first-lacking = ap (find (λ (p : Pending). bytes_eq p.file name))
           (has.unjoined ∙ ap (pending_from 0)
-          (sym (still-map (path_at j.table.files) j.bound j.table.was_joined)))
+          (sym (still-map (λ (d : DyndepEdge). path_at j.table.files d.file) j.bound j.table.was_joined)))
 
       pub first-unjoined : first_edge (λ w. is_path w name)
           (map (file_named j.table.files) (still_pending j.bound j.table.was_joined))
@@ -501,17 +505,17 @@ module _ (j : JoiningFields) (held : JoiningIsHeld j) where
           (DyndepNoStatement (unwrap_or (slice_get (outputs_of p) 0) []) name)) (sym paths-are)
           )
         where
-          ws : List (Option FileNo)
+          ws : List (Option DyndepEdge)
           ws = still_pending j.bound j.table.was_joined
 
           passes : (edge < length ws) × (is_bound_to (get_or ws edge None) file ≡ true)
-          passes = first-passes (λ (w : Option FileNo). is_bound_to w file) ws edge None first
+          passes = first-passes (λ (w : Option DyndepEdge). is_bound_to w file) ws edge None first
 
           below : edge < length j.table.stated
           below = let h = passes.0 in let a = still-length j.bound j.table.was_joined in let b =
               held.as_many_bound in omega (arith, h, a, b)
 
-          free : (b : Option FileNo) (was : Bool) → is_bound_to (unless_joined b was) file ≡ true
+          free : (b : Option DyndepEdge) (was : Bool) → is_bound_to (unless_joined b was) file ≡ true
               → was ≡ false
           free b false h = refl
           free b true h = absurd (true≢false (sym h))
@@ -520,18 +524,18 @@ module _ (j : JoiningFields) (held : JoiningIsHeld j) where
           not-joined = free (get_or j.bound edge None) (is_joined j.table edge)
               (ap (λ b. is_bound_to b file) (sym (still-at j.bound j.table.was_joined edge)) ∙ passes.1)
 
-          named : (b : Option FileNo) → is_bound_to b file ≡ true → (f : FileNo) × (b ≡ Some f)
+          named : (b : Option DyndepEdge) → is_bound_to b file ≡ true → (d : DyndepEdge) × (b ≡ Some d)
           named None h = absurd (true≢false (sym h))
-          named (Some f) h = (f, refl)
+          named (Some d) h = (d, refl)
 
-          bound-file : (f : FileNo) × (get_or ws edge None ≡ Some f)
-          bound-file = named (get_or ws edge None) passes.1
+          bound-edge : (d : DyndepEdge) × (get_or ws edge None ≡ Some d)
+          bound-edge = named (get_or ws edge None) passes.1
 
           path : List ℕ
-          path = path_at j.table.files bound-file.0
+          path = path_at j.table.files bound-edge.0.file
 
           path-is : file_named j.table.files (get_or ws edge None) ≡ Some path
-          path-is = ap (file_named j.table.files) bound-file.1
+          path-is = ap (file_named j.table.files) bound-edge.1
 
           edges-count : length j.table.stated ≡ length (edges_read joined)
           edges-count = sym held.as_many_joined ∙ ap length has.joined_paths
@@ -590,7 +594,7 @@ module _ (j : JoiningFields) (held : JoiningIsHeld j) where
           twice : GraphFault
           twice = fault_at name entry.out.spot (DyndepTwice path)
 
-          unless : (b : Option FileNo) (was : Bool) → is_bound_to b file ≡ true
+          unless : (b : Option DyndepEdge) (was : Bool) → is_bound_to b file ≡ true
               → is_bound_to (unless_joined b was) file ≡ not was
           unless b true h = refl
           unless b false h = h
@@ -758,10 +762,11 @@ entry-keeps j held edge after last keeps is =
     ap (λ (t : JoinTable). map (pending_named t.files) j.dyndep_files) is ∙ same-firsts j held after keeps
 
 -- the fields after an entry, whose files were collected
-module _ (j : JoiningFields) (held : JoiningIsHeld j) (given : List (Option FileNo)) (same : given ≡ j.bound)
-    (file : FileNo) (word : WordModel) (edge : ℕ) (means : IsMeant j.table given file word edge) where
+module _ (j : JoiningFields) (held : JoiningIsHeld j) (given : List (Option DyndepEdge))
+    (same : given ≡ j.bound) (file : FileNo) (word : WordModel) (edge : ℕ)
+    (means : IsMeant j.table given file word edge) where
   meant : IsMeant j.table j.bound file word edge
-  meant = subst (λ (bs : List (Option FileNo)). IsMeant j.table bs file word edge) same means
+  meant = subst (λ (bs : List (Option DyndepEdge)). IsMeant j.table bs file word edge) same means
 
   binds : is_bound_to (get_or j.bound edge None) file ≡ true
   binds = (meant-binds j.bound file edge (maker_of j.table.stated (path_given no_values word)) meant.is).1

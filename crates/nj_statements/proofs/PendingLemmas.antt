@@ -2,7 +2,8 @@
 use Rattle.std.proofs.Common.{◌≡◌, ◌⊎◌, inl, inr, ℕ, zero, suc, ◌+◌, ◌<◌, ◌≤◌, ◌==◌, ◌&&◌, ◌||◌}
 use Rattle.std.proofs.Common.{if◌then◌else◌, Bool, true, false, not, cond, true≢false, ◌≢◌, List, [], ◌∷◌}
 use Rattle.std.proofs.Common.{◌++◌, length, get_or, set, replicate, take, drop, map, slice_get, Option, Some}
-use Rattle.std.proofs.Common.{None, option_map, IfSome, is_some, unwrap_or, refl, sym, ap, subst, ◌∙◌, arith}
+use Rattle.std.proofs.Common.{None, option_map, option_and_then, IfSome, is_some, unwrap_or, refl, sym, ap}
+use Rattle.std.proofs.Common.{subst, ◌∙◌, arith}
 use Rattle.std.specs.List.{AllByRecursion, IsDistinct, filter}
 use Rattle.std.specs.Prelude.{bytes_eq, find}
 use Rattle.std.proofs.lemmas.List.{append-nil, append_assoc, set_at, map-set, length-set, length_push}
@@ -21,7 +22,7 @@ use Rattle.nj_statements.specs.EdgeList.{Pending}
 use Rattle.nj_statements.specs.Joining.{dyndep_files, pending_on}
 use Rattle.nj_statements.specs.JoiningHeld.{unless_joined, still_pending, pending_of, pending_from}
 use Rattle.nj_statements.specs.Inside.JoiningSteps.{is_bound_to, one_if, count_pending, count_bound, bind_all}
-use Rattle.nj_statements.specs.Inside.JoiningSteps.{first_edges, numbered_of, numbered_from, file_named}
+use Rattle.nj_statements.specs.Inside.JoiningSteps.{first_edges, AreByNumber, edge_if, edges_in, file_named}
 use Rattle.nj_statements.specs.Records.{pending_named}
 
 -- ---- edges that are still pending
@@ -221,84 +222,115 @@ pending-more k (Some f ∷ ws) w =
     (pending-more (k + 1) ws w ∙ ap (λ n. pending_from (k + 1) ws ++ pending_of n w)
     (let e : k + 1 + length ws ≡ k + suc (length ws) = omega arith in e))
 
--- ---- the same edges by the numbers of their files
+-- ---- the same edges, each at the index of its number
 
-pub numbered-more : (k : ℕ) (ws : List (Option FileNo)) (w : Option FileNo)
-    → numbered_from k (ws ++ w ∷ []) ≡ numbered_from k ws ++ numbered_of (k + length ws) w
-numbered-more k [] None = refl
-numbered-more k [] (Some f) = ap (λ n. record { edge = n; file = f } ∷ [])
-    (let e : k ≡ k + 0 = omega arith in e)
-numbered-more k (None ∷ ws) w =
-    numbered-more (k + 1) ws w
-    ∙ ap (λ n. numbered_from (k + 1) ws ++ numbered_of n w)
-    (let e : k + 1 + length ws ≡ k + suc (length ws) = omega arith in e)
-numbered-more k (Some f ∷ ws) w =
-    ap (λ ds. record { edge = k; file = f } ∷ ds) (
-    numbered-more (k + 1) ws w
-    ∙ ap (λ n. numbered_from (k + 1) ws ++ numbered_of n w)
-    (let e : k + 1 + length ws ≡ k + suc (length ws) = omega arith in e)
-    )
+edges-more : (ws : List (Option DyndepEdge)) (w : Option DyndepEdge)
+    → edges_in (ws ++ w ∷ []) ≡ edges_in ws ++ edge_if w
+edges-more [] None = refl
+edges-more [] (Some d) = refl
+edges-more (None ∷ ws) w = edges-more ws w
+edges-more (Some d ∷ ws) w = ap (λ ds. d ∷ ds) (edges-more ws w)
 
 pub none-is : {A : Type 0} (o : Option A) → ((x : A) → o ≡ Some x → ⊥) → o ≡ None
 none-is None apart = refl
 none-is (Some x) apart = absurd (apart x refl)
 
--- one more of those that are still pending
-pub numbered-turn : (bound : List (Option FileNo)) (was : List Bool) (n : ℕ) → n < length bound
-    → numbered_from 0 (take (n + 1) (still_pending bound was))
-    ≡ numbered_from 0 (take n (still_pending bound was))
-    ++ numbered_of n (unless_joined (get_or bound n None) (get_or was n false))
-numbered-turn bound was n below =
-    ap (numbered_from 0) (take_more left n None within) ∙ numbered-more 0 (take n left) (get_or left n None)
-    ∙ ap (λ k. numbered_from 0 (take n left) ++ numbered_of k (get_or left n None)) count
-    ∙ ap (λ w. numbered_from 0 (take n left) ++ numbered_of n w) (still-at bound was n)
-  where
-    left : List (Option FileNo)
-    left = still_pending bound was
-
-    within : n < length left
-    within = subst (λ m. n < m) (sym (still-length bound was)) below
-
-    taken : (ws : List (Option FileNo)) (k : ℕ) → k < length ws → length (take k ws) ≡ k
-    taken [] k less = absurd (omega (arith, less))
-    taken (w ∷ ws) zero less = refl
-    taken (w ∷ ws) (suc k) less = ap suc (taken ws k (omega (arith, less)))
-
-    count : 0 + length (take n left) ≡ n
-    count = let is = taken left n within in omega (arith, is)
-
-pub numbered-all : (bound : List (Option FileNo)) (was : List Bool) (n : ℕ) → length bound ≤ n
-    → take n (still_pending bound was) ≡ still_pending bound was
-numbered-all bound was n past = take_all n (still_pending bound was)
-    (subst (λ m. m ≤ n) (sym (still-length bound was)) past)
-
-pub numbered-named : (files : List (List ℕ)) (k : ℕ) (ws : List (Option FileNo))
-    → map (pending_named files) (numbered_from k ws) ≡ pending_from k (map (file_named files) ws)
-numbered-named files k [] = refl
-numbered-named files k (None ∷ ws) = numbered-named files (k + 1) ws
-numbered-named files k (Some f ∷ ws) =
-    ap (λ ps. record { edge = k; file = path_at files f } ∷ ps) (numbered-named files (k + 1) ws)
-
-pub numbered-files : (most k : ℕ) (ws : List (Option FileNo))
-    → AllByRecursion (λ w. IfSome w (λ f. f.0 < most)) ws
-    → AllByRecursion (λ (d : DyndepEdge). d.file.0 < most) (numbered_from k ws)
-numbered-files most k [] all = tt
-numbered-files most k (None ∷ ws) all = numbered-files most (k + 1) ws all.1
-numbered-files most k (Some f ∷ ws) all = (all.0, numbered-files most (k + 1) ws all.1)
-
-pub numbered-edges : (most k : ℕ) (ws : List (Option FileNo)) → k + length ws ≤ most
-    → AllByRecursion (λ (d : DyndepEdge). d.edge < most) (numbered_from k ws)
-numbered-edges most k [] within = tt
-numbered-edges most k (None ∷ ws) within = numbered-edges most (k + 1) ws (omega (arith, within))
-numbered-edges most k (Some f ∷ ws) within =
-    (omega (arith, within), numbered-edges most (k + 1) ws (omega (arith, within)))
-
-unless-known : (P : FileNo → Type 0) (w : Option FileNo) (was : Bool) → IfSome w P
+unless-known : (P : DyndepEdge → Type 0) (w : Option DyndepEdge) (was : Bool) → IfSome w P
     → IfSome (unless_joined w was) P
 unless-known P w true known = tt
 unless-known P w false known = known
 
-pub still-known : (P : FileNo → Type 0) (bound : List (Option FileNo)) (was : List Bool)
+pub still-by-number : (bound : List (Option DyndepEdge)) (was : List Bool) → AreByNumber bound
+    → AreByNumber (still_pending bound was)
+still-by-number bound was are = λ n.
+    subst (λ (w : Option DyndepEdge). IfSome w (λ d. d.edge.0 ≡ n)) (sym (still-at bound was n))
+    (unless-known (λ d. d.edge.0 ≡ n) (get_or bound n None) (get_or was n false) (are n))
+
+-- the edge that is still pending at an index
+pub still-edge : (bound : List (Option DyndepEdge)) (was : List Bool) (n : ℕ) → AreByNumber bound
+    → option_and_then (λ d. unless_joined (get_or bound n None) (get_or was d.edge.0 false))
+    (get_or bound n None) ≡ get_or (still_pending bound was) n None
+still-edge bound was n are = by (get_or bound n None) (are n) ∙ sym (still-at bound was n)
+  where
+    by : (b : Option DyndepEdge) → IfSome b (λ d. d.edge.0 ≡ n)
+        → option_and_then (λ (d : DyndepEdge). unless_joined b (get_or was d.edge.0 false)) b
+        ≡ unless_joined b (get_or was n false)
+    by None is = sym (none-joined None (get_or was n false) refl)
+    by (Some d) is = ap (λ m. unless_joined (Some d) (get_or was m false)) is
+
+-- its number
+pub still-number : (bound : List (Option DyndepEdge)) (was : List Bool) (n : ℕ) (d : DyndepEdge)
+    → AreByNumber bound → get_or (still_pending bound was) n None ≡ Some d → d.edge.0 ≡ n
+still-number bound was n d are is =
+    subst (λ (w : Option DyndepEdge). IfSome w (λ e. e.edge.0 ≡ n)) is (still-by-number bound was are n)
+
+pub edge-within : (w : Option DyndepEdge) (n most : ℕ) → IfSome w (λ d. d.edge.0 ≡ n) → n < most
+    → IfSome w (λ d. d.edge.0 < most)
+edge-within None n most is below = tt
+edge-within (Some d) n most is below = omega (arith, is, below)
+
+-- one more of those that are still pending
+pub edges-turn : (bound : List (Option DyndepEdge)) (was : List Bool) (n : ℕ) → n < length bound
+    → edges_in (take (n + 1) (still_pending bound was))
+    ≡ edges_in (take n (still_pending bound was)) ++ edge_if (get_or (still_pending bound was) n None)
+edges-turn bound was n below =
+    ap edges_in (take_more (still_pending bound was) n None
+    (subst (λ m. n < m) (sym (still-length bound was)) below))
+    ∙ edges-more (take n (still_pending bound was)) (get_or (still_pending bound was) n None)
+
+pub edges-all : (bound : List (Option DyndepEdge)) (was : List Bool) (n : ℕ) → length bound ≤ n
+    → take n (still_pending bound was) ≡ still_pending bound was
+edges-all bound was n past = take_all n (still_pending bound was)
+    (subst (λ m. m ≤ n) (sym (still-length bound was)) past)
+
+-- numbered from this number on
+abbrev AreFrom : (k : ℕ) → List (Option DyndepEdge) → Type 0
+AreFrom k ws = (n : ℕ) → IfSome (get_or ws n None) (λ d. d.edge.0 ≡ k + n)
+
+pub from-zero : (ws : List (Option DyndepEdge)) → AreByNumber ws → AreFrom 0 ws
+from-zero ws are = λ n. by n (get_or ws n None) (are n)
+  where
+    by : (n : ℕ) (w : Option DyndepEdge) → IfSome w (λ d. d.edge.0 ≡ n) → IfSome w (λ d. d.edge.0 ≡ 0 + n)
+    by n None is = tt
+    by n (Some d) is = omega (arith, is)
+
+from-next : (k : ℕ) (w : Option DyndepEdge) (ws : List (Option DyndepEdge)) → AreFrom k (w ∷ ws)
+    → AreFrom (k + 1) ws
+from-next k w ws are = λ n. by n (get_or ws n None) (are (suc n))
+  where
+    by : (n : ℕ) (w : Option DyndepEdge) → IfSome w (λ d. d.edge.0 ≡ k + suc n)
+        → IfSome w (λ d. d.edge.0 ≡ k + 1 + n)
+    by n None is = tt
+    by n (Some d) is = omega (arith, is)
+
+pub edges-named : (files : List (List ℕ)) (k : ℕ) (ws : List (Option DyndepEdge)) → AreFrom k ws
+    → map (pending_named files) (edges_in ws) ≡ pending_from k (map (file_named files) ws)
+edges-named files k [] are = refl
+edges-named files k (None ∷ ws) are = edges-named files (k + 1) ws (from-next k None ws are)
+edges-named files k (Some d ∷ ws) are =
+    ap (λ n. record { edge = n; file = path_at files d.file } ∷ map (pending_named files) (edges_in ws))
+    (let here : d.edge.0 ≡ k + 0 = are 0 in let e : d.edge.0 ≡ k = omega (arith, here) in e)
+    ∙ ap (λ ps. record { edge = k; file = path_at files d.file } ∷ ps)
+    (edges-named files (k + 1) ws (from-next k (Some d) ws are))
+
+pub edges-files : (most : ℕ) (ws : List (Option DyndepEdge))
+    → AllByRecursion (λ w. IfSome w (λ d. d.file.0 < most)) ws
+    → AllByRecursion (λ (d : DyndepEdge). d.file.0 < most) (edges_in ws)
+edges-files most [] all = tt
+edges-files most (None ∷ ws) all = edges-files most ws all.1
+edges-files most (Some d ∷ ws) all = (all.0, edges-files most ws all.1)
+
+pub edges-below : (most k : ℕ) (ws : List (Option DyndepEdge)) → AreFrom k ws → k + length ws ≤ most
+    → AllByRecursion (λ (d : DyndepEdge). d.edge.0 < most) (edges_in ws)
+edges-below most k [] are within = tt
+edges-below most k (None ∷ ws) are within =
+    edges-below most (k + 1) ws (from-next k None ws are) (omega (arith, within))
+edges-below most k (Some d ∷ ws) are within = (
+  (let here : d.edge.0 ≡ k + 0 = are 0 in omega (arith, here, within)),
+  edges-below most (k + 1) ws (from-next k (Some d) ws are) (omega (arith, within)),
+)
+
+pub still-known : (P : DyndepEdge → Type 0) (bound : List (Option DyndepEdge)) (was : List Bool)
     → AllByRecursion (λ w. IfSome w P) bound → AllByRecursion (λ w. IfSome w P) (still_pending bound was)
 still-known P [] was all = tt
 still-known P (b ∷ bound) [] all = all
@@ -306,7 +338,7 @@ still-known P (b ∷ bound) (j ∷ was) all = (unless-known P b j all.0, still-k
 
 -- ---- counts
 
-pub count-removed : (file : FileNo) (ws : List (Option FileNo)) (n : ℕ)
+pub count-removed : (file : FileNo) (ws : List (Option DyndepEdge)) (n : ℕ)
     → is_bound_to (get_or ws n None) file ≡ true
     → count_pending file ws ≡ suc (count_pending file (changed_at (λ w. None) n ws))
 unfolding changed_at
@@ -314,25 +346,25 @@ count-removed file [] n h = absurd (true≢false (sym h))
 count-removed file (w ∷ ws) zero h = let is = ap one_if h in omega (arith, is)
 count-removed file (w ∷ ws) (suc n) h = let is = count-removed file ws n h in omega (arith, is)
 
-pub count-less : (file : FileNo) (ws : List (Option FileNo)) (n : ℕ)
+pub count-less : (file : FileNo) (ws : List (Option DyndepEdge)) (n : ℕ)
     → count_pending file (changed_at (λ w. None) n ws) ≤ count_pending file ws
 unfolding changed_at
 count-less file [] n = omega arith
 count-less file (w ∷ ws) zero = omega arith
 count-less file (w ∷ ws) (suc n) = let is = count-less file ws n in omega (arith, is)
 
-count-set : (file : FileNo) (ws : List (Option FileNo)) (n : ℕ) (f : FileNo)
-    → count_pending file (set ws n (Some f)) ≤ one_if (f.0 == file.0) + count_pending file ws
-count-set file [] n f = omega arith
-count-set file (w ∷ ws) zero f = omega arith
-count-set file (w ∷ ws) (suc n) f = let is = count-set file ws n f in omega (arith, is)
+count-set : (file : FileNo) (ws : List (Option DyndepEdge)) (n : ℕ) (d : DyndepEdge)
+    → count_pending file (set ws n (Some d)) ≤ one_if (d.file.0 == file.0) + count_pending file ws
+count-set file [] n d = omega arith
+count-set file (w ∷ ws) zero d = omega arith
+count-set file (w ∷ ws) (suc n) d = let is = count-set file ws n d in omega (arith, is)
 
-pub count-bind : (file : FileNo) (ds : List DyndepEdge) (ws : List (Option FileNo))
+pub count-bind : (file : FileNo) (ds : List DyndepEdge) (ws : List (Option DyndepEdge))
     → count_pending file (bind_all ds ws) ≤ count_bound file ds + count_pending file ws
 count-bind file [] ws = omega arith
 count-bind file (d ∷ ds) ws =
-    let rest = count-bind file ds (set ws d.edge (Some d.file)) in
-    let here = count-set file ws d.edge d.file in
+    let rest = count-bind file ds (set ws d.edge.0 (Some d)) in
+    let here = count-set file ws d.edge.0 d in
     omega (arith, rest, here)
 
 pub count-none : (file : FileNo) (n : ℕ) → count_pending file (replicate n None) ≡ 0
@@ -353,7 +385,7 @@ count-more file [] d = omega arith
 count-more file (x ∷ ds) d = let is = count-more file ds d in omega (arith, is)
 
 -- where none is pending on it, there is no first one
-pub none-first : (file : FileNo) (ws : List (Option FileNo)) → count_pending file ws ≡ 0
+pub none-first : (file : FileNo) (ws : List (Option DyndepEdge)) → count_pending file ws ≡ 0
     → first_edge (λ w. is_bound_to w file) ws ≡ None
 none-first file [] none = refl
 none-first file (w ∷ ws) none = by (is_bound_to w file) none (none-first file ws)
@@ -367,7 +399,7 @@ none-first file (w ∷ ws) none = by (is_bound_to w file) none (none-first file 
 -- ---- the dyndep files of edges
 
 abbrev pub default-edge : DyndepEdge
-default-edge = record { edge = 0; file = record { 0 = 0 } }
+default-edge = record { edge = record { 0 = 0 }; file = record { 0 = 0 } }
 
 -- the dyndep files of one more edge
 pub first-more : (ds : List DyndepEdge) (d : DyndepEdge)
@@ -536,12 +568,12 @@ abbrev bind-paths : List Pending → List (Option (List ℕ)) → List (Option (
 bind-paths [] bound = bound
 bind-paths (p ∷ ps) bound = bind-paths ps (set bound p.edge (Some p.file))
 
-bind-named : (files : List (List ℕ)) (ds : List DyndepEdge) (bound : List (Option FileNo))
+bind-named : (files : List (List ℕ)) (ds : List DyndepEdge) (bound : List (Option DyndepEdge))
     → map (file_named files) (bind_all ds bound)
     ≡ bind-paths (map (pending_named files) ds) (map (file_named files) bound)
 bind-named files [] bound = refl
-bind-named files (d ∷ ds) bound = bind-named files ds (set bound d.edge (Some d.file))
-    ∙ ap (bind-paths (map (pending_named files) ds)) (map-set (file_named files) bound d.edge (Some d.file))
+bind-named files (d ∷ ds) bound = bind-named files ds (set bound d.edge.0 (Some d))
+    ∙ ap (bind-paths (map (pending_named files) ds)) (map-set (file_named files) bound d.edge.0 (Some d))
 
 bind-pending : (front ws : List (Option (List ℕ))) (k : ℕ) → length front ≡ k
     → bind-paths (pending_from k ws) (front ++ replicate (length ws) None) ≡ front ++ ws
@@ -573,29 +605,54 @@ bind-unjoined files ds ws count is many =
     ∙ ap (λ ps. bind-paths ps (replicate (length ws) None)) is
     ∙ bind-pending [] ws 0 refl
 
-pub bind-length : (ds : List DyndepEdge) (bound : List (Option FileNo))
+pub bind-length : (ds : List DyndepEdge) (bound : List (Option DyndepEdge))
     → length (bind_all ds bound) ≡ length bound
 bind-length [] bound = refl
-bind-length (d ∷ ds) bound = bind-length ds (set bound d.edge (Some d.file))
-    ∙ length-set bound d.edge (Some d.file)
+bind-length (d ∷ ds) bound = bind-length ds (set bound d.edge.0 (Some d))
+    ∙ length-set bound d.edge.0 (Some d)
 
-pub bind-known : (count : ℕ) (ds : List DyndepEdge) (bound : List (Option FileNo))
-    → AllByRecursion (λ d. d.file.0 < count) ds → AllByRecursion (λ b. IfSome b (λ f. f.0 < count)) bound
-    → AllByRecursion (λ b. IfSome b (λ f. f.0 < count)) (bind_all ds bound)
+pub bind-known : (count : ℕ) (ds : List DyndepEdge) (bound : List (Option DyndepEdge))
+    → AllByRecursion (λ d. d.file.0 < count) ds
+    → AllByRecursion (λ b. IfSome b (λ e. e.file.0 < count)) bound
+    → AllByRecursion (λ b. IfSome b (λ e. e.file.0 < count)) (bind_all ds bound)
 bind-known count [] bound known all = all
 bind-known count (d ∷ ds) bound (here, known) all =
-    bind-known count ds (set bound d.edge (Some d.file)) known (all-set bound d.edge all)
+    bind-known count ds (set bound d.edge.0 (Some d)) known (all-set bound d.edge.0 all)
   where
-    all-set : (bs : List (Option FileNo)) (n : ℕ) → AllByRecursion (λ b. IfSome b (λ f. f.0 < count)) bs
-        → AllByRecursion (λ b. IfSome b (λ f. f.0 < count)) (set bs n (Some d.file))
+    all-set : (bs : List (Option DyndepEdge)) (n : ℕ)
+        → AllByRecursion (λ b. IfSome b (λ e. e.file.0 < count)) bs
+        → AllByRecursion (λ b. IfSome b (λ e. e.file.0 < count)) (set bs n (Some d))
     all-set [] n all = tt
     all-set (b ∷ bs) zero (first, all) = (here, all)
     all-set (b ∷ bs) (suc n) (first, all) = (first, all-set bs n all)
 
-pub none-known : (count n : ℕ) → AllByRecursion (λ (b : Option FileNo). IfSome b (λ f. f.0 < count))
+pub none-known : (count n : ℕ) → AllByRecursion (λ (b : Option DyndepEdge). IfSome b (λ d. d.file.0 < count))
     (replicate n None)
 none-known count zero = tt
 none-known count (suc n) = (tt, none-known count n)
+
+-- each edge that is bound is at the index of its number
+set-if : (P : DyndepEdge → Type 0) (bs : List (Option DyndepEdge)) (m n : ℕ) (d : DyndepEdge)
+    → IfSome (get_or bs n None) P → (m ≡ n → P d) → IfSome (get_or (set bs m (Some d)) n None) P
+set-if P [] m n d known here = tt
+set-if P (b ∷ bs) zero zero d known here = here refl
+set-if P (b ∷ bs) zero (suc n) d known here = known
+set-if P (b ∷ bs) (suc m) zero d known here = known
+set-if P (b ∷ bs) (suc m) (suc n) d known here = set-if P bs m n d known (λ e. here (ap suc e))
+
+pub bind-by-number : (ds : List DyndepEdge) (bound : List (Option DyndepEdge)) → AreByNumber bound
+    → AreByNumber (bind_all ds bound)
+bind-by-number [] bound are = are
+bind-by-number (d ∷ ds) bound are = bind-by-number ds (set bound d.edge.0 (Some d))
+    (λ n. set-if (λ e. e.edge.0 ≡ n) bound d.edge.0 n d (are n) (λ e. e))
+
+none-if : (P : DyndepEdge → Type 0) (count n : ℕ) → IfSome (get_or (replicate count None) n None) P
+none-if P zero n = tt
+none-if P (suc count) zero = tt
+none-if P (suc count) (suc n) = none-if P count n
+
+pub none-by-number : (count : ℕ) → AreByNumber (replicate count None)
+none-by-number count = λ n. none-if (λ d. d.edge.0 ≡ n) count n
 
 -- ---- the first one by a walk
 
@@ -637,26 +694,12 @@ first-passes test (x ∷ xs) n d first = by (test x) n refl first (λ j. first-p
         subst (λ i. (i < length (x ∷ xs)) × (test (get_or (x ∷ xs) i d) ≡ true)) (sym next.2)
         (omega (arith, below), found.1)
 
--- whether an edge is pending on a file
-pub still-bound : (bound : List (Option FileNo)) (was : List Bool) (n : ℕ) (file : FileNo)
-    → is_bound_to (get_or (still_pending bound was) n None) file
-    ≡ (is_bound_to (get_or bound n None) file && not (get_or was n false))
-still-bound bound was n file = ap (λ b. is_bound_to b file) (still-at bound was n)
-    ∙ by (get_or bound n None) (get_or was n false)
-  where
-    by : (b : Option FileNo) (j : Bool) → is_bound_to (unless_joined b j) file ≡ (is_bound_to b file && not j)
-    by None true = refl
-    by None false = refl
-    by (Some f) true = both (f.0 == file.0)
-      where
-        both : (b : Bool) → false ≡ (b && false)
-        both true = refl
-        both false = refl
-    by (Some f) false = both (f.0 == file.0)
-      where
-        both : (b : Bool) → b ≡ (b && true)
-        both true = refl
-        both false = refl
+-- an edge that is bound to a file, and one that is bound to another
+pub bound-same : (d : DyndepEdge) (file : FileNo) → d.file.0 ≡ file.0 → is_bound_to (Some d) file ≡ true
+bound-same d file is = ap (λ n. d.file.0 == n) (sym is) ∙ same-eqb d.file.0
+
+pub bound-other : (d : DyndepEdge) (file : FileNo) → d.file.0 ≢ file.0 → is_bound_to (Some d) file ≡ false
+bound-other d file apart = other-eqb d.file.0 file.0 apart
 
 pub to-next : (P : ℕ → Type 0) (n : ℕ) → ((m : ℕ) → m < n → P m) → P n → (m : ℕ) → m < n + 1 → P m
 to-next P n before here m below = by (cases_lt m n)

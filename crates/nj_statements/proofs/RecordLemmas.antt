@@ -109,7 +109,7 @@ module _ (strings longer : List (List ℕ)) (grows : IsPrefix strings longer) wh
       → AllByRecursion (λ (p : DyndepEdge). p.file.0 < length strings) ps
       → map (pending_named longer) ps ≡ map (pending_named strings) ps
   pending-same = map-same (λ (p : DyndepEdge). p.file.0 < length strings) (pending_named longer)
-      (pending_named strings) (λ p below. ap (λ path. record { edge = p.edge; file = path })
+      (pending_named strings) (λ p below. ap (λ path. record { edge = p.edge.0; file = path })
       (ap (λ fs. path_at fs p.file) grows.1 ∙ path_at-more strings grows.0 p.file below))
 
 -- ---- a graph with the same edges, and with more files
@@ -123,7 +123,7 @@ module _ (graph longer : EdgeGraph) (r : RecordsModel) (are : AreOfGraph graph r
     assigned_known = are.assigned_known;
     defaults_known = files-more graph.files longer.files files r.defaults are.defaults_known;
     files_known = pending-more graph.files longer.files files r.dyndeps are.files_known;
-    edges_known = subst (λ n. AllByRecursion (λ (p : DyndepEdge). p.edge < n) r.dyndeps) (sym count)
+    edges_known = subst (λ n. AllByRecursion (λ (p : DyndepEdge). p.edge.0 < n) r.dyndeps) (sym count)
         are.edges_known;
   }
 

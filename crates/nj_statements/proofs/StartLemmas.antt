@@ -20,11 +20,13 @@ use Rattle.nj_statements.specs.Joining.{dyndep_files}
 use Rattle.nj_statements.specs.JoiningHeld.{pending_of, pending_from, still_pending, HasJoined}
 use Rattle.nj_statements.specs.Inside.JoiningFields.{JoiningFields, JoiningIsHeld, joining_of}
 use Rattle.nj_statements.specs.Inside.JoiningSteps.{count_pending, count_bound, bind_all, first_edges}
-use Rattle.nj_statements.specs.Inside.JoiningSteps.{numbered_from, file_named}
+use Rattle.nj_statements.specs.Inside.JoiningSteps.{AreByNumber, edges_in, file_named}
 use Rattle.nj_statements.proofs.PendingLemmas.{still-all, still-map, still-length, still-known}
-use Rattle.nj_statements.proofs.PendingLemmas.{numbered-named, numbered-files, numbered-edges, pending-more}
+use Rattle.nj_statements.proofs.PendingLemmas.{still-by-number, from-zero, edges-named, edges-files}
+use Rattle.nj_statements.proofs.PendingLemmas.{edges-below, pending-more}
 use Rattle.nj_statements.proofs.PendingLemmas.{firsts-all, firsts-named, bind-unjoined, bind-length}
 use Rattle.nj_statements.proofs.PendingLemmas.{bind-known, none-known, count-bind, count-none}
+use Rattle.nj_statements.proofs.PendingLemmas.{bind-by-number, none-by-number}
 
 -- ---- the files on which edges are pending
 
@@ -91,7 +93,7 @@ module _ (graph : EdgeGraph) (r : RecordsModel) (fits : AreOfGraph graph r)
     (bound_are : j.bound ≡ bind_all r.dyndeps (replicate (length graph.edges) None))
     (count : length j.unjoined ≡ length graph.files)
     (pending_are : (file : FileNo) → get_or j.unjoined file.0 0 ≡ count_bound file r.dyndeps) where
-  abbrev bound : List (Option FileNo)
+  abbrev bound : List (Option DyndepEdge)
   bound = bind_all r.dyndeps (replicate (length graph.edges) None)
 
   abbrev start : JoiningFields
@@ -121,8 +123,10 @@ module _ (graph : EdgeGraph) (r : RecordsModel) (fits : AreOfGraph graph r)
     fits = fits;
     dyndep_files_known = firsts-all (λ (d : DyndepEdge). d.file.0 < length graph.files) r.dyndeps
         fits.files_known;
-    dyndep_edges_known = firsts-all (λ (d : DyndepEdge). d.edge < length graph.edges) r.dyndeps
+    dyndep_edges_known = firsts-all (λ (d : DyndepEdge). d.edge.0 < length graph.edges) r.dyndeps
         fits.edges_known;
+    bound_by_number = bind-by-number r.dyndeps (replicate (length graph.edges) None)
+        (none-by-number (length graph.edges));
     bound_known =
         bind-known (length j.unjoined) r.dyndeps (replicate (length graph.edges) None)
         (subst (λ n. AllByRecursion (λ (d : DyndepEdge). d.file.0 < n) r.dyndeps) (sym count)
@@ -169,18 +173,22 @@ module _ (graph : EdgeGraph) (r : RecordsModel) (fits : AreOfGraph graph r)
 
 -- the records with the edges that are still pending
 module _ (j : JoiningFields) (held : JoiningIsHeld j) (dyndeps : List DyndepEdge)
-    (are : dyndeps ≡ numbered_from 0 (still_pending j.bound j.table.was_joined)) where
-  abbrev left : List (Option FileNo)
+    (are : dyndeps ≡ edges_in (still_pending j.bound j.table.was_joined)) where
+  abbrev left : List (Option DyndepEdge)
   left = still_pending j.bound j.table.was_joined
 
   many : length left ≡ length j.table.joined
   many = still-length j.bound j.table.was_joined ∙ held.as_many_bound ∙ sym held.as_many_joined
 
-  known : (bs : List (Option FileNo)) → AllByRecursion (λ b. IfSome b (λ f. f.0 < length j.unjoined)) bs
-      → AllByRecursion (λ b. IfSome b (λ f. f.0 < length j.table.files)) bs
+  numbered : AreByNumber left
+  numbered = still-by-number j.bound j.table.was_joined held.bound_by_number
+
+  known : (bs : List (Option DyndepEdge))
+      → AllByRecursion (λ b. IfSome b (λ d. d.file.0 < length j.unjoined)) bs
+      → AllByRecursion (λ b. IfSome b (λ d. d.file.0 < length j.table.files)) bs
   known [] all = tt
   known (None ∷ bs) all = (tt, known bs all.1)
-  known (Some f ∷ bs) all = (let most = held.pending_known in omega (arith, all.0, most), known bs all.1)
+  known (Some d ∷ bs) all = (let most = held.pending_known in omega (arith, all.0, most), known bs all.1)
 
   pub left-fits : AreOfGraph (record { files = j.table.files; edges = j.table.joined })
       (record j.records { dyndeps = dyndeps })
@@ -190,11 +198,11 @@ module _ (j : JoiningFields) (held : JoiningIsHeld j) (dyndeps : List DyndepEdge
     assigned_known = held.fits.assigned_known;
     defaults_known = held.fits.defaults_known;
     files_known = subst (AllByRecursion (λ (d : DyndepEdge). d.file.0 < length j.table.files)) (sym are)
-        (numbered-files (length j.table.files) 0 left
-        (still-known (λ f. f.0 < length j.table.files) j.bound j.table.was_joined
+        (edges-files (length j.table.files) left
+        (still-known (λ d. d.file.0 < length j.table.files) j.bound j.table.was_joined
         (known j.bound held.bound_known)));
-    edges_known = subst (AllByRecursion (λ (d : DyndepEdge). d.edge < length j.table.joined)) (sym are)
-        (numbered-edges (length j.table.joined) 0 left (omega (arith, many)));
+    edges_known = subst (AllByRecursion (λ (d : DyndepEdge). d.edge.0 < length j.table.joined)) (sym are)
+        (edges-below (length j.table.joined) 0 left (from-zero left numbered) (omega (arith, many)));
   }
 
   pub left-built : (stated joined : List ReadStatement) → HasJoined (joining_of j) stated joined
@@ -207,8 +215,9 @@ module _ (j : JoiningFields) (held : JoiningIsHeld j) (dyndeps : List DyndepEdge
     block_names = has.block_names;
     defaults = has.defaults;
     pending = ap (map (pending_named j.table.files)) are
-        ∙ numbered-named j.table.files 0 left
-        ∙ ap (pending_from 0) (still-map (path_at j.table.files) j.bound j.table.was_joined)
+        ∙ edges-named j.table.files 0 left (from-zero left numbered)
+        ∙ ap (pending_from 0)
+        (still-map (λ (d : DyndepEdge). path_at j.table.files d.file) j.bound j.table.was_joined)
         ∙ sym has.unjoined;
     assigned = has.assigned;
     restats = has.restats;

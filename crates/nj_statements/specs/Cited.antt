@@ -23,12 +23,12 @@ pub use Rattle.std.specs.List.{AllByRecursion, IsDistinct}
 pub use Rattle.nj_text.specs.Words.{word_model, part_model, Text}
 pub use Rattle.nj_manifest.specs.DyndepParsers.{entry_model}
 pub use Rattle.nj_edges.specs.Edges.{edge_at, first_output, first_edge, maker_of, EdgePaths}
-pub use Rattle.nj_edges.specs.Joining.{join_of, none_added}
+pub use Rattle.nj_edges.specs.Joining.{join_of, none_added, is_joined}
 pub use Rattle.nj_faults.specs.Faults.{IsFault, fault_at}
 pub use Rattle.nj_statements.specs.Joining.{no_values, entry_fault, with_entry, lacking_fault}
 pub use Rattle.nj_statements.specs.JoiningHeld.{HasJoined, JoinsEntry, JoinsNothing, KeepsEdges, has_pending, still_pending, unless_joined}
-pub use Rattle.nj_statements.specs.Inside.JoiningSteps.{IsMeant, fault_of_pending, bind_all, first_edges, count_bound, numbered_from}
-pub use Rattle.nj_statements.specs.Inside.JoiningSteps.{is_bound_to, if_bound, maker_fault, edge_bound, with_added_outputs}
+pub use Rattle.nj_statements.specs.Inside.JoiningSteps.{IsMeant, fault_of_pending, bind_all, first_edges, count_bound, AreByNumber}
+pub use Rattle.nj_statements.specs.Inside.JoiningSteps.{edges_in, is_bound_to, if_bound, maker_fault, edge_bound, with_added_outputs}
 pub use Rattle.nj_statements.specs.Inside.JoiningSteps.{with_added_inputs, with_restat}
 pub use Rattle.nj_edge_env.specs.LateStrings.{LateNames, asked_text}
 pub use Rattle.nj_edge_env.specs.ReferencesHeld.{TellsCycles}

@@ -42,7 +42,7 @@ assigned_named names d = record { pool = numbered_at names d.pool; dyndep = numb
 
 -- a pending edge, with its dyndep file by path
 abbrev pub pending_named : (files : List (List ℕ)) → DyndepEdge → Pending
-pending_named files d = record { edge = d.edge; file = path_at files d.file }
+pending_named files d = record { edge = d.edge.0; file = path_at files d.file }
 
 -- ---- all edges
 
@@ -76,4 +76,4 @@ pub record AreOfGraph (graph : EdgeGraph) (r : RecordsModel) : Type 0 where
   pub assigned_known : AllByRecursion (λ d. IsNumbered r.names d.pool × IsNumbered r.names d.dyndep) r.details
   pub defaults_known : AllByRecursion (λ file. file.0 < length graph.files) r.defaults
   pub files_known : AllByRecursion (λ p. p.file.0 < length graph.files) r.dyndeps
-  pub edges_known : AllByRecursion (λ p. p.edge < length graph.edges) r.dyndeps
+  pub edges_known : AllByRecursion (λ p. p.edge.0 < length graph.edges) r.dyndeps

@@ -13,7 +13,7 @@ use crate::stated_block::bind_block;
 use crate::stated_files::add_edge;
 use crate::string_numbers::file_number;
 use nj_edge_env::{Blocks, KeyReferences};
-use nj_edges::{Edges, FileNo};
+use nj_edges::{EdgeNo, Edges, FileNo};
 use nj_faults::{Cause, GraphFault, Name, PlaceRef};
 use nj_manifest::Build;
 use nj_names::Names;
@@ -140,7 +140,7 @@ impl Building {
         ensures refused { OnErr result (AddsNothing self.old self.new) }
     {
         let records = &mut self.records;
-        let edge = records.details.as_slice().len();
+        let number = records.details.as_slice().len();
         // Capacity is made first, so that nothing can fail once the edge is there.
         records.details.reserve(1)?;
         records.dyndeps.reserve(1)?;
@@ -152,7 +152,7 @@ impl Building {
             &mut self.capacity.text,
             declarations,
             scope,
-            edge,
+            number,
             build.lines.as_slice(),
         )?;
         let context = Context {
@@ -161,9 +161,10 @@ impl Building {
             scope,
             declarations,
             blocks: &records.blocks,
-            edge,
+            edge: number,
         };
         let references = rule_references(&self.references, rule.number);
+        let edge = self.edges.open_edge();
         let assigned = add_edge(
             context,
             &mut self.capacity,
@@ -246,8 +247,8 @@ impl Building {
     }
 }
 
-// Appends the edge of this number, if it is bound to a dyndep file.
-fn push_dyndep(dyndeps: &mut Vec<DyndepEdge>, edge: usize, file: Option<FileNo>)
+// Appends this edge, if it is bound to a dyndep file.
+fn push_dyndep(dyndeps: &mut Vec<DyndepEdge>, edge: EdgeNo, file: Option<FileNo>)
     requires { vec_len dyndeps.old < vec_capacity dyndeps.old }
     ensures { dyndeps.new.items ≡ with_dyndep edge file dyndeps.old.items }
 {

@@ -120,7 +120,7 @@ impl Built {
             ≡ Some result.0 }
         ensures known { result.0 < length self.now.graph.edges }
     {
-        EdgeNo(self.records.dyndeps[index].edge)
+        self.records.dyndeps[index].edge
     }
 
     /// The defaults in force: the files of the `default` lines in their order, or the roots where

@@ -1,7 +1,7 @@
 //! The additions of dyndep files to the edges of a run.
 
-ghost use Rattle.std.specs.Prelude.{◌≡◌, ◌<◌, ◌==◌, List, [], Some, None, option_map, unwrap_or, length, slice_get, replicate, slice_index_or, false, bytes_eq, IfOk, IfSome, OnOk, OnErr};
-ghost use Rattle.nj_statements.specs.Cited.{first_given, option_or, AllByRecursion, IsDistinct, word_model, words_model, entry_model, IsPrefix, ReadStatement, edge_at, first_output, first_edge, maker_of, path_at, join_of, none_added, IsFault, fault_at, path_given, paths_given, empty_path, outputs_fault, ComesTo, IsBuiltOf, detail_at, no_values, entry_fault, with_entry, lacking_fault, Checks, HasJoined, JoinsEntry, JoinsNothing, KeepsEdges, has_pending, still_pending, unless_joined, IsMeant, fault_of_pending, bind_all, first_edges, count_bound, numbered_from, is_bound_to, if_bound, maker_fault, edge_bound, with_added_outputs, with_added_inputs};
+ghost use Rattle.std.specs.Prelude.{◌≡◌, ◌<◌, ◌==◌, List, [], Some, None, option_map, option_and_then, unwrap_or, length, slice_get, replicate, slice_index_or, false, bytes_eq, IfOk, IfSome, OnOk, OnErr};
+ghost use Rattle.nj_statements.specs.Cited.{first_given, option_or, AllByRecursion, IsDistinct, word_model, words_model, entry_model, IsPrefix, ReadStatement, edge_at, first_output, first_edge, maker_of, path_at, join_of, none_added, IsFault, fault_at, path_given, paths_given, empty_path, outputs_fault, ComesTo, IsBuiltOf, detail_at, no_values, entry_fault, with_entry, lacking_fault, Checks, HasJoined, JoinsEntry, JoinsNothing, KeepsEdges, has_pending, still_pending, unless_joined, IsMeant, fault_of_pending, bind_all, first_edges, count_bound, AreByNumber, edges_in, is_joined, is_bound_to, if_bound, maker_fault, edge_bound, with_added_outputs, with_added_inputs};
 
 use crate::built::Built;
 use crate::records::{DyndepEdge, EdgeRecords, place_of};
@@ -30,8 +30,8 @@ pub struct Joining {
     records: EdgeRecords,
     // the dyndep files, each with its first edge
     dyndep_files: Vec<DyndepEdge>,
-    // for each edge, the dyndep file to which it is bound
-    bound: Vec<Option<FileNo>>,
+    // the edges that are bound to dyndep files, each at the index of its number
+    bound: Vec<Option<DyndepEdge>>,
     // for each file, how many edges are pending on it
     unjoined: Vec<usize>,
     capacity: Capacity,
@@ -85,14 +85,14 @@ impl Built {
 struct Start {
     edges: JoiningEdges,
     dyndep_files: Vec<DyndepEdge>,
-    bound: Vec<Option<FileNo>>,
+    bound: Vec<Option<DyndepEdge>>,
     unjoined: Vec<usize>,
 }
 
 // The edges of a graph, and the dyndep files of some of them. It owns no more than the graph, so
 // that each of its ends drops little.
 fn start_of(alloc: Global, graph: EdgeGraph, dyndeps: &[DyndepEdge]) -> Result<Start, AllocError>
-    requires edges { AllByRecursion (λ d. d.edge < length graph.edges) dyndeps.now }
+    requires edges { AllByRecursion (λ d. d.edge.0 < length graph.edges) dyndeps.now }
     requires files { AllByRecursion (λ d. d.file.0 < length graph.files) dyndeps.now }
     ensures edges { IfOk result (λ start. start.edges ≡ join_of graph) }
     ensures once { IfOk result (λ start. IsDistinct bytes_eq graph.files) }
@@ -104,7 +104,7 @@ fn start_of(alloc: Global, graph: EdgeGraph, dyndeps: &[DyndepEdge]) -> Result<S
     ensures unjoined { IfOk result (λ start. (file : FileNo)
         → slice_index_or start.unjoined.items file.0 0 ≡ count_bound file dyndeps.now) }
 {
-    let bound = bound_files(alloc, graph.edge_count(), dyndeps)?;
+    let bound = bound_edges(alloc, graph.edge_count(), dyndeps)?;
     let Awaited {
         dyndep_files,
         unjoined,
@@ -118,19 +118,19 @@ fn start_of(alloc: Global, graph: EdgeGraph, dyndeps: &[DyndepEdge]) -> Result<S
     })
 }
 
-// For each edge, the dyndep file to which it is bound.
-fn bound_files(
+// The edges that are bound to dyndep files, each at the index of its number.
+fn bound_edges(
     alloc: Global,
     edge_count: usize,
     dyndeps: &[DyndepEdge],
-) -> Result<Vec<Option<FileNo>>, AllocError>
-    requires { AllByRecursion (λ d. d.edge < edge_count) dyndeps.now }
+) -> Result<Vec<Option<DyndepEdge>>, AllocError>
+    requires { AllByRecursion (λ d. d.edge.0 < edge_count) dyndeps.now }
     ensures { IfOk result (λ bound. bound.items
         ≡ bind_all dyndeps.now (replicate edge_count None)) }
 {
     let mut bound = vec![in alloc; None; edge_count]?;
     'dyndeps: for dyndep in dyndeps {
-        bound[dyndep.edge] = Some(dyndep.file);
+        bound[dyndep.edge.0] = Some(*dyndep);
     }
     Ok(bound)
 }
@@ -189,7 +189,7 @@ impl Joining {
         DyndepFile {
             number: dyndep.file,
             path: self.edges.files().path(dyndep.file),
-            edge: EdgeNo(dyndep.edge),
+            edge: dyndep.edge,
         }
     }
 
@@ -297,43 +297,52 @@ impl Joining {
     }
 }
 
-// The edges that are still pending, by number, each with the dyndep file to which it is bound.
+// The edges that are still pending, by number.
 fn unjoined_edges(
     alloc: Global,
     edges: &JoiningEdges,
-    bound: &[Option<FileNo>],
+    bound: &[Option<DyndepEdge>],
 ) -> Result<Vec<DyndepEdge>, AllocError>
-    requires { length bound.now ≡ length edges.now.stated }
+    requires count { length bound.now ≡ length edges.now.stated }
+    requires by_number { AreByNumber bound.now }
     ensures { IfOk result (λ unjoined. unjoined.items
-        ≡ numbered_from 0 (still_pending bound.now edges.now.was_joined)) }
+        ≡ edges_in (still_pending bound.now edges.now.was_joined)) }
 {
     let mut unjoined = Vec::new(alloc);
-    'edges: for (edge, file) in bound.iter().enumerate() {
-        if let Some(file) = unless_joined(edges, EdgeNo(edge), *file) {
-            unjoined.push(DyndepEdge { edge, file })?;
+    'edges: for edge in bound {
+        if let Some(dyndep) = unless_joined(edges, *edge) {
+            unjoined.push(dyndep)?;
         }
     }
     Ok(unjoined)
 }
 
-// The dyndep file to which an edge is bound, unless it was joined to it.
-fn unless_joined(edges: &JoiningEdges, edge: EdgeNo, bound: Option<FileNo>) -> Option<FileNo>
-    requires { edge.0 < length edges.now.stated }
-    ensures { result ≡ unless_joined bound (slice_index_or edges.now.was_joined edge.0 false) }
+// An edge that is bound to a dyndep file, unless that file was joined to it.
+fn unless_joined(edges: &JoiningEdges, bound: Option<DyndepEdge>) -> Option<DyndepEdge>
+    requires { IfSome bound (λ d. d.edge.0 < length edges.now.stated) }
+    ensures { result
+        ≡ option_and_then (λ d. unless_joined bound (is_joined edges.now d.edge.0)) bound }
 {
-    if edges.is_joined(edge) { None } else { bound }
+    let dyndep = bound?;
+    if edges.is_joined(dyndep.edge) {
+        None
+    } else {
+        bound
+    }
 }
 
 // The lowest-numbered edge that is pending on a dyndep file.
-fn pending_edge(edges: &JoiningEdges, bound: &[Option<FileNo>], file: FileNo) -> Option<EdgeNo>
-    requires { length bound.now ≡ length edges.now.stated }
+fn pending_edge(edges: &JoiningEdges, bound: &[Option<DyndepEdge>], file: FileNo) -> Option<EdgeNo>
+    requires count { length bound.now ≡ length edges.now.stated }
+    requires by_number { AreByNumber bound.now }
     ensures { option_map (λ edge. edge.0) result ≡ first_edge (λ w. is_bound_to w file)
         (still_pending bound.now edges.now.was_joined) }
 {
-    'edges: for (number, other) in bound.iter().enumerate() {
-        let edge = EdgeNo(number);
-        if is_bound_to(*other, file) && !edges.is_joined(edge) {
-            return Some(edge);
+    'edges: for edge in bound {
+        if let Some(dyndep) = unless_joined(edges, *edge) {
+            if dyndep.file.0 == file.0 {
+                return Some(dyndep.edge);
+            }
         }
     }
     None
@@ -381,7 +390,7 @@ impl DyndepLine<'_> {
     fn bound_maker(
         self,
         edges: &JoiningEdges,
-        bound: &[Option<FileNo>],
+        bound: &[Option<DyndepEdge>],
         path: &[u8],
     ) -> Option<EdgeNo>
         requires { length bound.now ≡ length edges.now.stated }
@@ -402,7 +411,7 @@ impl DyndepLine<'_> {
         self,
         capacity: &mut Capacity,
         edges: &JoiningEdges,
-        bound: &[Option<FileNo>],
+        bound: &[Option<DyndepEdge>],
         word: &Word<'_>,
     ) -> Result<EdgeNo, GraphFault>
         requires { length bound.now ≡ length edges.now.stated }
@@ -481,11 +490,11 @@ impl DyndepLine<'_> {
 }
 
 // Whether an edge is bound to this dyndep file.
-fn is_bound_to(bound: Option<FileNo>, file: FileNo) -> bool
+fn is_bound_to(bound: Option<DyndepEdge>, file: FileNo) -> bool
     ensures { result ≡ is_bound_to bound file }
 {
     match bound {
-        Some(other) => other.0 == file.0,
+        Some(dyndep) => dyndep.file.0 == file.0,
         None => false,
     }
 }

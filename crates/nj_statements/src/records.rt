@@ -15,7 +15,7 @@ use std::marker::Model;
 // An edge that is bound to a dyndep file ("Dynamic Dependencies" in the Ninja manual).
 #[derive(Clone, Copy)]
 pub(crate) struct DyndepEdge {
-    pub(crate) edge: usize,
+    pub(crate) edge: EdgeNo,
     pub(crate) file: FileNo,
 }
 

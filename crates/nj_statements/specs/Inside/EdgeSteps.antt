@@ -13,6 +13,7 @@ use Rattle.nj_scope.specs.Declarations.{DeclarationsModel, DeclaredBy}
 use Rattle.nj_scope.specs.ReadingList.{ReadStatement, value_after}
 use Rattle.nj_edge_env.specs.Blocks.{bound_in}
 use Rattle.nj_names.specs.declared.files.FileNo.{FileNo}
+use Rattle.nj_edges.specs.declared.edges.EdgeNo.{EdgeNo}
 use Rattle.nj_edges.specs.Edges.{EdgePaths, is_among}
 use Rattle.nj_edges.specs.EdgeTables.{EdgeTable, no_files, with_output, with_input, with_validation}
 use Rattle.nj_names.specs.Files.{AreFiles}
@@ -152,7 +153,7 @@ pub record AreNumbersOf (names : List (List ℕ)) (a : Assigned) (meant : Assign
   pub pool : slice_get (numbered names) a.pool ≡ Some meant.pool
   pub dyndep : slice_get (numbered names) a.dyndep ≡ Some meant.dyndep
 
--- with the edge of this number, if it is bound to a dyndep file
-abbrev pub with_dyndep : (edge : ℕ) → Option FileNo → List DyndepEdge → List DyndepEdge
+-- with this edge, if it is bound to a dyndep file
+abbrev pub with_dyndep : EdgeNo → Option FileNo → List DyndepEdge → List DyndepEdge
 with_dyndep edge None held = held
 with_dyndep edge (Some file) held = held ++ record { edge = edge; file = file } ∷ []

@@ -8,14 +8,14 @@ use Rattle.nj_statements.specs.declared.dyndep_entries.Joining.TheInside.{Inside
 use Rattle.nj_statements.specs.declared.records.DyndepEdge.{DyndepEdge}
 use Rattle.nj_statements.specs.Records.{AreOfGraph, RecordsModel, pending_named, with_graph}
 use Rattle.nj_statements.specs.JoiningHeld.{JoiningModel, still_pending}
-use Rattle.nj_statements.specs.Inside.JoiningSteps.{count_pending, file_named}
+use Rattle.nj_statements.specs.Inside.JoiningSteps.{AreByNumber, count_pending, file_named}
 
 -- the fields, without what their lists have room for
 pub record JoiningFields : Type 0 where
   pub table : JoinTable
   pub records : RecordsModel
   pub dyndep_files : List DyndepEdge
-  pub bound : List (Option FileNo)
+  pub bound : List (Option DyndepEdge)
   pub unjoined : List ℕ
 
 abbrev pub fields_of : Inside → JoiningFields
@@ -55,8 +55,9 @@ pub record JoiningIsHeld (j : JoiningFields) : Type 0 where
   pub unchanged : (edge : ℕ) → is_joined j.table edge ≡ false → slice_get j.table.joined edge ≡ slice_get j.table.stated edge
   pub fits : AreOfGraph (graph_stated j.table) j.records
   pub dyndep_files_known : AllByRecursion (λ d. d.file.0 < length j.table.files) j.dyndep_files
-  pub dyndep_edges_known : AllByRecursion (λ d. d.edge < length j.table.stated) j.dyndep_files
-  pub bound_known : AllByRecursion (λ file. IfSome file (λ f. f.0 < length j.unjoined)) j.bound
+  pub dyndep_edges_known : AllByRecursion (λ d. d.edge.0 < length j.table.stated) j.dyndep_files
+  pub bound_by_number : AreByNumber j.bound
+  pub bound_known : AllByRecursion (λ b. IfSome b (λ d. d.file.0 < length j.unjoined)) j.bound
   pub pending_known : length j.unjoined ≤ length j.table.files
   pub enough_pending : (file : FileNo)
       → count_pending file (still_pending j.bound j.table.was_joined) ≤ slice_index_or j.unjoined file.0 0

@@ -1,5 +1,5 @@
 -- How the code joins the discoveries of dyndep files, step by step.
-use Rattle.std.specs.Prelude.{◌≡◌, ℕ, ◌+◌, ◌<◌, ◌==◌, Bool, true, false, ◌||◌, not, if◌then◌else◌, Option, Some, None, option_map, unwrap_or}
+use Rattle.std.specs.Prelude.{◌≡◌, ℕ, ◌+◌, ◌<◌, ◌==◌, Bool, true, false, ◌||◌, not, if◌then◌else◌, Option, Some, None, option_map, unwrap_or, IfSome}
 use Rattle.std.specs.Bool.{then_some}
 use Rattle.std.specs.Prelude.{List, [], ◌∷◌, ◌++◌, filter, length, set, slice_index_or}
 use Rattle.nj_text.specs.Words.{WordModel}
@@ -21,8 +21,9 @@ use Rattle.nj_scope.specs.ReadingList.{Discovered, ReadStatement}
 abbrev pub discover_for : Option ℕ → Discovered → List ReadStatement → List ReadStatement
 discover_for edge found joined = unwrap_or (option_map (λ edge. discover edge found joined) edge) joined
 
-abbrev pub is_bound_to : Option FileNo → FileNo → Bool
-is_bound_to (Some bound) file = bound.0 == file.0
+-- the edge is bound to this file, where there is one
+abbrev pub is_bound_to : Option DyndepEdge → FileNo → Bool
+is_bound_to (Some bound) file = bound.file.0 == file.0
 is_bound_to None file = false
 
 abbrev pub one_if : Bool → ℕ
@@ -30,7 +31,7 @@ one_if true = 1
 one_if false = 0
 
 -- how many of these are pending on a file
-abbrev pub count_pending : FileNo → (unjoined : List (Option FileNo)) → ℕ
+abbrev pub count_pending : FileNo → (unjoined : List (Option DyndepEdge)) → ℕ
 count_pending file [] = 0
 count_pending file (w ∷ unjoined) = one_if (is_bound_to w file) + count_pending file unjoined
 
@@ -39,30 +40,35 @@ abbrev pub count_bound : FileNo → List DyndepEdge → ℕ
 count_bound file [] = 0
 count_bound file (d ∷ dyndeps) = one_if (d.file.0 == file.0) + count_bound file dyndeps
 
--- these edges are bound to their files
-abbrev pub bind_all : List DyndepEdge → (bound : List (Option FileNo)) → List (Option FileNo)
+-- these edges are bound to their files, each at the index of its number
+abbrev pub bind_all : List DyndepEdge → (bound : List (Option DyndepEdge)) → List (Option DyndepEdge)
 bind_all [] bound = bound
-bind_all (d ∷ dyndeps) bound = bind_all dyndeps (set bound d.edge (Some d.file))
+bind_all (d ∷ dyndeps) bound = bind_all dyndeps (set bound d.edge.0 (Some d))
+
+-- each edge is at the index of its number
+abbrev pub AreByNumber : (bound : List (Option DyndepEdge)) → Type 0
+AreByNumber bound = (number : ℕ) → IfSome (slice_index_or bound number None) (λ d. d.edge.0 ≡ number)
 
 -- the first of these edges that are bound to a file, for each file
 abbrev pub first_edges : List DyndepEdge → List DyndepEdge
 first_edges [] = []
 first_edges (d ∷ others) = d ∷ filter (λ other. not (other.file.0 == d.file.0)) (first_edges others)
 
--- the pending edges, numbered from this number on, by the files on which they are pending
-abbrev pub numbered_of : (edge : ℕ) → Option FileNo → List DyndepEdge
-numbered_of edge (Some file) = record { edge = edge; file = file } ∷ []
-numbered_of edge None = []
+-- the edges, without the places where there is none
+abbrev pub edge_if : Option DyndepEdge → List DyndepEdge
+edge_if (Some d) = d ∷ []
+edge_if None = []
 
-abbrev pub numbered_from : (number : ℕ) → (unjoined : List (Option FileNo)) → List DyndepEdge
-numbered_from number [] = []
-numbered_from number (w ∷ unjoined) = numbered_of number w ++ numbered_from (number + 1) unjoined
+abbrev pub edges_in : (bound : List (Option DyndepEdge)) → List DyndepEdge
+edges_in [] = []
+edges_in (b ∷ bound) = edge_if b ++ edges_in bound
 
-abbrev pub file_named : (files : List (List ℕ)) → Option FileNo → Option (List ℕ)
-file_named files file = option_map (path_at files) file
+-- the path of the file to which an edge is bound
+abbrev pub file_named : (files : List (List ℕ)) → Option DyndepEdge → Option (List ℕ)
+file_named files bound = option_map (λ d. path_at files d.file) bound
 
 -- the edge, if it is bound to a file
-abbrev pub if_bound : (bound : List (Option FileNo)) → FileNo → Option ℕ → Option ℕ
+abbrev pub if_bound : (bound : List (Option DyndepEdge)) → FileNo → Option ℕ → Option ℕ
 if_bound bound file None = None
 if_bound bound file (Some edge) = if is_bound_to (slice_index_or bound edge None) file then Some edge else None
 
@@ -72,11 +78,11 @@ maker_fault name word table (Some edge) =
     then_some (is_joined table edge) (fault_at name word.spot (DyndepTwice (path_given no_values word)))
 
 -- the edge that makes the file of a word, if it is bound to this dyndep file
-abbrev pub edge_bound : JoinTable → (bound : List (Option FileNo)) → FileNo → WordModel → Option ℕ
+abbrev pub edge_bound : JoinTable → (bound : List (Option DyndepEdge)) → FileNo → WordModel → Option ℕ
 edge_bound table bound file word = if_bound bound file (maker_of table.stated (path_given no_values word))
 
 -- this edge, to which nothing was joined yet
-pub record IsMeant (table : JoinTable) (bound : List (Option FileNo)) (file : FileNo) (word : WordModel) (edge : ℕ) : Type 0 where
+pub record IsMeant (table : JoinTable) (bound : List (Option DyndepEdge)) (file : FileNo) (word : WordModel) (edge : ℕ) : Type 0 where
   pub is : edge_bound table bound file word ≡ Some edge
   pub known : edge < length table.stated
   pub first : is_joined table edge ≡ false

@@ -44,9 +44,9 @@ returns-in_err-assigned-clause-reads c = λ entries around depth by within rule_
     let old_is = ap (λ r. record (building_of c.self.inside) { records = r }) c.records.view_is
     ∙ c.self.view_is in
     let held : HasEdges old entries = subst (λ b. HasEdges b entries) (sym old_is) has in
-    let edge = length c.as_slice-edge.result.now in
+    let edge = length c.as_slice-number.result.now in
     let count : edge ≡ length old.records.details =
-    ap length c.as_slice-edge.ensures.value in
+    ap length c.as_slice-number.ensures.value in
     let bound = subst (λ ls. (n : ℕ) (name : List ℕ) → bound_in c.bind_block.new.blocks n name ≡ if n ==
     edge then option_or (block_of scope_values (lines_model ls) name)
     (bound_in c.records.inside.blocks n name) else bound_in c.records.inside.blocks n name)
@@ -98,9 +98,9 @@ returns-clause-reads c = λ entries around depth by within rule_is there has.
     let old_is = ap (λ r. record (building_of c.self.inside) { records = r }) c.records.view_is
     ∙ c.self.view_is in
     let held : HasEdges old entries = subst (λ b. HasEdges b entries) (sym old_is) has in
-    let edge = length c.as_slice-edge.result.now in
+    let edge = length c.as_slice-number.result.now in
     let count : edge ≡ length old.records.details =
-    ap length c.as_slice-edge.ensures.value in
+    ap length c.as_slice-number.ensures.value in
     let bound = subst (λ ls. (n : ℕ) (name : List ℕ) → bound_in c.bind_block.new.blocks n name ≡ if n ==
     edge then option_or (block_of scope_values (lines_model ls) name)
     (bound_in c.records.inside.blocks n name) else bound_in c.records.inside.blocks n name)
@@ -155,7 +155,7 @@ returns-clause-reads c = λ entries around depth by within rule_is there has.
           (subst (λ es. option_or (paths_fault c.args.place.file.now values es outputs inputs) meant ≡ None)
           held.built.paths (c.in_ok-assigned.ensures.fault values sees held.none_open tells)),
       has-build old new e entries outputs rule_text inputs lines detail
-          c.in_ok-assigned.assigned.file held
+          c.open_edge-edge.result c.in_ok-assigned.assigned.file held
           (subst (λ b. AddsEdge old.table new.table (edge_paths (stated_paths values outputs inputs b)))
           (ap (λ (o : Option ℕ). unwrap_or o 0 == 0) (sym rule_is))
           (c.in_ok-assigned.ensures.added values sees held.none_open))
@@ -184,9 +184,9 @@ returns-clause-reads c = λ entries around depth by within rule_is there has.
             restat = kept_as.restat_is;
           })
           refl
-          (c.push_dyndep.ensures ∙ ap (with_dyndep edge c.in_ok-assigned.assigned.file)
-          c.in_ok-reserve-2.ensures.items ∙ ap
-          (λ n. with_dyndep n c.in_ok-assigned.assigned.file was.dyndeps) count)
+          (c.open_edge-edge.ensures ∙ sym held.fits.as_many)
+          (c.push_dyndep.ensures ∙ ap (with_dyndep c.open_edge-edge.result c.in_ok-assigned.assigned.file)
+          c.in_ok-reserve-2.ensures.items)
           (subst (λ n. IsFileGiven new.table.files c.in_ok-assigned.assigned.file
           (file_given (asked_text n (codes "dyndep"))))
           (sym (names-of-edge e entries outputs rule_text inputs lines c.args.rule.number.0
@@ -231,8 +231,8 @@ returns-in_err-bind_block-clause-refused c =
     let old : BuildingModel = record (building_of c.self.inside) { records = records_of c.records.inside } in
     let old_is = ap (λ r. record (building_of c.self.inside) { records = r }) c.records.view_is
     ∙ c.self.view_is in
-    let edge = length c.as_slice-edge.result.now in
-    let count : edge ≡ length old.records.details = ap length c.as_slice-edge.ensures.value in
+    let edge = length c.as_slice-number.result.now in
+    let count : edge ≡ length old.records.details = ap length c.as_slice-number.ensures.value in
     refuses c.from_residual-in_err-bind_block.result old _ old_is old.table c.bind_block.new.blocks
     c.file_number.new.strings c.reserve.new.self.items c.reserve-2.new.self.items
     c.keep_references.new.kept.items
@@ -248,8 +248,8 @@ returns-in_err-assigned-clause-refused c =
     let old : BuildingModel = record (building_of c.self.inside) { records = records_of c.records.inside } in
     let old_is = ap (λ r. record (building_of c.self.inside) { records = r }) c.records.view_is
     ∙ c.self.view_is in
-    let edge = length c.as_slice-edge.result.now in
-    let count : edge ≡ length old.records.details = ap length c.as_slice-edge.ensures.value in
+    let edge = length c.as_slice-number.result.now in
+    let count : edge ≡ length old.records.details = ap length c.as_slice-number.ensures.value in
     refuses c.from_residual-in_err-assigned.result old _ old_is c.add_edge.new.edges
     c.bind_block.new.blocks c.add_edge.new.strings c.reserve.new.self.items c.reserve-2.new.self.items
     c.keep_references.new.kept.items c.in_err-assigned.ensures.refused.read

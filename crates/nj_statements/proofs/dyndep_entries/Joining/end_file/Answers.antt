@@ -2,7 +2,7 @@ use Rattle.std.proofs.Common.{◌≡◌, ◌⊎◌, inl, ◌<◌, ◌==◌, ◌�
 use Rattle.std.proofs.Common.{option_map, length, get_or, slice_get, inr, sym, ap, subst, ◌∙◌}
 use Rattle.std.proofs.lemmas.Bool.Decides.{eqb_tells}
 use Rattle.nj_edges.specs.declared.edges.EdgeNo.{EdgeNo}
-use Rattle.nj_names.specs.declared.files.FileNo.{FileNo}
+use Rattle.nj_statements.specs.declared.records.DyndepEdge.{DyndepEdge}
 use Rattle.nj_edges.specs.Edges.{edge_at, first_edge}
 use Rattle.nj_names.specs.Files.{path_at}
 use Rattle.nj_faults.specs.declared.fault.GraphFault.{GraphFault}
@@ -49,7 +49,7 @@ returns-in-None c = λ stated joined has'.
     ap (λ (h : JoiningModel). path_at h.table.files c.args.file) c.self.view_is in
     let first : option_map (λ (e : EdgeNo). e.0) c.pending_edge.result
     ≡ first_edge (λ w. is_bound_to w c.args.file) (still_pending c.self.inside.bound.items t.was_joined) =
-    c.pending_edge.ensures ∙ ap (λ bs. first_edge (λ (w : Option FileNo). is_bound_to w c.args.file)
+    c.pending_edge.ensures ∙ ap (λ bs. first_edge (λ (w : Option DyndepEdge). is_bound_to w c.args.file)
     (still_pending bs t.was_joined)) c.deref-2.ensures.value in
     ap (λ p. lacking_fault p joined) (sym path)
     ∙ none-lacks (fields_of c.self.inside) c.self.invariant stated joined has c.args.file name here
@@ -59,7 +59,7 @@ pub no_statement-requires-clause-edge : goal.no_statement-requires-clause-edge
 no_statement-requires-clause-edge c =
     subst (λ (h : JoiningModel). c.in-Some.edge.0 < length h.table.stated) c.self.view_is
     (unjoined-known (fields_of c.self.inside) c.self.invariant c.args.file c.in-Some.edge.0
-    (subst (λ bs. first_edge (λ (w : Option FileNo). is_bound_to w c.args.file)
+    (subst (λ bs. first_edge (λ (w : Option DyndepEdge). is_bound_to w c.args.file)
     (still_pending bs c.self.inside.edges.was_joined) ≡ Some c.in-Some.edge.0) c.deref-2.ensures.value
     (sym c.pending_edge.ensures ∙ ap (option_map (λ (e : EdgeNo). e.0)) c.in-Some.is)))
 
@@ -75,7 +75,7 @@ returns-in_ok-no_statement-in-Some c = λ stated joined has'.
     ap (λ (h : JoiningModel). path_at h.table.files c.args.file) c.self.view_is in
     let first : option_map (λ (e : EdgeNo). e.0) c.pending_edge.result
     ≡ first_edge (λ w. is_bound_to w c.args.file) (still_pending c.self.inside.bound.items t.was_joined) =
-    c.pending_edge.ensures ∙ ap (λ bs. first_edge (λ (w : Option FileNo). is_bound_to w c.args.file)
+    c.pending_edge.ensures ∙ ap (λ bs. first_edge (λ (w : Option DyndepEdge). is_bound_to w c.args.file)
     (still_pending bs t.was_joined)) c.deref-2.ensures.value in
     let is = one-lacks (fields_of c.self.inside) c.self.invariant stated joined has c.args.file
     name here c.in-Some.edge.0 (sym first ∙ ap (option_map (λ (e : EdgeNo). e.0)) c.in-Some.is) in

@@ -3,7 +3,7 @@ use Rattle.nj_statements.specs.Built.{IsBuiltOf}
 use Rattle.nj_statements.specs.Records.{AreOfGraph, with_graph}
 use Rattle.nj_statements.specs.JoiningHeld.{still_pending, JoiningModel, HasJoined}
 use Rattle.nj_statements.specs.Inside.JoiningFields.{fields_of}
-use Rattle.nj_statements.specs.Inside.JoiningSteps.{numbered_from}
+use Rattle.nj_statements.specs.Inside.JoiningSteps.{edges_in}
 use Rattle.nj_statements.proofs.StartLemmas.{left-built, left-fits}
 use Rattle.nj_statements.proofs.dyndep_entries.Joining.finish.Goals as goal
 
@@ -12,7 +12,7 @@ finish-requires-2 c =
     let edges = c.self.inside.edges in
     let left = c.in_ok-records-inside.field-0.items in
     let are = c.in_ok-records-inside.ensures
-    ∙ ap (λ bound. numbered_from 0 (still_pending bound edges.was_joined)) c.deref.ensures.value in (
+    ∙ ap (λ bound. edges_in (still_pending bound edges.was_joined)) c.deref.ensures.value in (
       edges.files,
       edges.joined,
       c.in_ok-finished.ensures,
@@ -27,7 +27,7 @@ returns c = λ stated joined has'.
     let edges = c.self.inside.edges in
     let left = c.in_ok-records-inside.field-0.items in
     let are = c.in_ok-records-inside.ensures
-    ∙ ap (λ bound. numbered_from 0 (still_pending bound edges.was_joined)) c.deref.ensures.value in
+    ∙ ap (λ bound. edges_in (still_pending bound edges.was_joined)) c.deref.ensures.value in
     c.finish-2.ensures.comes edges.files edges.joined joined c.in_ok-finished.ensures
     (subst (λ r. IsBuiltOf (with_graph (record { files = edges.files; edges = edges.joined })
     (record r { dyndeps = left })) joined) (sym c.records.view_is)
