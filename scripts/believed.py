@@ -2,6 +2,12 @@
 """Counts the lines that must be believed for a contract:
 
     believed.py [--most LINES] [NAME]
+    believed.py --for CALL
+    believed.py --write | --check
+
+CALL is a public call of a library, as `load`, `Needs::next` or `nj_graph::load`. --write writes how
+many lines each call rests on that docs/PROOFS.md names crate by crate, into that page; --check ends
+with status 1 if the page says otherwise.
 
 NAME is `run_words` by default; `commands_law` for the headline, with the run that it is about;
 `run_read_words`, which `main` of ninja-explain calls; `nj_c` for the exports of the library for C;
@@ -27,6 +33,7 @@ from itertools import groupby
 from pathlib import Path
 
 CRATES = Path(__file__).resolve().parent.parent / "crates"
+PROOFS = CRATES.parent / "docs/PROOFS.md"
 # The functions from which a walk starts, and their files.
 RUN, LAWS = "nj_cli/src/run.rt", "nj_cli/src/laws.rt"
 STARTS = {
@@ -45,6 +52,12 @@ STARTS = {
 OF_CRATE = {"nj_c": 'extern "C" fn', "ninja_graph": "fn"}
 OF_LIBRARIES = {"ninja_graph": ["nj_ask"]}
 FUNCTION = re.compile(r'^ *(?:pub(?:\(\w+\))? )?(?:extern "C" )?fn (\w+)', re.M)
+
+IMPL = re.compile(r"^impl\b(?:<[^{]*?>)? (?:[\w:<>, ']+ for )?(\w+)", re.M)
+# How docs/PROOFS.md names the calls of a crate: in the third column of a row that begins with it.
+OF_ROW = re.compile(r"^\| `(nj_\w+)` \|[^|]*\|([^|]*)\|[^|]*\|$", re.M)
+# Where the table of calls stands in that page.
+TABLE = re.compile(r"(<!-- calls: believed -->\n).*?(<!-- end -->)", re.S)
 
 # A string; a name, with the fields after it; or a field of an expression in parentheses.
 TOKEN = re.compile(r'"(?:[^"\\]|\\.)*"|[^\s(){}\[\];,".]+(?:\.[^\s(){}\[\];,".]+)*|\.\w+')
@@ -255,6 +268,37 @@ def starts(name):
     return found
 
 
+def calls_of(crate):
+    """The contracts of the calls that a library exports, each by its title: its name, or that of its
+    type before it."""
+    public = exported(crate)
+    for file in sorted((CRATES / crate / "src").rglob("*.rt")):
+        of, text = rust(file)
+        impls = list(IMPL.finditer(text))
+        for function, contract in contracts(file):
+            at = text.index(contract.text)
+            owners = [impl[1] for impl in impls if impl.start() < at] if contract.text[0] == " " else []
+            if (owners[-1] if owners else function) in public:
+                yield "::".join([*owners[-1:], function]), contract
+
+
+def libraries():
+    """The crates of which others can make calls, but for the one that re-exports them."""
+    return sorted(root.parent.parent.name for root in CRATES.glob("nj_*/src/lib.rt"))
+
+
+def call(word):
+    """The contract of the call that a word names, and its title. It stops where there is not one."""
+    first, _, others = word.partition("::")
+    crates, title = ([first], others) if first in libraries() else (libraries(), word)
+    known = [(it, had) for crate in crates for it, had in calls_of(crate)]
+    found = [(it, had) for it, had in known if title in (it, it.rpartition("::")[2])]
+    if len(found) == 1:
+        return found[0]
+    several = ", ".join(f"{had.module.crate}::{it}" for it, had in found)
+    return sys.exit(f"{word}: " + (f"one of {several}" if found else "no public call has this name"))
+
+
 # ---- the walk
 
 
@@ -292,14 +336,51 @@ def show_all():
         print(f"{count(found):5} {name}, {count(more)} of them not of run_words")
 
 
+def rows(text):
+    """The lines of the table of calls, from the rows of the page that name them."""
+    yield from ["| Crate | Calls |", "|---|---|"]
+    known = {(it.module.file, it.name) for it in reached(starts("run_words"))}
+
+    def counted(title, contract):
+        found = reached([contract])
+        more = [it for it in found if (it.module.file, it.name) not in known]
+        return f"`{title}` {count(found):,} ({count(more):,})"
+
+    for crate, cell in OF_ROW.findall(text):
+        of_crate, words = dict(calls_of(crate)), re.findall(r"`([\w:]+)`", cell)
+        named = [it for word in words for it in of_crate if word in (it, it.rpartition("::")[2])]
+        if named or OF_CRATE.get(crate):
+            shown = named or [it for it, had in of_crate.items() if OF_CRATE[crate] in had.text]
+            yield f"| `{crate}` | {', '.join(counted(it, of_crate[it]) for it in shown)} |"
+
+
+def page():
+    """The page with the table of calls."""
+    text = PROOFS.read_text()
+    table = "".join(f"{row}\n" for row in rows(text))
+    return TABLE.sub(lambda found: f"{found[1]}{table}{found[2]}", text)
+
+
 def main():
     parser = argparse.ArgumentParser()
     parser.add_argument("--most", type=int, help="how many lines of definitions there may be")
+    parser.add_argument("--for", metavar="CALL", help="the public call to start from", dest="call")
+    parser.add_argument("--write", action="store_true", help="write the table of docs/PROOFS.md")
+    parser.add_argument("--check", action="store_true", help="compare that table")
     parser.add_argument("name", nargs="?", choices=[*STARTS, "all"], default="run_words")
     words = parser.parse_args()
+    if words.check:
+        return int(page() != PROOFS.read_text())
+    if words.write:
+        return PROOFS.write_text(page()) and 0
     if words.name == "all":
         return show_all()
-    most, found = words.most, reached(starts(words.name))
+    return show([call(words.call)[1]] if words.call else starts(words.name), words.most)
+
+
+def show(begun, most):
+    """Prints what is reached from these contracts. The status is 1 where it is more than `most`."""
+    found = reached(begun)
     for crate, of_crate in groupby(found, key=lambda it: it.module.crate):
         of_crate = list(of_crate)
         print(f"{count(of_crate):5} {crate}")

@@ -87,7 +87,7 @@ PLANTED = [
 ]
 
 
-def counted(folder, files):
+def counted(folder, files, *words):
     """How many lines the script counts in a repository of these files."""
     script = folder / "scripts/believed.py"
     script.parent.mkdir(parents=True, exist_ok=True)
@@ -96,7 +96,7 @@ def counted(folder, files):
         path = folder / "crates" / name
         path.parent.mkdir(parents=True, exist_ok=True)
         path.write_text(text)
-    ran = subprocess.run([sys.executable, script], capture_output=True, text=True)
+    ran = subprocess.run([sys.executable, script, *words], capture_output=True, text=True)
     if ran.returncode:
         raise RuntimeError(ran.stdout + ran.stderr)
     return next(int(line.split()[0]) for line in ran.stdout.splitlines() if "must be" in line)
@@ -142,3 +142,14 @@ def most(folder):
         words = [sys.executable, folder / "scripts/believed.py", "--most", str(count)]
         ran = subprocess.run(words, capture_output=True)
         yield from expect(f"--most {count}", ran.returncode, status)
+
+
+@check
+def one_call(folder):
+    """With --for the count is that of a public call, by its name or with its crate; another name is refused."""
+    public = {**FILES, "nj_cli/src/lib.rt": "mod run;\n\npub use run::run_words;\n"}
+    yield from expect("lines", counted(folder, public, "--for", "run_words"), USUAL)
+    yield from expect("with a crate", counted(folder, public, "--for", "nj_cli::run_words"), USUAL)
+    words = [sys.executable, folder / "scripts/believed.py", "--for", "unnamed"]
+    ran = subprocess.run(words, capture_output=True, text=True)
+    yield from expect("another", (ran.returncode, ran.stderr), (1, "unnamed: no public call has this name\n"))

@@ -45,3 +45,10 @@ def lines_of_other_contracts():
     rows = ROW.findall(PROOFS.read_text())
     said = {name: (number(all_), number(more)) for name, all_, more in rows}
     yield from expect(PROOFS.name, said, counted)
+
+
+@check
+def lines_of_each_call():
+    """docs/PROOFS.md says how many lines each call rests on that it names crate by crate."""
+    if subprocess.run([sys.executable, believed.__file__, "--check"]).returncode:
+        yield f"{PROOFS.name}: the table of calls is out of date: run `make pages`"
