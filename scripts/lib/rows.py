@@ -14,8 +14,10 @@ from lib.programs import FAULT, Ending
 INDENT = "    "
 WANTED = b"<wanted>\n"
 MARKED = re.compile(rb"<([0-9a-fA-F]*)>")
+# The blocks that each row of a section has.
+OF_SECTION = "file", "unended", "log", "repeat"
 # The settings for one row alone.
-LIMITS = "reading-fails", "built-reading-fails", "output-takes", "error-takes"
+LIMITS = "reading-fails", "built-reading-fails", "output-takes", "error-takes", "folder"
 
 
 def plain(text):
@@ -137,6 +139,26 @@ def projects_of(text, most_repeated):
         yield files, [row for _, row in rows]
 
 
+def single_rows(text):
+    """The rows of a file of rows as files with one row each that wants nothing: the text of each, and
+    its block, with the files of its section."""
+    section, own = [], []
+    chunks = re.split(r"^(?=[^\s#])", re.sub(r"^#.*\n", "", text, flags=re.M), flags=re.M)
+    rows = rows_of(text)
+    for chunk in chunks[1:]:
+        kind = chunk.split()[0]
+        if kind == "==":
+            section, own = [chunk], []
+        elif kind in OF_SECTION:
+            section.append(chunk)
+        elif kind in (*LIMITS, "input"):
+            own.append(chunk)
+        else:
+            line = chunk.partition("\n")[0]
+            yield "".join([*section, *own, f"{line}\n"]), next(rows)
+            own = []
+
+
 # ---- runs over sinks in memory
 
 LINE_FEED = b"\n"
@@ -184,6 +206,13 @@ def came_of(ran):
     found = CAME.match(ran.output.decode())
     parts = PARTS.fullmatch(unquoted(found[1])) if found else None
     return Ending(int(parts[2]), parts[1].encode(), (parts[3] or "").encode()) if parts else ran
+
+
+def ending_of(wanted):
+    """The ending that a text is of: the output of a run, its status in brackets, and its errors. `None`
+    if it is of something else."""
+    found = PARTS.fullmatch(wanted.decode(errors="replace"))
+    return Ending(int(found[2]), found[1].encode(), (found[3] or "").encode()) if found else None
 
 
 def lossy(ending):

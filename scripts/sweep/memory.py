@@ -7,11 +7,12 @@ starts to that which the run needs. A run has to end as it does with ample memor
 prefix of its output and the line `ninja-explain: out of memory`, or `ninja-graph: out of memory`,
 with status 1.
 
-The runs of ninja-explain are rows of tests/nj_run_rows too, which runs them over sinks in memory. It
-is built by `rt try`, with run-time checks and without any proof, and one allocation is refused there:
-after more, the rows could not report their outcome. A sink without memory fails like any other sink: a failed
-output is status 4 with nothing on standard error, a lost mark line is status 4, and a lost fault line
-does not change the status. With ample memory such a run ends as the program does.
+The runs of ninja-explain are rows of tests/nj_run_rows too, and ninja-graph has those of
+tests/nj_ask_rows. These crates run them over sinks in memory. Each is built by `rt try`, with run-time
+checks and without any proof, and one allocation is refused there: after more, the rows could not report
+their outcome. A sink without memory fails like any other sink: a failed output is status 4 with nothing
+on standard error, a lost mark line or lost warnings are status 4, and a lost fault line does not change
+the status. With ample memory such a run ends as the program does, or as the row wants.
 """
 
 import contextlib
@@ -25,10 +26,10 @@ from functools import partial
 from pathlib import Path
 
 from lib.checks import check, expect
-from lib.composed import composed
+from lib.composed import TESTS, composed
 from lib.programs import FAULT, OUTPUT_FAILED, STOPPED, USAGE, Ending, compiled, shown
 from lib.projects import EVERY_PROJECT, MAIN, PROJECTS, Project, answer_differs, input_of
-from lib.rows import came_of, lossy, marked, row_of
+from lib.rows import came_of, ending_of, lossy, marked, row_of, single_rows
 from lib.sweeps import Sweep, lacks_runs
 from lib.tools import EXPLAIN, GRAPH, PROGRAMS, run_of
 from run_tests import SECONDS, end_hints
@@ -113,9 +114,11 @@ def allocations(programs, folder, jobs):
 
 # ---- sinks in memory
 
+# The crates of rows by the names of their programs.
+ROWS_OF = {EXPLAIN: "nj_run_rows", GRAPH: "nj_ask_rows"}
 # `rt try` refuses the allocation with one number, with which it builds the program. A case allocates
 # some times before its row is run, so that this is another allocation of the row.
-REFUSED_AT = 800
+REFUSED_AT = {EXPLAIN: 800, GRAPH: 1600}
 # Of a run, each allocation of so many is refused, and each of the last ones, where its sinks grow.
 STEP_OF_ROWS, LAST = 16, 40
 # So many runs of each status are taken: `rt try` takes half a second for a case.
@@ -124,14 +127,14 @@ ENDED = re.compile(r"(?:allocations: [^\n]*\n)?(.*?)^case=(\S+) run=ended status
 OUTPUT = re.compile(r"^== (\S+)\n", re.M)
 
 
-def run_cases(crate, data, cases):
+def run_cases(name, crate, data, cases):
     """How the rows of cases come, each with how many allocations were made before the refused one."""
     with tempfile.TemporaryDirectory() as folder:
         for number, (row, at) in enumerate(cases):
             Path(folder, str(number)).touch()
-            Path(folder, f"{number}.args").write_text(f"spend={REFUSED_AT - at}\n{row}\n")
-        words = ["rt", "try", "--fail-alloc", str(REFUSED_AT), "--cases", folder]
-        words += [word for name, file in data.items() for word in ("--data", f"{name}={file}")]
+            Path(folder, f"{number}.args").write_text(f"spend={REFUSED_AT[name] - at}\n{row}\n")
+        words = ["rt", "try", "--fail-alloc", str(REFUSED_AT[name]), "--cases", folder]
+        words += [word for row, file in data.items() for word in ("--data", f"{row}={file}")]
         ran = subprocess.run(words, cwd=crate, capture_output=True, text=True)
     parts = OUTPUT.split(ran.stdout)
     outputs, endings = dict(zip(parts[1::2], parts[2::2])), {}
@@ -145,34 +148,36 @@ def run_cases(crate, data, cases):
     return endings
 
 
-def run_all_cases(crate, data, cases, jobs):
+def run_all_cases(name, crate, data, cases, jobs):
     """The same in parallel; each process builds the program."""
     found, parts = {}, [cases[at::jobs] for at in range(jobs)]
     with ThreadPoolExecutor(jobs) as pool:
-        for endings in pool.map(partial(run_cases, crate, data), filter(None, parts)):
+        for endings in pool.map(partial(run_cases, name, crate, data), filter(None, parts)):
             found |= endings
     return found
 
 
-def failed_sink(ran, ample):
-    """Which sink in memory failed in a run, or `None` if none did."""
+def failed_sink(name, ran, ample):
+    """Which sink in memory failed in a run of the program of this name, or `None` if none did."""
+    if ran.status == OUTPUT_FAILED and ran.output == ample.output and ample.status == STOPPED:
+        if name == GRAPH and ample.error.startswith(ran.error):
+            return "warnings lost"
+        return "mark lines lost" if not ran.error else None
     if (ran.status, ran.error) == (OUTPUT_FAILED, b""):
-        if ran.output == ample.output and ample.status == STOPPED:
-            return "mark lines lost"
         return "outputs failed" if ample.output.startswith(ran.output) else None
     lost = ran.status == ample.status in (FAULT, USAGE) and ran.output == ample.output
     return "fault lines lost" if lost and not ran.error else None
 
 
-def take_ending(sweep, name, ran, ample):
-    """Counts how a run ended that was refused an allocation."""
+def take_ending(sweep, program, name, ran, ample):
+    """Counts how a run of a program ended that was refused an allocation."""
     if ran is None:
         sweep.counts["allocations of rows themselves"] += 1
         return
     sweep.counts["allocations refused alone"] += 1
-    if sink := failed_sink(ran, ample):
+    if sink := failed_sink(program, ran, ample):
         sweep.counts[sink] += 1
-    elif is_wrong(EXPLAIN, ran, ample):
+    elif is_wrong(program, ran, ample):
         sweep.wrong.append(f"a row, {name}: it ends with {shown(ran)}")
 
 
@@ -188,22 +193,22 @@ def write_rows(program, folder, runs):
     return data, usual
 
 
-def sample(runs, usual, seed):
-    """The numbers of some of the runs that end with each status, others for other seeds."""
+def sample(usual, seed):
+    """The names of some of the rows that end with each status, others for other seeds."""
     for status in sorted({ending.status for ending in usual.values()}):
-        of_status = [at for at in range(len(runs)) if usual[f"{at}.rows"].status == status]
+        of_status = [name for name, ending in usual.items() if ending.status == status]
         turn = seed * OF_EACH % len(of_status)
         yield from (of_status[turn:] + of_status)[:OF_EACH]
 
 
 @contextlib.contextmanager
-def program_of_rows():
-    """The directory of the program of rows. The checks that `rt try` makes beside runs are ended."""
+def program_of_rows(name=EXPLAIN):
+    """The directory of the rows of a program. The checks that `rt try` makes beside runs are ended."""
     is_over = threading.Event()
     threading.Thread(target=end_hints, args=[is_over], daemon=True).start()
     try:
         with composed() as top:
-            yield top / "crates/nj_run_rows"
+            yield top / "crates" / ROWS_OF[name]
     finally:
         is_over.set()
 
@@ -214,32 +219,62 @@ def runs_without_input():
 
 def rows_of_program(folder, program):
     """Files of rows of the runs in memory that give no standard input, and how the program ends."""
-    runs = runs_without_input()
-    return runs, *write_rows(program, folder, runs)
+    return write_rows(program, folder, runs_without_input())
+
+
+def rows_of_questions(folder):
+    """Files with one row of ninja-graph each, without a limit, and the ending that each wants."""
+    data, usual = {}, {}
+    for file in sorted((TESTS / ROWS_OF[GRAPH] / "data").glob("*.rows")):
+        for text, (files, row) in single_rows(file.read_text()):
+            if row.kind == "ask" and not row.limits:
+                name = f"{file.stem}-{row.line}.rows"
+                data[name], usual[name] = folder / name, ending_of(row.wanted(files))
+                data[name].write_text(text)
+    return data, usual
+
+
+def endings_in_memory(name, data, usual, jobs):
+    """How rows of a program end where one allocation is refused, by the row and the allocation."""
+    with program_of_rows(name) as crate:
+        cases = [(row, at) for row in data for at in range(0, REFUSED_AT[name] + 1, STEP_OF_ROWS)]
+        endings = run_all_cases(name, crate, data, cases, jobs)
+        # those before the first to which a run does not come
+        for row in data:
+            refused = [at for case, at in cases if case == row and endings[case, at] != usual[row]]
+            last = max(refused, default=0)
+            cases += [(row, at) for at in range(max(last - LAST, 0), last + STEP_OF_ROWS)]
+        return endings | run_all_cases(name, crate, data, [it for it in cases if it not in endings], jobs)
+
+
+def try_sinks_in_memory(name, data, usual, seed, jobs):
+    """Refuses an allocation to some rows of a program, and returns the sweep."""
+    sweep, chosen = Sweep("memory of sinks", name), list(sample(usual, seed))
+    endings = endings_in_memory(name, {row: data[row] for row in chosen}, usual, jobs)
+    for (row, at), ran in endings.items():
+        text = data[row].read_text().splitlines()[-1]
+        take_ending(sweep, name, f"{text}, allocation {at}", ran, usual[row])
+    for row in chosen:
+        ends = endings[row, 0], endings[row, REFUSED_AT[name]]
+        sweep.wrong += expect(f"{row}, before and after all allocations", ends, (usual[row], usual[row]))
+    return sweep
 
 
 @check(alone=True)
 def sinks_in_memory(program, seeds, folder, jobs):
     """It builds the program of rows without any proof: `seeds`, which only `make sweep` gives, keeps it
     from `make smoke`."""
-    sweep = Sweep("memory of sinks")
-    runs, data, usual = rows_of_program(folder, program)
-    data = {f"{at}.rows": data[f"{at}.rows"] for at in sample(runs, usual, seeds.start)}
-    with program_of_rows() as crate:
-        cases = [(row, at) for row in data for at in range(0, REFUSED_AT + 1, STEP_OF_ROWS)]
-        endings = run_all_cases(crate, data, cases, jobs)
-        # those before the first to which a run does not come
-        for row in data:
-            refused = [at for name, at in cases if name == row and endings[name, at] != usual[row]]
-            last = max(refused, default=0)
-            cases += [(row, at) for at in range(last - LAST, last + STEP_OF_ROWS)]
-        endings |= run_all_cases(crate, data, [it for it in cases if it not in endings], jobs)
-    for (row, at), ran in endings.items():
-        take_ending(sweep, f"{runs[int(row.partition('.')[0])]}, allocation {at}", ran, usual[row])
-    for row in data:
-        ends = endings[row, 0], endings[row, REFUSED_AT]
-        sweep.wrong += expect(f"{row}, before and after all allocations", ends, (usual[row], usual[row]))
+    data, usual = rows_of_program(folder, program)
+    sweep = try_sinks_in_memory(EXPLAIN, data, usual, seeds.start, jobs)
     sweep.wants("outputs failed", "mark lines lost", "fault lines lost")
+    return sweep.problems()
+
+
+@check(alone=True)
+def sinks_of_questions_in_memory(seeds, folder, jobs):
+    """The same with rows of ninja-graph."""
+    sweep = try_sinks_in_memory(GRAPH, *rows_of_questions(folder), seeds.start, jobs)
+    sweep.wants("outputs failed", "warnings lost", "fault lines lost")
     return sweep.problems()
 
 
