@@ -1,15 +1,19 @@
 -- How the edges that serve commands are found.
-use Rattle.std.proofs.Common.{◌≡◌, ◌<◌, ◌≤◌, ◌+◌, ◌↔◌, inl, inr, ℕ, Bool, true, false, cond, List, [], ◌∷◌}
-use Rattle.std.proofs.Common.{◌++◌}
-use Rattle.std.proofs.Common.{length, Option, Some, None, refl, sym, ap, subst, ◌∙◌, arith}
+use Rattle.std.proofs.Common.{◌≡◌, ◌<◌, ◌≤◌, ◌+◌, ◌↔◌, inl, inr, ℕ, true, false, List, [], ◌∷◌, ◌++◌, map}
+use Rattle.std.proofs.Common.{length, get_or, Option, Some, None, refl, sym, ap, subst, ◌∙◌, arith}
+use Rattle.std.proofs.Common.{true≢false}
 use Rattle.std.specs.Prelude.{Contains, slice_index}
 use Rattle.std.proofs.lemmas.Bool.{cases_lt}
+use Rattle.std.proofs.lemmas.List.{get_or-map, length-map, map_push}
 use Rattle.std.proofs.lemmas.List.Elements.{Contains-append_left, Contains-push, Contains-push_cases}
 use Rattle.nj_names.specs.NumberSets.{NumberSetModel}
 use Rattle.nj_cycles.proofs.Places.{contains_at, index_of}
 use Rattle.nj_edges.proofs.ChangeLemmas.{finds-none, finds-then}
 use Rattle.nj_edges.specs.Inside.ChangesHeld.{FindsMore}
-use Rattle.nj_graph.specs.Edges.{EdgePaths, edge_at, inputs_of}
+use Rattle.nj_graph.specs.Edges.{EdgePaths, edge_at, inputs_of, maker_of}
+use Rattle.nj_graph.specs.Graph.{GraphModel}
+use Rattle.nj_graph.specs.Handles.{edge_in, edge_of, edges_in}
+use Rattle.nj_graph.specs.declared.handles.Edge.{Edge}
 use Rattle.nj_audit.specs.Inside.Served.{FindsServing, HasCommand, MakesOneOf}
 use Rattle.nj_audit.specs.Serving.{ServesCommand}
 use Rattle.nj_audit.specs.Serving.ServesCommand.{by_edge, by_itself}
@@ -25,13 +29,13 @@ same-some : (e f : ℕ) → Some e ≡ Some f → e ≡ f
 same-some e f is = cc
 
 -- one edge
-pub finds-some : (n : ℕ) (old new : NumberSetModel) → FindsMore (λ e. e ≡ n) old new
+finds-some : (n : ℕ) (old new : NumberSetModel) → FindsMore (λ e. e ≡ n) old new
     → FindsMore (λ e. Some n ≡ Some e) old new
 finds-some n old new a = finds-as (λ e. e ≡ n) (λ e. Some n ≡ Some e) old new
     (λ e is. ap Some (sym is)) (λ e is. sym (same-some n e is)) a
 
 -- those of a list, and one more
-pub finds-next : (found : List (Option ℕ)) (edge : Option ℕ) (first old new : NumberSetModel)
+finds-next : (found : List (Option ℕ)) (edge : Option ℕ) (first old new : NumberSetModel)
     → FindsMore (λ e. Contains found (Some e)) first old → FindsMore (λ e. edge ≡ Some e) old new
     → FindsMore (λ e. Contains (found ++ edge ∷ []) (Some e)) first new
 finds-next found edge first old new a b =
@@ -48,28 +52,70 @@ finds-next found edge first old new a b =
 abbrev pub IsCommandBelow : List EdgePaths → (number edge : ℕ) → Type 0
 IsCommandBelow edges number e = (e < number) × ((edge_at edges e).is_phony ≡ false)
 
-picked : (phony : Bool) (n e : ℕ) → cond phony None (Some n) ≡ Some e → (n ≡ e) × (phony ≡ false)
-picked true n e is = absurd cc
-picked false n e is = (same-some n e is, refl)
+module _ (edges : List EdgePaths) (n : ℕ) (first old : NumberSetModel)
+    (finds : FindsMore (IsCommandBelow edges n) first old) where
+  -- one more edge, without a command
+  pub finds-phony : (edge_at edges n).is_phony ≡ true → FindsMore (IsCommandBelow edges (n + 1)) first old
+  finds-phony phony = finds-as (IsCommandBelow edges n) (IsCommandBelow edges (n + 1)) first old
+      (λ e is. (omega (arith, is.0), is.1))
+      (λ e is. elim (cases_lt e n) [
+        | inl below ↦ (below, is.1)
+        | inr past ↦
+            let same : e ≡ n = omega (arith, is.0, past) in
+            absurd (true≢false (sym phony ∙ ap (λ k. (edge_at edges k).is_phony) (sym same) ∙ is.1))
+      ])
+      finds
 
-pub finds-command : (edges : List EdgePaths) (n : ℕ) (first old new : NumberSetModel)
-    → FindsMore (IsCommandBelow edges n) first old
-    → FindsMore (λ e. cond (edge_at edges n).is_phony None (Some n) ≡ Some e) old new
-    → FindsMore (IsCommandBelow edges (n + 1)) first new
-finds-command edges n first old new a b =
-    finds-then (IsCommandBelow edges n) (λ e. cond (edge_at edges n).is_phony None (Some n) ≡ Some e)
-    (IsCommandBelow edges (n + 1)) first old new
-    (λ e is. (omega (arith, is.0), is.1))
-    (λ e is. let this = picked (edge_at edges n).is_phony n e is in
-    (omega (arith, this.0), subst (λ n. (edge_at edges n).is_phony ≡ false) this.0 this.1))
-    (λ e is. elim (cases_lt e n) [
-      | inl below ↦ inl (below, is.1)
-      | inr past ↦
-          let same : e ≡ n = omega (arith, is.0, past) in
-          inr (ap (λ b. cond b None (Some n)) (sym (ap (λ k. (edge_at edges k).is_phony) same) ∙ is.1)
-          ∙ ap Some (sym same))
-    ])
-    a b
+  -- and with one
+  pub finds-command : (new : NumberSetModel) → (edge_at edges n).is_phony ≡ false
+      → FindsMore (λ e. e ≡ n) old new → FindsMore (IsCommandBelow edges (n + 1)) first new
+  finds-command new ordinary more =
+      finds-then (IsCommandBelow edges n) (λ e. e ≡ n) (IsCommandBelow edges (n + 1)) first old new
+      (λ e is. (omega (arith, is.0), is.1))
+      (λ e same. (omega (arith, same), ap (λ k. (edge_at edges k).is_phony) same ∙ ordinary))
+      (λ e is. elim (cases_lt e n) [
+        | inl below ↦ inl (below, is.1)
+        | inr past ↦
+            inr (omega (arith, is.0, past))
+      ])
+      finds more
+
+-- ---- makers of inputs
+
+module _ (edges : List EdgePaths) (done : List (List ℕ)) (path : List ℕ) (first old : NumberSetModel)
+    (finds : FindsMore (MakesOneOf edges done) first old) where
+  found-next : (new : NumberSetModel) → FindsMore (λ e. maker_of edges path ≡ Some e) old new
+      → FindsMore (MakesOneOf edges (done ++ path ∷ [])) first new
+  found-next new more = subst (λ os. FindsMore (λ e. Contains os (Some e)) first new)
+      (sym (map_push (maker_of edges) done path))
+      (finds-next (map (maker_of edges) done) (maker_of edges path) first old new finds more)
+
+  -- one more input, which an edge makes
+  pub finds-maker : (new : NumberSetModel) (maker : ℕ) → maker_of edges path ≡ Some maker
+      → FindsMore (λ e. e ≡ maker) old new → FindsMore (MakesOneOf edges (done ++ path ∷ [])) first new
+  finds-maker new maker is more = found-next new (subst (λ o. FindsMore (λ e. o ≡ Some e) old new) (sym is)
+      (finds-some maker old new more))
+
+  -- and one that none makes
+  pub finds-source : maker_of edges path ≡ None → FindsMore (MakesOneOf edges (done ++ path ∷ [])) first old
+  finds-source is = found-next old (subst (λ o. FindsMore (λ e. o ≡ Some e) old old) (sym is)
+      (finds-none (λ e. None ≡ Some e) old (λ e none. absurd cc)))
+
+-- the edge at a place
+pub edge-there : (g : GraphModel) (edges : List Edge) (numbers : List ℕ) (place : ℕ) (edge : Edge)
+    → map edge_of edges ≡ edges_in g numbers → place < length numbers → edge ≡ get_or edges place edge
+    → edge_of edge ≡ edge_in g (slice_index numbers place)
+edge-there g edges numbers place edge are below is =
+    let under : place < length edges = omega (
+      arith,
+      below,
+      length-map edges edge_of,
+      length-map numbers (edge_in g),
+      ap length are,
+    ) in
+    ap edge_of is ∙ sym (get_or-map edge_of edges place edge (edge_of edge) under)
+    ∙ ap (λ es. get_or es place (edge_of edge)) are
+    ∙ get_or-map (edge_in g) numbers place 0 (edge_of edge) below
 
 -- ---- turn by turn
 

@@ -25,8 +25,8 @@ pub use Rattle.nj_audit.specs.Inside.LoggedFound.{AddsLogged}
 pub use Rattle.nj_audit.specs.NamedPaths.{paths_in, paths_named, after_letter, after_sign, after_slash, path_named, without_folder}
 pub use Rattle.nj_audit.specs.Inside.FilesNamed.{AddsFiles, paths_of_name}
 pub use Rattle.nj_audit.specs.Inside.FileSets.{HasDefaults}
+pub use Rattle.nj_audit.specs.Inside.Served.{AreFound, HasCommand, MakesOneOf}
 pub use Rattle.nj_edges.specs.Inside.ChangesHeld.{FindsMore}
-pub use Rattle.nj_audit.specs.Inside.Served.{HasCommand, MakesOneOf}
 pub use Rattle.nj_audit.specs.Serving.{ServesCommand}
 pub use Rattle.nj_audit.specs.ShellWords.{ends_at, is_cut, is_dropped, keeps_backslash, kept, next_quoting, read_text, words_after}
 pub use Rattle.nj_audit.specs.ShellWords.{words_of}

@@ -1,59 +1,79 @@
 //! Which edges commands depend on.
 
-ghost use Rattle.std.specs.Prelude.{◌≡◌, ◌↔◌, ℕ, Some, Contains, IfOk, IfSome, OnOk, length, option_map};
-ghost use Rattle.nj_audit.specs.Cited.{FindsMore, edge_of, edges_of, inputs_of, paths_of, HasCommand, MakesOneOf, ServesCommand};
+ghost use Rattle.std.specs.Prelude.{◌≡◌, ◌↔◌, ℕ, Contains, IfOk, OnOk};
+ghost use Rattle.nj_audit.specs.Cited.{AreFound, FindsMore, edge_of, edges_of, inputs_of, paths_of, HasCommand, MakesOneOf, ServesCommand};
 
-use nj_graph::{Edge, EdgeNo, Graph};
+use nj_graph::{Edge, Graph};
 use nj_names::NumberSet;
 use std::alloc::{AllocError, Global};
+
+/// The edges found so far, without duplicates.
+#[derive(Drop)]
+struct Found<'g> {
+    /// By number.
+    set: NumberSet,
+    /// In the same order.
+    edges: Vec<Edge<'g>>,
+}
 
 /// The edges that have a command, and those that they need through any chain of inputs.
 pub fn serving_edges(alloc: Global, graph: &Graph) -> Result<NumberSet, AllocError>
     ensures { IfOk result (λ found. (edge : ℕ)
         → Contains found.numbers edge ↔ ServesCommand (edges_of graph.now) edge) }
 {
-    let mut found = NumberSet::none_below(alloc, graph.edge_count())?;
+    let mut found = Found {
+        set: NumberSet::none_below(alloc, graph.edge_count())?,
+        edges: Vec::new(alloc),
+    };
     add_commands(&mut found, graph)?;
     let mut place = 0;
-    'edges: while place < found.numbers().len() {
-        let edge = graph.edge_at(EdgeNo(found.numbers()[place]));
+    'edges: while place < found.set.numbers().len() {
+        let edge = found.edges[place];
         add_makers(&mut found, edge)?;
         place += 1;
     }
-    Ok(found)
+    Ok(found.set)
 }
 
-/// Adds the edges that have a command.
-fn add_commands(found: &mut NumberSet, graph: &Graph) -> Result<(), AllocError>
-    requires { found.old.limit ≡ length (edges_of graph.now) }
-    ensures { OnOk result (FindsMore (HasCommand (edges_of graph.now)) found.old found.new) }
+/// Adds the edges of a graph that have a command.
+fn add_commands<'g>(found: &mut Found<'g>, graph: &'g Graph) -> Result<(), AllocError>
+    requires { AreFound graph.now found.old }
+    ensures are { OnOk result (AreFound graph.entry.now found.new) }
+    ensures more { OnOk result (FindsMore (HasCommand (edges_of graph.entry.now))
+        found.old.set found.new.set) }
 {
     'edges: for edge in graph.edges() {
-        add_any(found, if edge.is_phony() { None } else { Some(edge) })?;
+        if !edge.is_phony() {
+            add(found, edge)?;
+        }
     }
     Ok(())
 }
 
 /// Adds the edges that make the inputs of an edge.
-fn add_makers(found: &mut NumberSet, edge: Edge<'_>) -> Result<(), AllocError>
-    requires { found.old.limit ≡ length (edges_of (edge_of edge).graph) }
-    ensures { OnOk result (FindsMore (MakesOneOf (edges_of (edge_of edge.entry).graph)
-        (inputs_of (paths_of (edge_of edge.entry)))) found.old found.new) }
+fn add_makers<'g>(found: &mut Found<'g>, edge: Edge<'g>) -> Result<(), AllocError>
+    requires { AreFound (edge_of edge).graph found.old }
+    ensures are { OnOk result (AreFound (edge_of edge.entry).graph found.new) }
+    ensures more { OnOk result (FindsMore (MakesOneOf (edges_of (edge_of edge.entry).graph)
+        (inputs_of (paths_of (edge_of edge.entry)))) found.old.set found.new.set) }
 {
     'inputs: for input in edge.inputs() {
-        add_any(found, input.maker())?;
+        if let Some(maker) = input.maker() {
+            add(found, maker)?;
+        }
     }
     Ok(())
 }
 
-/// Adds an edge, if there is one.
-fn add_any(found: &mut NumberSet, edge: Option<Edge<'_>>) -> Result<(), AllocError>
-    requires { IfSome edge (λ edge. found.old.limit ≡ length (edges_of (edge_of edge).graph)) }
-    ensures { OnOk result (FindsMore (λ e. option_map (λ edge. (edge_of edge).number) edge.entry
-        ≡ Some e) found.old found.new) }
+/// Adds an edge.
+fn add<'g>(found: &mut Found<'g>, edge: Edge<'g>) -> Result<(), AllocError>
+    requires { AreFound (edge_of edge).graph found.old }
+    ensures are { OnOk result (AreFound (edge_of edge.entry).graph found.new) }
+    ensures more { OnOk result (FindsMore (λ e. e ≡ (edge_of edge.entry).number)
+        found.old.set found.new.set) }
 {
-    if let Some(edge) = edge {
-        found.insert(edge.number().0)?;
+    if found.set.insert(edge.number().0)? {
+        found.edges.push(edge)?;
     }
     Ok(())
 }

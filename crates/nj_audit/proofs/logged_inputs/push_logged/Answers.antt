@@ -1,4 +1,4 @@
-use Rattle.std.proofs.Common.{◌∷◌, [], get_or, take, subst, ◌∙◌}
+use Rattle.std.proofs.Common.{[], get_or, take, subst, ◌∙◌}
 use Rattle.std.specs.List.{cons_option}
 use Rattle.std.proofs.lemmas.List.{take_all}
 use Rattle.nj_graph.specs.declared.undeclared.UndeclaredInput.{UndeclaredInput as LoggedInput}

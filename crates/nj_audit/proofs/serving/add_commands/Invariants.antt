@@ -3,6 +3,7 @@ use Rattle.std.specs.List.{range_with_len}
 use Rattle.nj_edges.specs.Inside.ChangesHeld.{FindsMore}
 use Rattle.nj_graph.specs.Graph.{edges_of}
 use Rattle.nj_graph.specs.Handles.{edges_in}
+use Rattle.nj_audit.specs.Inside.Served.{AreFound}
 use Rattle.nj_audit.proofs.ServingLemmas.{IsCommandBelow}
 use Rattle.nj_audit.proofs.serving.add_commands.Given as goal
 
@@ -11,5 +12,6 @@ invariant-edges l = record {
   place : ℕ;
   of : l.edge-iterator ≡ edges_in l.graph (range_with_len place (length l.edge-iterator));
   count : place + length l.edge-iterator ≡ length (edges_of l.graph);
-  finds : FindsMore (IsCommandBelow (edges_of l.graph) place) l.fn.found l.found;
+  are : AreFound l.graph l.found;
+  finds : FindsMore (IsCommandBelow (edges_of l.graph) place) l.fn.found.set l.found.set;
 }
