@@ -1,0 +1,22 @@
+//! Globs: patterns for whole paths, compared byte by byte, as the paths were given.
+//!
+//! | Part | Stands for |
+//! |---|---|
+//! | `?` | one byte other than `/` |
+//! | `*` | any number of bytes other than `/` |
+//! | `**` | any bytes |
+//! | `**/` at the beginning or after a `/` | any bytes that end in `/`, or none |
+//! | `[abc]`, `[a-z]` | one of these bytes, but never `/` |
+//! | `[!abc]`, `[^abc]` | one byte that is none of these, and never `/` |
+//! | `\` and a byte | this byte |
+//! | any other byte | itself |
+//!
+//! So `**/x` matches `x` and `a/b/x`, and `a/**/b` matches `a/b`. In a set a `]` that comes first is
+//! one of its bytes, and so are a `-` at either end and a byte after a `\`.
+#![tactic(auto)]
+
+mod fits;
+mod glob;
+mod parts;
+
+pub use glob::Glob;
