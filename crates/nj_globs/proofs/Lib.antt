@@ -1,2 +1,5 @@
 pub mod FitLemmas
+pub mod FormLemmas
+pub mod LetterLemmas
 pub mod MatchLemmas
+pub mod ReadingLemmas

@@ -1,5 +1,7 @@
 -- the definitions to believe
 pub mod Globs
+pub mod Patterns
+pub mod Faults
 -- how the code does that
 pub mod Inside
 -- what the contracts cite

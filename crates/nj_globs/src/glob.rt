@@ -1,10 +1,14 @@
 //! Globs.
 
-ghost use Rattle.std.specs.Prelude.{◌≡◌, ◌↔◌, IsTrue};
-ghost use Rattle.nj_globs.specs.Cited.{Matches};
+ghost use Rattle.std.specs.Prelude.{◌≡◌, ◌↔◌, IsTrue, IfOk, IfErr};
+ghost use Rattle.nj_globs.specs.Cited.{Matches, ArePartsOf, IsGlobFault};
 
 use crate::fits::{Fit, put_in_front, set_empty};
+use crate::glob_fault::GlobFault;
+use crate::letters::read_letters;
 use crate::parts::Part;
+use crate::reading::read_parts;
+use std::alloc::Global;
 use std::marker::Model;
 
 /// A glob: a pattern for paths.
@@ -28,6 +32,24 @@ impl Model for Glob {
 }
 
 impl Glob {
+    /// Reads a pattern.
+    ///
+    /// # Errors
+    ///
+    /// [`GlobFault::BackslashAtEnd`] if the last byte is a `\` that makes no byte literal.
+    /// Otherwise [`GlobFault::UnclosedSet`] or [`GlobFault::ReversedRange`], for the first set that
+    /// is wrong. No other pattern is refused, except by [`GlobFault::OutOfMemory`].
+    pub fn read(alloc: Global, pattern: &[u8]) -> Result<Glob, GlobFault>
+        ensures glob { IfOk result (λ glob. ArePartsOf pattern.now glob) }
+        ensures fault { IfErr result (λ fault. IsGlobFault pattern.now fault) }
+    {
+        let letters = read_letters(alloc, pattern)?;
+        let parts = read_parts(alloc, &letters)?;
+        let mut fits = Vec::new(alloc);
+        fits.resize(parts.as_slice().len() + 1, Fit::END)?;
+        Ok(Glob { parts, fits })
+    }
+
     /// Whether the whole path matches. It borrows the glob mutably only for a buffer, so it
     /// allocates nothing. Its time is at most that of a step for each byte of the path with each
     /// byte of the pattern.

@@ -17,6 +17,10 @@
 
 mod fits;
 mod glob;
+mod glob_fault;
+mod letters;
 mod parts;
+mod reading;
 
 pub use glob::Glob;
+pub use glob_fault::GlobFault;

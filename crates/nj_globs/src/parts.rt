@@ -1,7 +1,7 @@
 //! The parts of a glob.
 
 ghost use Rattle.std.specs.Prelude.{◌≡◌};
-ghost use Rattle.nj_globs.specs.Cited.{is_in_ranges, part_model, takes, may_be_empty};
+ghost use Rattle.nj_globs.specs.Cited.{is_in_ranges, begins_after, part_model, takes, may_be_empty};
 
 /// The bytes from one to another, and both of them.
 #[derive(Clone, Copy, Debug, PartialEq, Eq)]
@@ -51,6 +51,17 @@ impl Part {
     {
         match self {
             Part::Star | Part::DoubleStar | Part::Directories => true,
+            _ => false,
+        }
+    }
+
+    /// Whether a directory begins after it.
+    pub(crate) fn begins_after(&self) -> bool
+        ensures { result ≡ begins_after (part_model self.now) }
+    {
+        match self {
+            Part::Byte(byte) => *byte == b'/',
+            Part::Directories => true,
             _ => false,
         }
     }
