@@ -1,5 +1,7 @@
 pub mod FitLemmas
 pub mod FormLemmas
+pub mod LawLemmas
 pub mod LetterLemmas
 pub mod MatchLemmas
 pub mod ReadingLemmas
+mod Rows

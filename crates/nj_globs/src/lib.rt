@@ -18,9 +18,14 @@
 mod fits;
 mod glob;
 mod glob_fault;
+mod laws;
 mod letters;
 mod parts;
 mod reading;
 
 pub use glob::Glob;
 pub use glob_fault::GlobFault;
+pub use laws::{
+    double_star_matches_all, good_patterns_are_read, letters_write_the_pattern, one_fault,
+    one_reading, plain_patterns_match_themselves,
+};
