@@ -3,6 +3,7 @@
 use crate::depfiles::put_depfile;
 use crate::deps_logs::put_of_log;
 use crate::discovered::{put_dirtied, put_discovered, put_joined_discoveries};
+use crate::globs::put_matched;
 use crate::joined_logs::{put_joined, put_undeclared};
 use crate::keys::DrawnKeys;
 use crate::lexing::put_lexed;
@@ -118,6 +119,7 @@ fn put_of_words(
             put_in_turn(alloc, text, row.kind, &words_of(alloc, row.rest)?)
         }
         "hash" => put_hash(alloc, text, row.rest),
+        "glob" => put_matched(alloc, text, &words_of(alloc, row.rest)?),
         "mark-of" => put_mark_of(alloc, text, row.rest),
         "deps-log" | "cut-log" | "deps-of" => {
             put_of_log(alloc, text, given.bytes("log"), row.kind, row.rest)

@@ -8,6 +8,7 @@ mod declared;
 mod depfiles;
 mod deps_logs;
 mod discovered;
+mod globs;
 mod graphs;
 mod handles;
 mod joined_logs;
