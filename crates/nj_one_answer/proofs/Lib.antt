@@ -1,0 +1,3 @@
+mod DepsAnswers
+mod FileNumbers
+mod NeedsAnswers
