@@ -8,6 +8,7 @@ use Rattle.std.proofs.lemmas.Option.{slice_get_within}
 use Rattle.nj_names.specs.declared.files.FileNo.{FileNo}
 use Rattle.nj_names.specs.Files.{path_at, AreFiles}
 use Rattle.nj_one_answer.specs.Agreement.{AgreeIfOk}
+use Rattle.nj_edges.specs.declared.edges.EdgeNo.{EdgeNo}
 use Rattle.nj_edges.proofs.ChainLemmas.{only-file}
 
 module _ (files : List (List ℕ)) (distinct : IsDistinct bytes_eq files) where
@@ -56,3 +57,12 @@ module _ (files : List (List ℕ)) (distinct : IsDistinct bytes_eq files) where
       ap (λ n. n ∷ ones) first ∙ ap (λ ns. h ∷ ns) (same-by-paths ones others
       (All-tail (λ n. n.0 < length files) f ones known) (All-tail (λ n. n.0 < length files) h others known2)
       rest)
+
+pub same-edges : (one other : List EdgeNo) → map (λ e. e.0) one ≡ map (λ e. e.0) other → one ≡ other
+same-edges [] [] are = refl
+same-edges [] (f ∷ others) are = absurd cc
+same-edges (e ∷ ones) [] are = absurd cc
+same-edges (e ∷ ones) (f ∷ others) are =
+    let here : e.0 ≡ f.0 = cc in
+    let rest : map (λ (n : EdgeNo). n.0) ones ≡ map (λ (n : EdgeNo). n.0) others = cc in
+    ap (λ n. record { 0 = n } ∷ ones) here ∙ ap (λ es. f ∷ es) (same-edges ones others rest)

@@ -1,3 +1,10 @@
+mod DeclaredAnswers
 mod DepsAnswers
+mod DiscoverAnswers
 mod FileNumbers
+mod GraphAnswers
+mod LoadAnswers
 mod NeedsAnswers
+mod ReachedAnswers
+mod TargetAnswers
+mod UndeclaredAnswers

@@ -1,5 +1,11 @@
 -- What the contracts of this crate cite: each name comes from the module in its line.
-pub use Rattle.nj_one_answer.specs.Agreement.{AgreeBut, AgreeUpTo, AgreeIfOk}
-pub use Rattle.nj_one_answer.specs.Memory.{IsLogOutOfMemory, IsMarkOutOfMemory}
+pub use Rattle.nj_one_answer.specs.Agreement.{AgreeBut, AgreeIfOk, AgreeUpTo}
+pub use Rattle.nj_one_answer.specs.Memory.{IsLogOutOfMemory, IsGraphOutOfMemory, IsUnread, IsMarkOutOfMemory}
+pub use Rattle.nj_graph.specs.Handles.{edge_of, OfEdge, edges_in, files_in, file_of}
+pub use Rattle.nj_graph.specs.Graph.{edges_of, main_rules, OfStatements, files_of, GraphModel}
+pub use Rattle.nj_scope.specs.Scopes.{IsScope, parent_at}
+pub use Rattle.nj_one_answer.specs.Sources.{DeclareSame, UnlessFails, TellAll}
+pub use Rattle.nj_one_answer.specs.Graphs.{SameDiscoveries, SameGraph, SameLoaded, SameButTies}
+pub use Rattle.std.specs.List.{IsDistinct}
 pub use Rattle.nj_one_answer.specs.Walks.{SameWalk, SameRoom}
 pub use Rattle.nj_needs.specs.PageWalks.{written}

@@ -1,6 +1,8 @@
 -- the definitions to believe
 pub mod Agreement
+pub mod Graphs
 pub mod Memory
+pub mod Sources
 pub mod Walks
 -- what the contracts cite
 pub mod Cited

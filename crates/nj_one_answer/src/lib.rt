@@ -6,9 +6,29 @@
 #![tactic(auto)]
 
 mod deps;
+mod graph;
 mod needs;
 
 pub use deps::{deps_log_read, deps_log_read_with_keys};
+pub use graph::edge_values::{
+    edge_append_variable, edge_command, edge_command_with_rsp, edge_variable, graph_command,
+    graph_command_with_rsp, graph_description_text,
+};
+pub use graph::edge_words::{
+    edge_block_name, edge_block_name_count, edge_block_value, edge_dyndep, edge_pool,
+    edge_rule_name, graph_scope_value,
+};
+pub use graph::joining::{graph_discover, graph_join_deps, graph_join_discovered};
+pub use graph::lists::{edges_numbers, file_list_numbers, files_numbers, graph_defaults};
+pub use graph::loading::{join_dyndeps, join_present_dyndeps, load};
+pub use graph::reached_edges::{
+    file_affected_edges, file_list_affected_edges, file_list_needed_commands,
+    file_list_needed_edges, file_needed_edges,
+};
+pub use graph::targets::{
+    graph_pick_named, graph_pick_targets, graph_target, graph_targets, pick_target,
+};
+pub use graph::undeclared::undeclared_inputs;
 pub use needs::{
     grow_targets, mark_from_numbers, mark_read, mark_to_text, needs_mark, needs_mark_after_page,
     needs_new, needs_next, needs_next_on_page, needs_resume,
