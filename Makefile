@@ -104,7 +104,7 @@ gate:
 # Writes the pages, and the parts of pages, that scripts read off the sources.
 pages:
 	@python3 scripts/map.py && python3 scripts/reference.py && python3 scripts/headline.py
-	@python3 scripts/believed.py --write
+	@python3 scripts/believed.py --write && python3 scripts/one_answer.py
 
 # Runs the checks that read files alone: docs/GATE.md lists them. It takes seconds, and needs no program.
 lint:

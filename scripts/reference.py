@@ -34,6 +34,8 @@ CLAUSE = re.compile(r"^ *(requires|ensures)(?: (\w+))? \{", re.M)
 # The crate that clients name, and the crates whose calls it re-exports, in the order of the page.
 CLIENTS = "ninja"
 REEXPORTED = ("nj_graph", "nj_needs", "nj_tools", "nj_disk", "nj_deps")
+# The crate whose functions make calls of the others twice: docs/PROOFS.md lists them.
+LAWS = "nj_one_answer"
 IMPORT = re.compile(r"ghost use Rattle\.((?:nj_|affected|audit|cache)\w*)\.[\w.]+\.\{([^}]*)\}")
 
 
@@ -219,7 +221,7 @@ def library(crate, calls, types, texts, counts):
 def page():
     found = {}
     for crate in crates():
-        if root_of(crate).name == "lib.rt" and crate not in CALLERS:
+        if root_of(crate).name == "lib.rt" and crate not in CALLERS and crate != LAWS:
             public = exported(crate)
             files = sorted((CRATES / crate).glob("src/**/*.rt"))
             calls = [call for file in files for call in calls_in(crate, file, public)]

@@ -4,20 +4,25 @@ import re
 
 import headline
 import map
+import one_answer
 import reference
 from lib.checks import check, expect
 
 
+# The scripts that write parts of a page, and not all of it.
+PARTED = (map, one_answer)
+
+
 def is_old(script, text):
     """Whether a page with this text differs from its script's output."""
-    return text != (script.with_parts(text) if script is map else script.page())
+    return text != (script.with_parts(text) if script in PARTED else script.page())
 
 
 @check
 def pages_are_generated():
-    """docs/ARCHITECTURE.md has the crates, layers and files, docs/REFERENCE.md the public calls, and
-    docs/HEADLINE.md the definitions, that there are."""
-    for script in map, reference, headline:
+    """docs/ARCHITECTURE.md has the crates, layers and files, docs/REFERENCE.md the public calls,
+    docs/HEADLINE.md the definitions, and docs/PROOFS.md what contracts leave free, that there are."""
+    for script in map, reference, headline, one_answer:
         if not script.PAGE.is_file() or is_old(script, script.PAGE.read_text()):
             yield f"{script.PAGE.name} is old: run make pages"
 
@@ -31,6 +36,12 @@ def calls_are_listed_once():
         yield from expect(f"{part.split()[0]}, calls that are listed twice", repeated, [])
 
 
+@check
+def calls_have_one_answer():
+    """Of each public call something proves that its contract allows one answer."""
+    yield from one_answer.untold()
+
+
 # The plants: the script of the page, the text replaced there, and its replacement.
 PLANTED = [
     (map, "`nj_text`", "`nj_texts`"),
@@ -38,15 +49,17 @@ PLANTED = [
     (map, "| all |  |  |  | ", "| all |  |  |  | 1"),
     (reference, "Proved: `RunsWords`", "Proved: `RunsWord`"),
     (headline, "record IsAnswered", "record IsAnswer"),
+    (one_answer, "| whether memory lacks |", "| |"),
 ]
 
 
 @check
 def planted_mistakes_are_seen():
-    """A crate that is named wrongly, an arrow to another crate, a wrong count, a wrong clause and a
-    changed definition."""
+    """A crate that is named wrongly, an arrow to another crate, a wrong count, a wrong clause, a
+    changed definition and a freedom that is not named."""
     for script, old, new in PLANTED:
-        text = script.with_parts(script.PAGE.read_text()) if script is map else script.page()
+        parted = script in PARTED
+        text = script.with_parts(script.PAGE.read_text()) if parted else script.page()
         planted = text.replace(old, new, 1)
         if planted == text or not is_old(script, planted):
             yield f"`{new}` in place of `{old}` is not seen in {script.PAGE.name}"
