@@ -48,9 +48,9 @@ pub fn doubts_of(alloc: Global, graph: &Graph, found: &Discoveries) -> Result<Do
 {
     let mut edges = Vec::new(alloc);
     let mut lines = Vec::new(alloc);
-    'edges: for number in 0..graph.edge_count() {
-        let edge = graph.edge_at(EdgeNo(number));
-        push_edge(alloc, &mut edges, edge, found.verdict(number), &mut lines)?;
+    'edges: for edge in graph.edges() {
+        let verdict = found.verdict(edge.number().0);
+        push_edge(alloc, &mut edges, edge, verdict, &mut lines)?;
     }
     let faults = faults_of(alloc, graph, found)?;
     let discoveries = discoveries_of(alloc, graph, found)?;
@@ -142,9 +142,9 @@ fn faults_of(
         map (λ fault. fault.text.items) faults.items ≡ fault_texts entries found.now)) }
 {
     let mut faults = Vec::new(alloc);
-    'edges: for number in 0..graph.edge_count() {
-        let edge = graph.edge_at(EdgeNo(number));
-        push_faulty(alloc, &mut faults, edge, found.verdict(number))?;
+    'edges: for edge in graph.edges() {
+        let verdict = found.verdict(edge.number().0);
+        push_faulty(alloc, &mut faults, edge, verdict)?;
     }
     Ok(faults)
 }

@@ -125,9 +125,8 @@ fn dyndep_files(alloc: Global, graph: &Graph) -> Result<Vec<FileNo>, AllocError>
         All (λ file. file.0 < length (files_of graph.now)) files.items) }
 {
     let mut files = Vec::new(alloc);
-    'edges: for number in 0..graph.edge_count() {
-        let found = dyndep_file(graph.edge_at(EdgeNo(number)));
-        match found {
+    'edges: for edge in graph.edges() {
+        match dyndep_file(edge) {
             Some(file) => files.push(file)?,
             None => {}
         }
