@@ -73,7 +73,8 @@ IsText text output ending = (output ≡ text) × (ending ≡ answered false [])
 
 -- Options are refused, or answered, before anything is read. Else the files are read, and the graph is asked; or there is none, or no
 -- memory for it. Absolute paths below the working directory are the build's.
-pub data Asks (question : QuestionModel) (times : DeclaredTimes) (folder : List ℕ) (input : List ℕ) (old new : Around) : Status → Type 0 where
+pub data Asks (question : QuestionModel) (times : DeclaredTimes) (folder : List ℕ) (input : List ℕ) (old new : Around)
+    : Status → Type 0 where
   misused : {line : List ℕ} {status : Status} → misuse question.subject ≡ Some line → new.sources ≡ old.sources
       → Ends (IsRefusal line Usage) old.sinks new.sinks status → Asks question times folder input old new status
   lists : {text : List ℕ} {status : Status} → listed question.subject ≡ Some text → new.sources ≡ old.sources

@@ -72,7 +72,8 @@ more_text before count after = if count == 0 then [] else before ++ codes "and "
 -- a point, with the first output of the edge as a tooltip
 abbrev pub point_look : GraphEdge → (more : ℕ) → List ℕ
 point_look edge more =
-    codes "shape=point, tooltip=" ++ quoted (unwrap_or (first_output (paths_of edge)) []) ++ more_text (codes ", xlabel=\"") more (codes "\"")
+    codes "shape=point, tooltip=" ++ quoted (unwrap_or (first_output (paths_of edge)) [])
+    ++ more_text (codes ", xlabel=\"") more (codes "\"")
 
 -- an ellipse with the rule of the edge
 abbrev pub ellipse_look : GraphEdge → (more : ℕ) → List ℕ

@@ -80,7 +80,8 @@ FindsUndeclared true log stated inputs = AreUndeclared log stated inputs
 FindsUndeclared false log stated inputs = inputs ≡ []
 
 -- The graph of these options; `undeclared` says whether undeclared inputs are requested.
-pub data KnowsGraph (asked : AskedGraph) (undeclared : Bool) (times : DeclaredTimes) (old new : Sources) (known : DiscoveredGraph) : Type 0 where
+pub data KnowsGraph (asked : AskedGraph) (undeclared : Bool) (times : DeclaredTimes) (old new : Sources) (known : DiscoveredGraph)
+    : Type 0 where
   declared : {loaded : LoadedModel} → asks_discovered asked ≡ false → ReadsManifest asked times old.files new.files (Ok loaded)
       → new.built ≡ old.built → IsDeclared loaded.graph known → KnowsGraph asked undeclared times old new known
   discovered : {loaded : LoadedModel} {stated : List ReadStatement} {between : SourceState} {log : LogModel} {caveat : List ℕ}

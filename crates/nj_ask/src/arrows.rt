@@ -31,7 +31,8 @@ pub(crate) fn push_arrows(
 ) -> Result<(), AllocError>
     ensures { (edges : List GraphEdge) → drawing.entry.listed.now ≡ map of_edge edges
         → OnOk result (text.new.items ≡ text.old.items ++ flat_map
-        (node_arrows drawing.entry.discoveries.now drawing.entry.folds drawing.entry.nodes.now edges) drawing.entry.nodes.now) }
+        (node_arrows drawing.entry.discoveries.now drawing.entry.folds drawing.entry.nodes.now
+        edges) drawing.entry.nodes.now) }
 {
     let mut linked = NodeList::new(alloc);
     'nodes: for node in drawing.nodes.nodes() {
@@ -71,8 +72,9 @@ fn push_edge_arrows<'g>(
     linked: &mut NodeList<'g>,
     edge: Edge<'g>,
 ) -> Result<(), AllocError>
-    ensures { OnOk result (text.new.items ≡ text.old.items ++ edge_arrows drawing.entry.discoveries.now
-        drawing.entry.folds drawing.entry.nodes.now (edge_of edge.entry)) }
+    ensures { OnOk result (text.new.items ≡ text.old.items
+        ++ edge_arrows drawing.entry.discoveries.now drawing.entry.folds drawing.entry.nodes.now
+        (edge_of edge.entry)) }
 {
     linked.clear();
     push_outputs(text, drawing, linked, edge)?;
@@ -89,7 +91,8 @@ fn push_outputs<'g>(
     edge: Edge<'g>,
 ) -> Result<(), AllocError>
     ensures { OnOk result (text.new.items ≡ text.old.items ++ arrows_to (edge_of edge.entry)
-        (drawn_ends drawing.entry.nodes.now linked.old (ends_after drawing.entry.folds (edge_of edge.entry)))) }
+        (drawn_ends drawing.entry.nodes.now linked.old
+        (ends_after drawing.entry.folds (edge_of edge.entry)))) }
 {
     if is_folded(edge, drawing.folds) {
         return Ok(());
@@ -110,7 +113,8 @@ fn push_output<'g>(
 ) -> Result<(), AllocError>
     ensures { OnOk result ((rest : List End) → text.new.items
         ++ arrows_to (edge_of edge.entry) (drawn_ends drawing.entry.nodes.now linked.new rest)
-        ≡ text.old.items ++ arrows_to (edge_of edge.entry) (drawn_ends drawing.entry.nodes.now linked.old
+        ≡ text.old.items
+        ++ arrows_to (edge_of edge.entry) (drawn_ends drawing.entry.nodes.now linked.old
         (end_at drawing.entry.folds [] (file_of output.entry) ∷ rest))) }
 {
     let node = node_of(output, drawing.folds);
@@ -166,7 +170,8 @@ fn push_inputs_of<'g>(
 ) -> Result<(), AllocError>
     ensures { OnOk result ((rest : List End) → text.new.items
         ++ arrows_from (edge_of edge.entry) (drawn_ends drawing.entry.nodes.now linked.new rest)
-        ≡ text.old.items ++ arrows_from (edge_of edge.entry) (drawn_ends drawing.entry.nodes.now linked.old
+        ≡ text.old.items
+        ++ arrows_from (edge_of edge.entry) (drawn_ends drawing.entry.nodes.now linked.old
         (ends drawing.entry.folds style.now inputs.entry ++ rest))) }
 {
     'inputs: for input in inputs {
@@ -187,7 +192,8 @@ fn push_input<'g>(
 ) -> Result<(), AllocError>
     ensures { OnOk result ((rest : List End) → text.new.items
         ++ arrows_from (edge_of edge.entry) (drawn_ends drawing.entry.nodes.now linked.new rest)
-        ≡ text.old.items ++ arrows_from (edge_of edge.entry) (drawn_ends drawing.entry.nodes.now linked.old
+        ≡ text.old.items
+        ++ arrows_from (edge_of edge.entry) (drawn_ends drawing.entry.nodes.now linked.old
         (end_at drawing.entry.folds style.now (file_of input.entry) ∷ rest))) }
 {
     let node = node_of(input, drawing.folds);

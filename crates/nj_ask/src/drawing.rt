@@ -51,7 +51,8 @@ fn drawing_with(
     options: &DrawOptions,
 ) -> Result<Vec<u8>, AllocError>
     requires { All (λ edge. edge.0 < length (edges_of known.now.graph)) numbers.now }
-    ensures { IfOk result (λ text. text.items ≡ drawing_text known.now.discoveries.items options.now.fold
+    ensures { IfOk result (λ text. text.items
+        ≡ drawing_text known.now.discoveries.items options.now.fold
         (drawn_nodes (draw_model options.now) (files_in files.now.graph files.now.paths)
         (edges_in known.now.graph (map (λ edge. edge.0) numbers.now)))
         (edges_in known.now.graph (map (λ edge. edge.0) numbers.now))) }

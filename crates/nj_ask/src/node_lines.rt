@@ -90,7 +90,8 @@ fn push_edge_look(
 
 /// Appends that an edge is a point.
 fn push_point(text: &mut Vec<u8>, edge: Edge<'_>, more: usize) -> Result<(), AllocError>
-    ensures { OnOk result (text.new.items ≡ text.old.items ++ point_look (edge_of edge.entry) more) }
+    ensures { OnOk result (text.new.items
+        ≡ text.old.items ++ point_look (edge_of edge.entry) more) }
 {
     text.extend_from_slice(b"shape=point, tooltip=")?;
     push_quoted(text, first_output(edge))?;
@@ -109,7 +110,8 @@ fn first_output(edge: Edge<'_>) -> &[u8]
 
 /// Appends that an edge is an ellipse.
 fn push_ellipse(text: &mut Vec<u8>, edge: Edge<'_>, more: usize) -> Result<(), AllocError>
-    ensures { OnOk result (text.new.items ≡ text.old.items ++ ellipse_look (edge_of edge.entry) more) }
+    ensures { OnOk result (text.new.items
+        ≡ text.old.items ++ ellipse_look (edge_of edge.entry) more) }
 {
     text.extend_from_slice(b"shape=ellipse, label=\"")?;
     push_escapes(text, rule_of(edge))?;
@@ -125,7 +127,8 @@ fn push_more(
     count: usize,
     after: &[u8],
 ) -> Result<(), AllocError>
-    ensures { OnOk result (text.new.items ≡ text.old.items ++ more_text before.now count after.now) }
+    ensures { OnOk result (text.new.items
+        ≡ text.old.items ++ more_text before.now count after.now) }
 {
     if count == 0 {
         return Ok(());
