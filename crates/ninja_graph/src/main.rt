@@ -1,14 +1,13 @@
 //! Answers questions about the graph of a Ninja build.
 #![tactic(auto)]
 
-mod setting;
-
-use crate::setting::Setting;
-use nj_ask::{Status, ask_read_words, conclude, refuse_words, report_out_of_memory};
+use nj_ask::{
+    Status, ask_read_words, refuse_folder, refuse_input, refuse_words, report_out_of_memory,
+};
 use nj_disk::{DiskFiles, DiskTimes};
 use nj_questions::{Question, Refusal, read_words};
 use nj_tools::WriteSink;
-use std::io::ErrorKind;
+use std::io::{ErrorKind, Read};
 use std::process::ExitCode;
 use std::{env, io, mem};
 
@@ -16,7 +15,7 @@ fn main(rt: HostRuntime) -> ExitCode {
     ExitCode::from(run(rt).code())
 }
 
-/// Runs the program with its arguments.
+/// Runs the program with its arguments. What refuses them enters and takes nothing.
 fn run(rt: HostRuntime) -> Status {
     let mut err = WriteSink::new(rt.stderr());
     let words = match words(rt) {
@@ -25,10 +24,42 @@ fn run(rt: HostRuntime) -> Status {
         Err(_) => return refuse_words(&mut err),
     };
     let read = read_words(rt.alloc(), &words);
-    match setting::setting_for(rt, &read) {
-        Ok(setting) => ask(rt, &read, &setting),
-        Err(failure) => conclude(&mut err, &Err(failure)),
+    match take(rt, &read) {
+        Ok((folder, input)) => ask(rt, &read, folder.as_bytes(), &input),
+        Err(status) => status,
     }
+}
+
+/// Enters the directory of `-C`, and takes the path of the working directory and standard input for the
+/// question. Where that fails, it was reported. Its buffers leave the stack before anything is asked.
+#[inline(never)]
+fn take(rt: HostRuntime, read: &Result<Question, Refusal>) -> Result<(String, Vec<u8>), Status> {
+    let mut err = WriteSink::new(rt.stderr());
+    let (mut folder, mut input) = (String::new(rt.alloc()), Vec::new(rt.alloc()));
+    let Ok(question) = read else {
+        return Ok((folder, input));
+    };
+    if let Some(entered) = question.entered_folder() {
+        if let Err(error) = env::set_current_dir(&rt, entered) {
+            return Err(refuse_folder(rt.alloc(), &mut err, entered, error));
+        }
+    }
+    if question.takes_input() {
+        if let Err(error) = rt.reader().read_to_end(&mut input) {
+            return Err(refuse_input(rt.alloc(), &mut err, error));
+        }
+    }
+    if question.takes_folder() {
+        match env::current_dir(&rt) {
+            Ok(path) => folder = path.into_string(),
+            Err(e) if e.kind() == ErrorKind::OutOfMemory => {
+                return Err(report_out_of_memory(&mut err));
+            }
+            // It is not known, and no absolute path is below it.
+            Err(_) => {}
+        }
+    }
+    Ok((folder, input))
 }
 
 /// The program's arguments, without its name. It fails if one of them is not UTF-8.
@@ -38,8 +69,7 @@ fn words(rt: HostRuntime) -> io::Result<Vec<String>> {
 }
 
 /// Asks what the arguments ask, in the working directory.
-fn ask(rt: HostRuntime, read: &Result<Question, Refusal>, setting: &Setting) -> Status {
-    let Setting { folder, input } = setting;
+fn ask(rt: HostRuntime, read: &Result<Question, Refusal>, folder: &[u8], input: &[u8]) -> Status {
     let alloc = rt.alloc();
     let mut out = WriteSink::new(rt.stdout());
     let mut err = WriteSink::new(rt.stderr());

@@ -12,7 +12,7 @@ use Rattle.nj_ask.specs.Answers.{AnswersAffected, change_asked, outputs_asked}
 use Rattle.nj_ask.specs.Answers.AnswersAffected.{no_path, no_rule, reported}
 use Rattle.nj_ask.specs.Endings.{program_line, refused}
 use Rattle.nj_ask.specs.Inside.Failures.{Gives}
-use Rattle.nj_ask.specs.Results.{FailsBy}
+use Rattle.nj_ask.specs.Inside.Failures.{FailsBy}
 use Rattle.nj_ask.specs.Lines.{lines_of}
 use Rattle.nj_ask.specs.Reports.{ChangeModel, IsReport, no_path_line}
 use Rattle.nj_ask.proofs.EndingLemmas.{gives-refused}

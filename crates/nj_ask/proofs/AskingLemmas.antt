@@ -1,13 +1,13 @@
 -- How a question ends, by what is left to report.
-use Rattle.std.proofs.Common.{◌≡◌, ℕ, Bool, Bor, List, [], true, false, cond, Option, Some, None, is_some}
-use Rattle.std.proofs.Common.{unwrap_or, Result, Err, inl}
-use Rattle.std.proofs.Common.{refl, sym, subst}
-use Rattle.std.proofs.lemmas.Option.{none-some}
+use Rattle.std.proofs.Common.{◌≡◌, ℕ, Bor, List, [], true, false, cond, Some, None, unwrap_or, Result, Err}
+use Rattle.std.proofs.Common.{inl}
+use Rattle.std.proofs.Common.{refl, sym, ap, subst}
 use Rattle.nj_discovered.specs.Times.{DeclaredTimes}
 use Rattle.nj_tools.specs.Sinks.{FailsWithin, SinkState, Takes}
 use Rattle.nj_tools.proofs.SinkLemmas.{Takes-nil}
 use Rattle.nj_questions.specs.Questions.{QuestionModel, SubjectModel, affected, audit, draw, json, keys, why}
 use Rattle.nj_questions.specs.Questions.{affected_model, audit_model, draw_model, keys_model, why_model}
+use Rattle.nj_questions.specs.Questions.{reads_nothing}
 use Rattle.nj_questions.specs.declared.questions.AffectedOptions.{AffectedOptions}
 use Rattle.nj_questions.specs.declared.questions.AuditOptions.{AuditOptions}
 use Rattle.nj_questions.specs.declared.questions.DrawOptions.{DrawOptions}
@@ -34,7 +34,7 @@ use Rattle.nj_ask.specs.KnownGraphs.{LacksGraph, Sources}
 use Rattle.nj_ask.specs.Inside.Asking.{IsTask, LeavesTold}
 use Rattle.nj_ask.specs.Inside.Asking.LeavesTold.{tells, tells_memory, tells_why}
 use Rattle.nj_ask.specs.Inside.Failures.{Returns}
-use Rattle.nj_ask.specs.Results.{ConcludesTold, FailsBy}
+use Rattle.nj_ask.specs.Inside.Failures.{ConcludesTold, FailsBy}
 use Rattle.nj_ask.proofs.EndingLemmas.{ends-concluded}
 
 -- ---- refusals
@@ -79,25 +79,23 @@ task-unlisted subject task.Json is = rw is refl
 task-unlisted subject (task.Keys options page) is = rw is.0 refl
 task-unlisted subject (task.Why options) is = rw is refl
 
--- the kinds of findings are listed for `audit` alone
-pub listed-kinds : (subject : SubjectModel) → is_some (listed subject) ≡ true
-    → listed subject ≡ Some kind_lines
+-- where nothing is read, the kinds of findings are listed
+pub listed-kinds : (subject : SubjectModel) → reads_nothing subject ≡ true → listed subject ≡ Some kind_lines
 listed-kinds (affected options) is = absurd cc
-listed-kinds (audit options) is = by options.list is
-  where
-    by : (b : Bool) → is_some (cond b (Some kind_lines) None) ≡ true
-        → cond b (Some kind_lines) None ≡ Some kind_lines
-    by true is = refl
-    by false is = absurd cc
+listed-kinds (audit options) is = ap (λ b. cond b (Some kind_lines) None) is
 listed-kinds (draw options) is = absurd cc
 listed-kinds json is = absurd cc
 listed-kinds (keys options) is = absurd cc
 listed-kinds (why options) is = absurd cc
 
--- else for none
-pub none-is : {X : Type 0} (o : Option X) → is_some o ≡ false → o ≡ None
-none-is None is = refl
-none-is (Some x) is = absurd cc
+-- else nothing is
+pub none-listed : (subject : SubjectModel) → reads_nothing subject ≡ false → listed subject ≡ None
+none-listed (affected options) is = refl
+none-listed (audit options) is = ap (λ b. cond b (Some kind_lines) None) is
+none-listed (draw options) is = refl
+none-listed json is = refl
+none-listed (keys options) is = refl
+none-listed (why options) is = refl
 
 -- what is answered to the task is answered to its subject
 module _ (known : DiscoveredGraph) (entries : List ReadStatement) (times : DeclaredTimes) (folder : List ℕ)

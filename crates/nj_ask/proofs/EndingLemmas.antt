@@ -1,5 +1,5 @@
 -- How an answer that is given returns once it is written, and how what returns ends.
-use Rattle.std.proofs.Common.{ℕ, List, [], Result, Ok, Err, inl, refl, sym, subst}
+use Rattle.std.proofs.Common.{◌≡◌, ◌++◌, ℕ, List, [], Result, Ok, Err, inl, inr, refl, sym, subst, ◌∙◌}
 use Rattle.nj_tools.specs.Sinks.{SinkState}
 use Rattle.nj_tools.proofs.SinkLemmas.{Takes-nil}
 use Rattle.nj_ask.specs.declared.answer.Answer.{Answer}
@@ -7,10 +7,11 @@ use Rattle.nj_ask.specs.declared.answer.Told.{Told}
 use Rattle.nj_ask.specs.declared.failure.Failure.{Failure}
 use Rattle.nj_ask.specs.declared.failure.Failure.TheVariants.{Refused, Write, OutOfMemory}
 use Rattle.nj_ask.specs.declared.status.Status.{Status}
-use Rattle.nj_ask.specs.Endings.{Ending, Ends, Sinks, answered, refused}
+use Rattle.nj_ask.specs.declared.status.Status.TheVariants.{Fault}
+use Rattle.nj_ask.specs.Endings.{Ending, Ends, Reported, ReportsError, Sinks, answered, program_line, refused}
 use Rattle.nj_ask.specs.Endings.Ends.{ended, output_fails, memory_fails}
 use Rattle.nj_ask.specs.Inside.Failures.{Gives, Returns}
-use Rattle.nj_ask.specs.Results.{ConcludesTold, FailsBy}
+use Rattle.nj_ask.specs.Inside.Failures.{ConcludesTold, FailsBy}
 use Rattle.nj_ask.specs.Inside.Failures.{Delivers, WritesAnswer}
 
 -- ---- refusals
@@ -31,6 +32,15 @@ gives-refused Is given Says such (Refused line status) fails =
     subst (λ s. Is [] (refused line.items s)) (sym fails.1) (such line.items fails.0)
 gives-refused Is given Says such Write fails = absurd fails
 gives-refused Is given Says such OutOfMemory fails = tt
+
+-- an error of the system that is reported
+pub reports-error : (what why : List ℕ) (failure : Failure) (old new : SinkState) (status : Status)
+    → FailsBy Fault (λ line. line ≡ program_line (what ++ why)) failure
+    → ConcludesTold (Err failure) old new status → ReportsError what old new × (status ≡ Fault)
+reports-error what why (Refused line given) old new status fails concludes =
+    (inr (why, subst (Reported old new) fails.0 concludes.0), concludes.1 ∙ fails.1)
+reports-error what why Write old new status fails concludes = absurd fails
+reports-error what why OutOfMemory old new status fails concludes = (inl concludes.0, concludes.1)
 
 -- ---- answers
 

@@ -5,7 +5,7 @@ use Rattle.std.proofs.Common.{sym, subst}
 use Rattle.nj_ask.specs.declared.failure.Failure.{Failure}
 use Rattle.nj_ask.specs.declared.failure.Failure.TheVariants.{Refused, Write, OutOfMemory}
 use Rattle.nj_ask.specs.declared.status.Status.{Status}
-use Rattle.nj_ask.specs.Results.{FailsBy}
+use Rattle.nj_ask.specs.Inside.Failures.{FailsBy}
 
 -- a line that is described so is also described otherwise
 pub fails-as : (given : Status) (Says Tells : List ℕ → Type 0) (failure : Failure)

@@ -34,7 +34,7 @@ use Rattle.nj_ask.specs.KnownGraphs.{asks_discovered}
 use Rattle.nj_ask.specs.KnownGraphs.ReadsManifest.{refused, plain, joined, joined_present}
 use Rattle.nj_ask.specs.KnownGraphs.KnowsGraph.{declared, discovered}
 use Rattle.nj_ask.specs.KnownGraphs.LacksGraph.{by_manifest, by_log, by_discovered}
-use Rattle.nj_ask.specs.Results.{FailsBy, SaysFault}
+use Rattle.nj_ask.specs.Inside.Failures.{FailsBy, SaysFault}
 use Rattle.nj_ask.specs.Inside.GraphSteps.{AreInputsIn, KnowsByLog, LacksByLog, LacksMain, LacksManifest}
 use Rattle.nj_ask.specs.Inside.GraphSteps.LacksByLog.{no_graph, no_log}
 use Rattle.nj_ask.specs.KnownGraphs.{sources_of}

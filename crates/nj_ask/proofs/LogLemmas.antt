@@ -18,7 +18,7 @@ use Rattle.nj_ask.specs.LogsRead.{IsLogAt, IsNoLog, LacksLog, ReadsBytes, ReadsL
 use Rattle.nj_ask.specs.LogsRead.IsLogAt.{read as log_read, absent, started_over}
 use Rattle.nj_ask.specs.LogsRead.IsNoLog.{absent as no_file, no_log as no_records}
 use Rattle.nj_ask.specs.LogsRead.LacksLog.{unreadable as cannot_be_read, no_log as no_named}
-use Rattle.nj_ask.specs.Results.{FailsBy}
+use Rattle.nj_ask.specs.Inside.Failures.{FailsBy}
 use Rattle.nj_ask.specs.Inside.LogSteps.{LacksAt, ReadsAt}
 use Rattle.nj_ask.specs.Inside.LogSteps.LacksAt.{unreadable, no_log}
 use Rattle.nj_ask.proofs.FailureLemmas.{fails-as}

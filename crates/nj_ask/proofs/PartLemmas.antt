@@ -15,7 +15,7 @@ use Rattle.nj_ask.specs.Answers.{mark_misuse}
 use Rattle.nj_ask.specs.Endings.{Ending, program_line, refused}
 use Rattle.nj_ask.specs.Inside.AnswerParts.{SaysErr}
 use Rattle.nj_ask.specs.Inside.Failures.{Gives}
-use Rattle.nj_ask.specs.Results.{FailsBy, SaysFault}
+use Rattle.nj_ask.specs.Inside.Failures.{FailsBy, SaysFault}
 
 -- ---- refusals
 

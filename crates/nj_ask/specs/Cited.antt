@@ -1,16 +1,15 @@
 -- What the contracts of this crate cite: each name comes from the module in its line.
 pub use Rattle.nj_ask.specs.Answers.{AnswersAffected, folder_misuse, change_asked, outputs_asked, HasDepfileFault, IsClear, AnswersDraw}
 pub use Rattle.nj_ask.specs.Answers.{AnswersJson, AnswersKeys, asked_mark, asked_targets, keys_misuse, mark_misuse, AnswersWhy, needed_from}
-pub use Rattle.nj_ask.specs.Inside.Failures.{Gives, Delivers, WritesAnswer, Returns, Stops}
+pub use Rattle.nj_ask.specs.Inside.Failures.{Gives, FailsBy, Delivers, WritesAnswer, ConcludesTold, SaysFault, Returns, Stops}
 pub use Rattle.nj_ask.specs.Inside.Findings.{HasEdges, AreFindingsOf, text_if_faulty, if_doubtful, if_faulty}
 pub use Rattle.nj_graph.specs.Graph.{OfStatements, files_of, IsGraphOf, edges_of, rule_name}
 pub use Rattle.nj_questions.specs.Questions.{affected_model, SubjectModel, question_model, subject_model, audit_model, draw_model}
 pub use Rattle.nj_questions.specs.Questions.{asked_graph, keys_model, why_model}
 pub use Rattle.nj_ask.specs.Inside.Lent.{asked_of, change_model, texts}
-pub use Rattle.nj_ask.specs.Results.{FailsBy, ConcludesTold, SaysFault}
 pub use Rattle.nj_ask.specs.declared.status.Status.TheVariants.{Usage, Fault}
 pub use Rattle.nj_ask.specs.Reports.{no_path_line, made_from_line, HasWarnings, IsReport}
-pub use Rattle.nj_ask.specs.Endings.{Concludes, Reported, answered, memory_line, program_line, Ends}
+pub use Rattle.nj_ask.specs.Endings.{Concludes, Reported, answered, memory_line, program_line, Ends, ReportsError}
 pub use Rattle.std.specs.List.{flat_map, list_any, filter_map, filter, fold, range_with_len}
 pub use Rattle.nj_graph.specs.Handles.{edge_of, file_of, GraphEdge, paths_of, OfEdge, edges_in, files_in, detail_of_edge}
 pub use Rattle.nj_ask.specs.Drawings.{End, arrow_line, arrows_from, arrows_to, drawn_ends, edge_arrows, end_at, ends, ends_after}
@@ -74,4 +73,5 @@ pub use Rattle.nj_graph.specs.Changes.{IsAffected}
 pub use Rattle.nj_ask.specs.Laws.{DoneMissesNothing, ListedHaveReasons, WarningsAreUnique}
 pub use Rattle.nj_audit.specs.declared.kinds.Kind.TheVariants.{MissingSource}
 pub use Rattle.nj_ask.specs.Statuses.{exit_code}
+pub use Rattle.std.specs.IoError.{error_kind}
 pub use Rattle.nj_graph.specs.Targets.{picked}

@@ -40,6 +40,10 @@ answered_status looks warnings = if looks || not (is_empty warnings) then Look e
 abbrev pub Reported : (old new : SinkState) → (text : List ℕ) → Type 0
 Reported old new text = Takes old new text ⊎ FailsWithin old new text
 
+-- a line of the program's own says what cannot be done, and then why, in the words of the system; or memory ran out
+abbrev pub ReportsError : (what : List ℕ) → (old new : SinkState) → Type 0
+ReportsError what old new = Reported old new memory_line ⊎ ((why : List ℕ) × Reported old new (program_line (what ++ why)))
+
 -- What standard error got, and the status. Warnings that cannot be written are an output that fails; whether a fault's line can be
 -- written changes nothing.
 abbrev pub Concludes : Ending → (old new : SinkState) → Status → Type 0

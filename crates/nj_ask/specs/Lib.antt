@@ -22,7 +22,6 @@ pub mod NeededFaults
 pub mod Pages
 pub mod Quotes
 pub mod Reports
-pub mod Results
 pub mod Shape
 pub mod Statuses
 -- how the code does that

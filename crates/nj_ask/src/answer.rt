@@ -20,7 +20,7 @@ pub struct Answer {
 
 /// What is left to report of an answer that is on standard output.
 #[derive(Drop)]
-pub struct Told {
+pub(crate) struct Told {
     /// What may be missing from it, a line each, for standard error.
     pub warnings: Vec<u8>,
     /// Whether there is something to look at even without a warning.
@@ -60,7 +60,7 @@ fn write_answer<O: Sink>(out: &mut O, answer: Answer) -> Result<Told, Failure>
 
 /// Reports how an answer ended: its warnings, or why there is none. Where standard output failed,
 /// nothing is reported.
-pub fn conclude<E: Sink>(err: &mut E, told: &Result<Told, Failure>) -> Status
+pub(crate) fn conclude<E: Sink>(err: &mut E, told: &Result<Told, Failure>) -> Status
     ensures { ConcludesTold told.now (E.state err.old) (E.state err.new) result }
 {
     match told {

@@ -1,6 +1,6 @@
 //! Questions about a graph, asked of its files.
 
-ghost use Rattle.std.specs.Prelude.{◌≡◌, Ok, IfOk, IfErr, None, Some, is_some};
+ghost use Rattle.std.specs.Prelude.{◌≡◌, Ok, IfOk, IfErr, None, Some};
 ghost use Rattle.nj_ask.specs.Cited.{SubjectModel, Ends, listed, seeks_undeclared, IsText, kind_lines, around, AsksWith, AnswersTask, IsGiven, IsTask, OfStatements, HasEdges, question_model, subject_model, FailsBy, Usage, misuse, ended_status, sinks_of};
 
 use crate::affected::{answer_affected, check_folder};
@@ -59,7 +59,7 @@ pub(crate) fn ask<S: FileSource, B: FileSource, T: FileTimes, O: Sink, E: Sink>(
         (around (S.state files.new) (B.state built.new) (O.state out.new) (E.state err.new))
         (ended_status result) }
 {
-    if lists_kinds(&question.subject) {
+    if question.reads_nothing() {
         return without_graph(write_kinds(alloc, out, err));
     }
     let task = match task_of(alloc, &question.subject) {
@@ -86,16 +86,6 @@ pub(crate) fn without_graph(status: Status) -> Ended
     Ended {
         status,
         known: None,
-    }
-}
-
-/// Whether the kinds of findings are listed, and nothing is read.
-fn lists_kinds(subject: &Subject) -> bool
-    ensures lists { result ≡ is_some (listed (subject_model subject.now)) }
-{
-    match subject {
-        Subject::Audit(options) => options.list,
-        _ => false,
     }
 }
 

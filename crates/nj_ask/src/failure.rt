@@ -10,7 +10,7 @@ use std::alloc::{AllocError, AllocFailed, Global};
 
 /// Why there is no answer, or no more of one.
 #[derive(Drop)]
-pub enum Failure {
+pub(crate) enum Failure {
     /// This line says why, and this is the status. The line has its end.
     Refused(Vec<u8>, Status),
     /// Standard output failed.

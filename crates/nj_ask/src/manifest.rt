@@ -56,7 +56,8 @@ impl Manifest {
         path: &[u8],
     ) -> Result<bool, AllocError>
         ensures { IfOk result (λ is_opened. is_opened
-            ≡ is_named_in self.now.names (clean_name (path_in (option_copied source_dir.entry) path.now))) }
+            ≡ is_named_in self.now.names
+            (clean_name (path_in (option_copied source_dir.entry) path.now))) }
     {
         match clean_in(alloc, source_dir, path)? {
             Some(clean) => Ok(self.names.number(&clean).is_some()),

@@ -1,5 +1,5 @@
 -- Questions about the graph of a build, as values.
-use Rattle.std.specs.Prelude.{ℕ, Bool, Option, option_map, List, map, string_bytes}
+use Rattle.std.specs.Prelude.{ℕ, Bool, true, false, not, if◌then◌else◌, Option, None, option_map, List, map, string_bytes}
 use Rattle.nj_questions.specs.declared.questions.Question.{Question}
 use Rattle.nj_questions.specs.declared.questions.GraphOptions.{GraphOptions}
 use Rattle.nj_questions.specs.declared.questions.Subject.{Subject}
@@ -73,6 +73,27 @@ pub record QuestionModel : Type 0 where
   pub folder : Option (List ℕ)
   pub graph : AskedGraph
   pub subject : SubjectModel
+
+-- ---- what is taken
+
+-- nothing is read, not even the directory to change to: the kinds of findings are listed
+abbrev pub reads_nothing : SubjectModel → Bool
+reads_nothing (audit options) = options.list
+reads_nothing other = false
+
+-- the directory to change to, unless nothing is read
+abbrev pub entered_folder : QuestionModel → Option (List ℕ)
+entered_folder question = if reads_nothing question.subject then None else question.folder
+
+-- `affected` takes standard input
+abbrev pub takes_input : SubjectModel → Bool
+takes_input (affected options) = true
+takes_input other = false
+
+-- `audit` takes the path of the working directory, unless nothing is read
+abbrev pub takes_folder : SubjectModel → Bool
+takes_folder (audit options) = not options.list
+takes_folder other = false
 
 -- ---- the values of the code
 

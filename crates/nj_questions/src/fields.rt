@@ -1,7 +1,8 @@
 //! The values of a subcommand's options, as `clap` reads them.
 
 ghost use Rattle.std.specs.Prelude.{◌≡◌, IfOk, option_map, map, string_bytes};
-ghost use Rattle.nj_questions.specs.Cited.{option_copied, first_of, is_on, text_or, values_in, number_in, given_number, rows_in, word_strings};
+ghost use Rattle.std.specs.Option.{option_copied};
+ghost use Rattle.nj_questions.specs.Cited.{first_of, is_on, text_or, values_in, number_in, given_number, rows_in, word_strings};
 
 use clap::ArgMatches;
 use std::alloc::{AllocError, Global};

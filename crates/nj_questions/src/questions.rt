@@ -1,5 +1,8 @@
 //! Questions about the graph of a build.
 
+ghost use Rattle.std.specs.Prelude.{◌≡◌, option_copied};
+ghost use Rattle.nj_questions.specs.Cited.{question_model, subject_model, entered_folder, reads_nothing, takes_folder, takes_input};
+
 /// A question about a graph.
 #[derive(Drop)]
 pub struct Question {
@@ -7,6 +10,42 @@ pub struct Question {
     pub folder: Option<String>,
     pub graph: GraphOptions,
     pub subject: Subject,
+}
+
+impl Question {
+    /// Whether nothing is read for it, not even the directory of `-C`: the kinds of findings are listed.
+    pub fn reads_nothing(&self) -> bool
+        ensures { result ≡ reads_nothing (subject_model self.now.subject) }
+    {
+        match &self.subject {
+            Subject::Audit(options) => options.list,
+            _ => false,
+        }
+    }
+
+    /// The directory to change to before anything else: that of `-C`, unless nothing is read.
+    pub fn entered_folder(&self) -> Option<&str>
+        ensures { option_copied result ≡ entered_folder (question_model self.entry.now) }
+    {
+        match &self.folder {
+            Some(folder) if !self.reads_nothing() => Some(folder.as_str()),
+            _ => None,
+        }
+    }
+
+    /// Whether it takes standard input: `affected` does.
+    pub fn takes_input(&self) -> bool
+        ensures { result ≡ takes_input (subject_model self.now.subject) }
+    {
+        matches!(self.subject, Subject::Affected(_))
+    }
+
+    /// Whether it takes the path of the working directory: `audit` does, unless nothing is read.
+    pub fn takes_folder(&self) -> bool
+        ensures { result ≡ takes_folder (subject_model self.now.subject) }
+    {
+        matches!(self.subject, Subject::Audit(_)) && !self.reads_nothing()
+    }
 }
 
 /// The graph of a question.

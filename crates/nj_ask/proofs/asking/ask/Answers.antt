@@ -3,17 +3,17 @@ use Rattle.nj_ask.specs.Asks.Asks.{lists}
 use Rattle.nj_ask.specs.Inside.Asking.LeavesTold.{tells}
 use Rattle.nj_ask.specs.Inside.GraphSteps.{HasStatements}
 use Rattle.nj_ask.specs.KnownGraphs.{KnowsGraph}
-use Rattle.nj_ask.proofs.AskingLemmas.{asks-misused, asks-told, listed-kinds, none-is}
+use Rattle.nj_ask.proofs.AskingLemmas.{asks-misused, asks-told, listed-kinds, none-listed}
 use Rattle.nj_ask.proofs.AskingLemmas.{task-taken, task-unlisted, tells-lacking}
 use Rattle.nj_ask.proofs.asking.ask.Goals as goal
 
-pub returns-then-lists_kinds : goal.returns-then-lists_kinds
-returns-then-lists_kinds g c =
-    let there = listed-kinds _ (sym c.lists_kinds.ensures.lists ∙ c.if-lists_kinds.true) in
+pub returns-then-reads_nothing : goal.returns-then-reads_nothing
+returns-then-reads_nothing g c =
+    let there = listed-kinds _ (sym c.reads_nothing.ensures ∙ c.if-reads_nothing.true) in
     rw c.without_graph.ensures (lists there refl c.write_kinds.ensures)
 
 pub task_of-requires : goal.task_of-requires
-task_of-requires g c = none-is _ (sym c.lists_kinds.ensures.lists ∙ c.if-lists_kinds.false)
+task_of-requires g c = none-listed _ (sym c.reads_nothing.ensures ∙ c.if-reads_nothing.false)
 
 pub returns-in-Err : goal.returns-in-Err
 returns-in-Err g c =

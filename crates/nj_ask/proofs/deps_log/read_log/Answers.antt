@@ -6,7 +6,7 @@ use Rattle.nj_ask.specs.declared.status.Status.TheVariants.{Fault}
 use Rattle.nj_ask.specs.Endings.{program_line}
 use Rattle.nj_ask.specs.LogsRead.{LacksLog, ReadsLog, log_path}
 use Rattle.nj_ask.specs.LogsRead.LacksLog.{no_path}
-use Rattle.nj_ask.specs.Results.{FailsBy}
+use Rattle.nj_ask.specs.Inside.Failures.{FailsBy}
 use Rattle.nj_ask.specs.Inside.LogSteps.{LacksAt, ReadsAt}
 use Rattle.nj_ask.proofs.FailureLemmas.{err-as, fails-as, ok-as}
 use Rattle.nj_ask.proofs.LogLemmas.{fails-log, reads-log}

@@ -4,7 +4,7 @@ use Rattle.nj_ask.specs.Inside.GraphSteps.{Discovers, KnowsByLog, LacksByLog, La
 use Rattle.nj_ask.specs.Inside.GraphSteps.LacksByLog.{no_graph, no_log}
 use Rattle.nj_ask.specs.KnownGraphs.{FindsUndeclared, undeclared_in}
 use Rattle.nj_ask.specs.LogsRead.{LacksLog}
-use Rattle.nj_ask.specs.Results.{FailsBy}
+use Rattle.nj_ask.specs.Inside.Failures.{FailsBy}
 use Rattle.nj_ask.proofs.FailureLemmas.{err-as, fails-as, ok-both}
 use Rattle.nj_ask.proofs.graph_reading.with_log.Goals as goal
 

@@ -7,7 +7,7 @@ use Rattle.nj_graph.specs.Handles.{file_of}
 use Rattle.nj_edges.specs.EdgeGraphs.{EdgeGraph}
 use Rattle.nj_needs.specs.Growing.{grown_targets}
 use Rattle.nj_ask.specs.Answers.{HasDepfileFault, IsClear, needed_from}
-use Rattle.nj_ask.specs.Results.{FailsBy}
+use Rattle.nj_ask.specs.Inside.Failures.{FailsBy}
 use Rattle.nj_ask.specs.declared.status.Status.TheVariants.{Fault}
 use Rattle.nj_ask.proofs.WhyLemmas.{needed-grown}
 use Rattle.nj_ask.proofs.why.check_needed.Goals as goal
