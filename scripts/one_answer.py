@@ -24,7 +24,7 @@ from reference import CLAUSE, LAWS, calls_in, documentation, end_of, exported
 
 PAGE = ROOT / "docs/PROOFS.md"
 # The crates whose public calls are listed.
-COVERED = ("nj_deps", "nj_needs", "nj_graph")
+COVERED = ("nj_deps", "nj_needs", "nj_keys", "nj_audit", "nj_graph", "nj_tools")
 MARKS = re.compile(r"(<!-- one_answer -->\n).*?(<!-- end -->)", re.S)
 FUNCTION = re.compile(r"^pub fn (\w+)", re.M)
 LAW = re.compile(r"pub fn \w+\(\)\n.*\n\{\}$", re.S)

@@ -1,10 +1,9 @@
 -- What sources give that declare it.
-use Rattle.std.proofs.Common.{◌≡◌, ◌⊎◌, inl, inr, ℕ, ◌<◌, Bool, true, false, cond, Option, Some, None}
+use Rattle.std.proofs.Common.{◌≡◌, ℕ, Bool, true, false, cond, Option, Some, None}
 use Rattle.std.proofs.Common.{is_some, IfSome, unwrap_or}
-use Rattle.std.proofs.Common.{List, [], ◌∷◌, ◌++◌, map, refl, sym, ap, subst, ◌∙◌, IsUtf8, bytes_eq}
+use Rattle.std.proofs.Common.{List, [], ◌∷◌, ◌++◌, refl, sym, ap, subst, ◌∙◌, bytes_eq}
 use Rattle.std.specs.List.{AllByRecursion, filter}
 use Rattle.std.specs.Option.{option_or}
-use Rattle.std.specs.Prelude.{find}
 use Rattle.std.specs.Str.{is_utf8}
 use Rattle.std.proofs.lemmas.List.{append_cancel_left, append-nil, map-append}
 use Rattle.std.proofs.lemmas.Slice.Eq.{bytes_eq-Decides}
@@ -80,78 +79,79 @@ module _ (times : DeclaredTimes) (all : TellAll times) where
 -- ---- readings
 
 module _ (files : List ℕ → Option (Option (List ℕ))) (all : (path : List ℕ) → is_some (files path) ≡ true)
-    where
-  -- the reading of a path
-  pub declared : (path : List ℕ) → Reading
-  declared path = record { path = path; bytes = unwrap_or (files path) None }
+  where
+    -- the reading of a path
+    pub declared : (path : List ℕ) → Reading
+    declared path = record { path = path; bytes = unwrap_or (files path) None }
 
-  pub AreDeclared : List Reading → Type 0
-  AreDeclared readings = AllByRecursion (λ r. r ≡ declared r.path) readings
+    pub AreDeclared : List Reading → Type 0
+    AreDeclared readings = AllByRecursion (λ r. r ≡ declared r.path) readings
 
-  pub as-declared : (source : SourceState) → ((path : List ℕ) → source.files path ≡ files path)
-      → (readings : List Reading) → AllByRecursion (IsAsGiven source) readings → AreDeclared readings
-  unfolding AreDeclared declared
-  as-declared source same [] given = tt
-  as-declared source same (r ∷ readings) given = (
-    ap (λ b. record { path = r.path; bytes = b }) (declared-is (files r.path) r.bytes None (all r.path)
-        (subst (λ o. IfSome o (λ m. r.bytes ≡ m)) (same r.path) given.0)),
-    as-declared source same readings given.1,
-  )
+    pub as-declared : (source : SourceState) → ((path : List ℕ) → source.files path ≡ files path)
+        → (readings : List Reading) → AllByRecursion (IsAsGiven source) readings → AreDeclared readings
+    unfolding AreDeclared declared
+    as-declared source same [] given = tt
+    as-declared source same (r ∷ readings) given = (
+      ap (λ b. record { path = r.path; bytes = b }) (declared-is (files r.path) r.bytes None (all r.path)
+          (subst (λ o. IfSome o (λ m. r.bytes ≡ m)) (same r.path) given.0)),
+      as-declared source same readings given.1,
+    )
 
-  -- what is read of a path is declared
-  found-is : (readings : List Reading) → AreDeclared readings → (path : List ℕ)
-      → IfSome (reading_of readings path) (λ r. r ≡ declared path)
-  unfolding AreDeclared
-  found-is [] are path = tt
-  found-is (r ∷ readings) are path =
-      by (bytes_eq path r.path) (bytes_eq-Decides path r.path).0 (found-is readings are.1 path)
-    where
-      by : (b : Bool) → (b ≡ true → path ≡ r.path)
-          → IfSome (reading_of readings path) (λ s. s ≡ declared path)
-          → IfSome (cond b (Some r) (reading_of readings path)) (λ s. s ≡ declared path)
-      by true same rest = are.0 ∙ ap declared (sym (same refl))
-      by false same rest = rest
+    -- what is read of a path is declared
+    found-is : (readings : List Reading) → AreDeclared readings → (path : List ℕ)
+        → IfSome (reading_of readings path) (λ r. r ≡ declared path)
+    unfolding AreDeclared
+    found-is [] are path = tt
+    found-is (r ∷ readings) are path =
+        by (bytes_eq path r.path) (bytes_eq-Decides path r.path).0 (found-is readings are.1 path)
+      where
+        by : (b : Bool) → (b ≡ true → path ≡ r.path)
+            → IfSome (reading_of readings path) (λ s. s ≡ declared path)
+            → IfSome (cond b (Some r) (reading_of readings path)) (λ s. s ≡ declared path)
+        by true same rest = are.0 ∙ ap declared (sym (same refl))
+        by false same rest = rest
 
-  swap : (r : Reading) (one other : Option Reading) → IfSome one (λ s. s ≡ r) → IfSome other (λ s. s ≡ r)
-      → option_or one other ≡ option_or other one
-  swap r None None is also = refl
-  swap r None (Some t) is also = refl
-  swap r (Some s) None is also = refl
-  swap r (Some s) (Some t) is also = ap Some (is ∙ sym also)
+    swap : (r : Reading) (one other : Option Reading) → IfSome one (λ s. s ≡ r) → IfSome other (λ s. s ≡ r)
+        → option_or one other ≡ option_or other one
+    swap r None None is also = refl
+    swap r None (Some t) is also = refl
+    swap r (Some s) None is also = refl
+    swap r (Some s) (Some t) is also = ap Some (is ∙ sym also)
 
-  -- in which order tables of declared readings are joined does not matter
-  pub either-order : (old one other : List Reading) → AreDeclared one → AreDeclared other → (path : List ℕ)
-      → reading_of ((old ++ one) ++ other) path ≡ reading_of ((old ++ other) ++ one) path
-  either-order old one other are also path =
-      let test : Reading → Bool = λ r. bytes_eq path r.path in
-      find-append test (old ++ one) other ∙ ap (λ r. option_or r (reading_of other path))
-          (find-append test old one)
-      ∙ by (reading_of old path)
-      ∙ sym (find-append test (old ++ other) one
-      ∙ ap (λ r. option_or r (reading_of one path)) (find-append test old other))
-    where
-      by : (first : Option Reading)
-          → option_or (option_or first (reading_of one path)) (reading_of other path)
-          ≡ option_or (option_or first (reading_of other path)) (reading_of one path)
-      by None = swap (declared path) (reading_of one path) (reading_of other path) (found-is one are path)
-          (found-is other also path)
-      by (Some r) = refl
+    -- in which order tables of declared readings are joined does not matter
+    pub either-order : (old one other : List Reading) → AreDeclared one → AreDeclared other → (path : List ℕ)
+        → reading_of ((old ++ one) ++ other) path ≡ reading_of ((old ++ other) ++ one) path
+    either-order old one other are also path =
+        let test : Reading → Bool = λ r. bytes_eq path r.path in
+        find-append test (old ++ one) other ∙ ap (λ r. option_or r (reading_of other path))
+        (find-append test old one)
+        ∙ by (reading_of old path)
+        ∙ sym (find-append test (old ++ other) one
+        ∙ ap (λ r. option_or r (reading_of one path)) (find-append test old other))
+      where
+        by : (first : Option Reading)
+            → option_or (option_or first (reading_of one path)) (reading_of other path)
+            ≡ option_or (option_or first (reading_of other path)) (reading_of one path)
+        by None = swap (declared path) (reading_of one path) (reading_of other path) (found-is one are path)
+            (found-is other also path)
+        by (Some r) = refl
 
-  same-rest : (one other : List Reading) → AreDeclared one → AreDeclared other → paths_of one ≡ paths_of other
-      → one ≡ other
-  unfolding AreDeclared
-  same-rest [] [] are also paths = refl
-  same-rest [] (s ∷ other) are also paths = absurd cc
-  same-rest (r ∷ one) [] are also paths = absurd cc
-  same-rest (r ∷ one) (s ∷ other) are also paths =
-      let path : r.path ≡ s.path = cc in
-      let rest : paths_of one ≡ paths_of other = cc in
-      ap (λ x. x ∷ one) (are.0 ∙ ap declared path ∙ sym also.0)
-      ∙ ap (λ xs. s ∷ xs) (same-rest one other are.1 also.1 rest)
+    same-rest : (one other : List Reading) → AreDeclared one → AreDeclared other
+        → paths_of one ≡ paths_of other
+        → one ≡ other
+    unfolding AreDeclared
+    same-rest [] [] are also paths = refl
+    same-rest [] (s ∷ other) are also paths = absurd cc
+    same-rest (r ∷ one) [] are also paths = absurd cc
+    same-rest (r ∷ one) (s ∷ other) are also paths =
+        let path : r.path ≡ s.path = cc in
+        let rest : paths_of one ≡ paths_of other = cc in
+        ap (λ x. x ∷ one) (are.0 ∙ ap declared path ∙ sym also.0)
+        ∙ ap (λ xs. s ∷ xs) (same-rest one other are.1 also.1 rest)
 
-  -- declared readings of the same paths are the same
-  pub same-readings : (old one other : List Reading) → AreDeclared one → AreDeclared other
-      → paths_of (old ++ one) ≡ paths_of (old ++ other) → old ++ one ≡ old ++ other
-  same-readings old one other are also paths = ap (λ rs. old ++ rs) (same-rest one other are also
-      (append_cancel_left (paths_of old) (paths_of one) (paths_of other)
-      (sym (map-append (λ r. r.path) old one) ∙ paths ∙ map-append (λ r. r.path) old other)))
+    -- declared readings of the same paths are the same
+    pub same-readings : (old one other : List Reading) → AreDeclared one → AreDeclared other
+        → paths_of (old ++ one) ≡ paths_of (old ++ other) → old ++ one ≡ old ++ other
+    same-readings old one other are also paths = ap (λ rs. old ++ rs) (same-rest one other are also
+        (append_cancel_left (paths_of old) (paths_of one) (paths_of other)
+        (sym (map-append (λ r. r.path) old one) ∙ paths ∙ map-append (λ r. r.path) old other)))

@@ -1,16 +1,15 @@
 -- Two searches for discovered inputs, in sources that declare the same.
-use Rattle.std.proofs.Common.{◌≡◌, ◌⊎◌, inl, inr, ℕ, ◌<◌, Bool, true, false, cond, Option, Some, None, Result}
+use Rattle.std.proofs.Common.{◌≡◌, inl, inr, ℕ, ◌<◌, true, cond, Option, Some, None, Result}
 use Rattle.std.proofs.Common.{Ok, Err, IfOk}
-use Rattle.std.proofs.Common.{List, length, refl, sym, ap, subst, ◌∙◌, unwrap_or, IfSome, is_some}
+use Rattle.std.proofs.Common.{List, refl, sym, ap, subst, ◌∙◌, unwrap_or, IfSome, is_some}
 use Rattle.std.specs.Prelude.{option_and_then}
 use Rattle.std.specs.Str.{is_utf8}
 use Rattle.std.proofs.lemmas.Option.{same_Some}
 use Rattle.std.proofs.lemmas.Str.{is_utf8-from_IsUtf8}
 use Rattle.nj_scope.specs.ReadingList.{ReadStatement}
 use Rattle.nj_scope.specs.Sources.{SourceState, Rises}
-use Rattle.nj_edges.specs.Edges.{EdgePaths, first_output, edge_at}
+use Rattle.nj_edges.specs.Edges.{EdgePaths, first_output}
 use Rattle.nj_deps.specs.Logs.{LogModel, OutputModel}
-use Rattle.nj_discovered.specs.declared.times.TimeFound.{TimeFound}
 use Rattle.nj_discovered.specs.Times.{DeclaredTimes, IsTimeOf}
 use Rattle.nj_discovered.specs.Discovered.{Discovery, IsByLog, IsTextOf, IsByText, IsDiscovered, TextFound}
 use Rattle.nj_discovered.specs.Discovered.{record_of, by_record, by_text}
@@ -84,7 +83,7 @@ module _ (before after before2 after2 : SourceState) (same : DeclareSame before 
         → IsByText before after edge depfile one → IsByText before2 after2 edge depfile other → one ≡ other
     texts-agree edge depfile one other (text, is, found) (text2, also, found2) =
         found ∙ ap (by_text edge) (text-is before.files same.all before after (λ path. refl) quiet depfile
-            text is
+        text is
         ∙ sym (text-is before.files same.all before2 after2 same.same quiet2 depfile text2 also)) ∙ sym found2
 
     edges-agree : (edge : EdgePaths) (deps depfile : List ℕ) (one other : Discovery)

@@ -1,7 +1,7 @@
 -- Two graphs of the same statements.
 use Rattle.std.proofs.Common.{◌≡◌, ◌⊎◌, inl, inr, ℕ, ◌<◌, Option, Result, Ok, Err, IfOk, List, length}
 use Rattle.std.proofs.Common.{slice_get}
-use Rattle.std.proofs.Common.{refl, sym, ap, subst, ◌∙◌}
+use Rattle.std.proofs.Common.{sym, ap, subst, ◌∙◌}
 use Rattle.std.proofs.lemmas.Bool.{cases_order}
 use Rattle.std.proofs.lemmas.Option.{same_Some}
 use Rattle.nj_scope.specs.ReadingList.{ReadStatement}
@@ -11,7 +11,7 @@ use Rattle.nj_edges.specs.Edges.{EdgePaths, first_output}
 use Rattle.nj_edges.specs.Needs.{makers_of_inputs}
 use Rattle.nj_faults.specs.declared.fault.GraphFault.{GraphFault}
 use Rattle.nj_faults.specs.declared.fault.Cause.TheVariants.{Cycle}
-use Rattle.nj_faults.specs.Faults.{fault_at, no_memory}
+use Rattle.nj_faults.specs.Faults.{fault_at}
 use Rattle.nj_statements.specs.EdgeList.{EdgeModel, edges_read, paths_of_edges}
 use Rattle.nj_statements.specs.Built.{IsCycleFault}
 use Rattle.nj_graph.specs.Graph.{GraphModel, IsGraphOf, edges_of}

@@ -1,10 +1,13 @@
+mod AuditAnswers
 mod DeclaredAnswers
 mod DepsAnswers
 mod DiscoverAnswers
 mod FileNumbers
 mod GraphAnswers
+mod KeyAnswers
 mod LoadAnswers
 mod NeedsAnswers
 mod ReachedAnswers
 mod TargetAnswers
+mod ToolAnswers
 mod UndeclaredAnswers

@@ -2,35 +2,33 @@
 use Rattle.std.proofs.Common.{◌≡◌, ◌⊎◌, inl, inr, ℕ, zero, suc, Bool, true, false, cond, nat_lt, Option, Some}
 use Rattle.std.proofs.Common.{None, Result, Ok, Err}
 use Rattle.std.proofs.Common.{IfOk, List, [], ◌∷◌, ◌++◌, refl, sym, ap, subst, ◌∙◌}
-use Rattle.std.specs.Prelude.{is_some}
 use Rattle.std.proofs.Math.Path.{fun_ext}
 use Rattle.std.specs.Str.{is_utf8}
 use Rattle.nj_scope.specs.Readings.{Reading, reading_of, paths_of, IsPrefix}
 use Rattle.nj_scope.specs.Sources.{SourceState}
 use Rattle.nj_scope.specs.ReadingList.{ReadStatement, files_opened}
-use Rattle.nj_faults.specs.declared.fault.Place.{Place}
 use Rattle.nj_faults.specs.declared.fault.GraphFault.{GraphFault}
-use Rattle.nj_faults.specs.declared.fault.Cause.TheVariants.{PathNotText, TooDeep, TooManyOpenings}
+use Rattle.nj_faults.specs.declared.fault.Cause.TheVariants.{PathNotText, TooManyOpenings}
 use Rattle.nj_faults.specs.Limits.{most_within, most_opened}
 use Rattle.nj_statements.specs.EdgeList.{Pending, edges_read, pending_read}
 use Rattle.nj_statements.specs.Built.{IsCycleFault}
 use Rattle.nj_statements.specs.Joining.{dyndep_files}
-use Rattle.nj_graph.specs.Graph.{GraphModel, IsGraphOf}
+use Rattle.nj_graph.specs.Graph.{IsGraphOf}
 use Rattle.nj_discovered.specs.Times.{DeclaredTimes}
 use Rattle.nj_graph.specs.Origins.{OriginsModel, main_of}
-use Rattle.nj_graph.specs.Reading.{End, Whole, Refused, Lacking, ReadingModel, Opens, Site, outcome_read}
+use Rattle.nj_graph.specs.Reading.{End, Whole, Refused, Lacking, ReadingModel, Opens, outcome_read}
 use Rattle.nj_graph.specs.Reading.{stopped, text_read}
 use Rattle.nj_graph.specs.Reading.{opened_in, main_read, main_site, main_place, paths_come_to, with_all_new}
-use Rattle.nj_graph.specs.Runs.{ReachedModel, IsRead, IsEnd, IsLacking, Stops}
+use Rattle.nj_graph.specs.Runs.{ReachedModel, IsEnd, IsLacking, Stops}
 use Rattle.nj_graph.specs.Joining.{statement_place, text_joined, path_asked, continued, file_joined}
 use Rattle.nj_graph.specs.Joining.{files_joined}
-use Rattle.nj_graph.specs.Joining.{ArePresent, Joins, JoinsPresent, all_joined, some_joined_after}
-use Rattle.nj_graph.specs.Loads.{LoadedModel, IsWhole, IsLoaded, HasCycle, LoadingFails, LoadedOr, LoadsAfter}
+use Rattle.nj_graph.specs.Joining.{Joins, JoinsPresent, all_joined, some_joined_after}
+use Rattle.nj_graph.specs.Loads.{LoadedModel, IsWhole, LoadedOr, LoadsAfter}
 use Rattle.nj_graph.specs.Loads.{main_reached}
 use Rattle.nj_graph.proofs.OtherFiles.{others_are_not_read}
 use Rattle.nj_graph.proofs.Tables.{reading-kept}
 use Rattle.nj_one_answer.specs.Agreement.{AgreeUpTo}
-use Rattle.nj_one_answer.specs.Graphs.{SameGraph, SameLoaded}
+use Rattle.nj_one_answer.specs.Graphs.{SameLoaded}
 use Rattle.nj_one_answer.specs.Memory.{IsUnread}
 use Rattle.nj_one_answer.specs.Sources.{DeclareSame, TellAll}
 use Rattle.nj_one_answer.proofs.GraphAnswers.{same-graph, same-origins, one-cycle, no-cycle}
@@ -150,13 +148,13 @@ fits-agree main reached (Ok a) (Err f) (entries, is, graph, paths) (inl bad) _ _
     absurd (not-both reached entries f is bad)
 fits-agree main reached (Ok a) (Err f) (entries, is, graph, paths) (inr (others, also, cycle)) _ _ _ =
     absurd (no-cycle a.graph others f (subst (IsGraphOf a.graph) (entries-are reached entries others is also)
-        graph)
+    graph)
     cycle)
 fits-agree main reached (Err e) (Ok b) (inl bad) (entries, is, graph, paths) _ _ _ =
     absurd (not-both reached entries e is bad)
 fits-agree main reached (Err e) (Ok b) (inr (others, also, cycle)) (entries, is, graph, paths) _ _ _ =
     absurd (no-cycle b.graph others e (subst (IsGraphOf b.graph) (entries-are reached entries others is also)
-        graph)
+    graph)
     cycle)
 fits-agree main reached (Err e) (Err f) (inl bad) (inl worse) _ _ _ =
     let same : Refused e ≡ Refused f = sym bad ∙ worse in
@@ -279,7 +277,7 @@ module _ (stated : List ReadStatement) where
     found_joined : Option Reading → ReadingModel
     found_joined found = cond (is_utf8 p.file)
         (outcome_read p.file (statement_place stated p.edge) joined
-            (λ text. text_joined p.file stated text joined) found)
+        (λ text. text_joined p.file stated text joined) found)
         (stopped joined (statement_place stated p.edge) PathNotText)
 
     file-is : (files : List Reading) → file_joined files stated p joined
@@ -391,9 +389,9 @@ module _ (loaded other : LoadedModel) (same : loaded ≡ other) (entries : List 
         let from_same = subst (λ (l : LoadedModel). Keeps l b) (sym same) from2 in
         loads-agree (some_joined_after loaded.files entries ps) (joined-kept entries loaded.files ps)
         (joined-by-paths entries loaded.files ps) (main_of loaded.graph.origins) loaded.files before after
-            before2
+        before2
         after2 sources a b (is entries graph) (also_same entries graph)
-            (main-from a loaded.graph.origins from)
+        (main-from a loaded.graph.origins from)
         (main-from b loaded.graph.origins from_same)
 
     pub present-joins-agree : (times : DeclaredTimes) → TellAll times → (a b : Result LoadedModel GraphFault)
@@ -411,10 +409,10 @@ module _ (loaded other : LoadedModel) (same : loaded ≡ other) (entries : List 
         let present : second.0 ≡ first.0 =
         present-are times all ps second.0 second.1 ∙ sym (present-are times all ps first.0 first.1) in
         loads-agree (some_joined_after loaded.files entries first.0)
-            (joined-kept entries loaded.files first.0)
+        (joined-kept entries loaded.files first.0)
         (joined-by-paths entries loaded.files first.0) (main_of loaded.graph.origins) loaded.files before
-            after before2
+        after before2
         after2 sources a b first.2
         (subst (λ qs. LoadsAfter loaded.files before2 after2 (some_joined_after loaded.files entries qs) b)
-            present
+        present
         second.2) (main-from a loaded.graph.origins from) (main-from b loaded.graph.origins from_same)

@@ -1,5 +1,5 @@
 -- Two answers to one word.
-use Rattle.std.proofs.Common.{◌≡◌, ◌⊎◌, inl, inr, ℕ, Some, Result, Ok, Err, List, slice_get, refl, sym, ap}
+use Rattle.std.proofs.Common.{◌≡◌, ◌⊎◌, inl, inr, ℕ, Some, Result, Ok, Err, List, sym, ap}
 use Rattle.std.proofs.Common.{subst, ◌∙◌, bytes_eq}
 use Rattle.std.specs.Global.{Vec}
 use Rattle.std.specs.List.{IsDistinct}
@@ -8,7 +8,7 @@ use Rattle.nj_names.specs.Files.{AreFiles}
 use Rattle.nj_faults.specs.declared.fault.GraphFault.{GraphFault}
 use Rattle.nj_faults.specs.Faults.{no_memory}
 use Rattle.nj_graph.specs.Graph.{GraphModel}
-use Rattle.nj_graph.specs.Handles.{GraphFile, GraphFiles, file_of}
+use Rattle.nj_graph.specs.Handles.{GraphFiles, file_of}
 use Rattle.nj_graph.specs.declared.handles.File.{File}
 use Rattle.nj_graph.specs.Targets.{Picks, PicksFile, PicksFiles, PicksTargets}
 use Rattle.nj_one_answer.specs.Agreement.{AgreeUpTo, AgreeBut}

@@ -1,5 +1,5 @@
 -- Two lists of undeclared inputs.
-use Rattle.std.proofs.Common.{◌≡◌, ℕ, ◌<◌, Result, Ok, Err, IfOk, List, [], ◌∷◌, length, map, refl, sym, ap}
+use Rattle.std.proofs.Common.{◌≡◌, ℕ, ◌<◌, Result, Ok, Err, IfOk, List, [], ◌∷◌, length, map, refl, ap}
 use Rattle.std.proofs.Common.{◌∙◌, bytes_eq}
 use Rattle.std.specs.Global.{Vec}
 use Rattle.std.specs.List.{All, IsDistinct}
@@ -12,7 +12,7 @@ use Rattle.nj_graph.specs.Undeclared.{AreThose, AreUndeclared, InputOfEdge, inpu
 use Rattle.nj_graph.specs.Undeclared.AreThose.{none, has_it, lacks_it}
 use Rattle.nj_one_answer.specs.Agreement.{AgreeIfOk}
 
-those-agree : {A : Type 0} {P : A → Type 0} (items one other : List A) → AreThose P items one
+pub those-agree : {A : Type 0} {P : A → Type 0} (items one other : List A) → AreThose P items one
     → AreThose P items other → one ≡ other
 those-agree _ _ _ none none = refl
 those-agree _ _ _ (has_it {item} is are) (has_it also are2) =

@@ -18,3 +18,10 @@ AgreeIfOk Same (Ok one) (Ok other) = Same one other
 AgreeIfOk Same (Ok one) (Err other) = Unit {0}
 AgreeIfOk Same (Err one) (Ok other) = Unit {0}
 AgreeIfOk Same (Err one) (Err other) = Unit {0}
+
+-- both are values, and the same, or both are errors, and the same
+abbrev pub AgreeBoth : {T E : Type 0} → (Same : T → T → Type 0) → (SameError : E → E → Type 0) → (one other : Result T E) → Type 0
+AgreeBoth Same SameError (Ok one) (Ok other) = Same one other
+AgreeBoth Same SameError (Ok one) (Err other) = ⊥
+AgreeBoth Same SameError (Err one) (Ok other) = ⊥
+AgreeBoth Same SameError (Err one) (Err other) = SameError one other

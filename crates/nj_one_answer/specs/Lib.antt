@@ -1,7 +1,10 @@
 -- the definitions to believe
 pub mod Agreement
+pub mod AuditKinds
 pub mod Graphs
+pub mod KeyPages
 pub mod Memory
+pub mod Sinks
 pub mod Sources
 pub mod Walks
 -- what the contracts cite

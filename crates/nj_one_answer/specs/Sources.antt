@@ -1,5 +1,5 @@
 -- What two sources have in common.
-use Rattle.std.specs.Prelude.{◌≡◌, ℕ, Bool, true, is_some, List}
+use Rattle.std.specs.Prelude.{◌≡◌, ℕ, true, is_some, List}
 use Rattle.nj_scope.specs.Sources.{SourceState, Rises}
 use Rattle.nj_discovered.specs.Times.{DeclaredTimes}
 

@@ -5,10 +5,14 @@
 //! contract allows differ in more than the function's documentation names as free.
 #![tactic(auto)]
 
+mod audits;
 mod deps;
 mod graph;
+mod keys;
 mod needs;
+mod tools;
 
+pub use audits::{audit, findings_extend, findings_push, findings_push_at, kinds_from_words};
 pub use deps::{deps_log_read, deps_log_read_with_keys};
 pub use graph::edge_values::{
     edge_append_variable, edge_command, edge_command_with_rsp, edge_variable, graph_command,
@@ -29,7 +33,12 @@ pub use graph::targets::{
     graph_pick_named, graph_pick_targets, graph_target, graph_targets, pick_target,
 };
 pub use graph::undeclared::undeclared_inputs;
+pub use keys::{bases_add, bases_append_mapped, page_from};
 pub use needs::{
     grow_targets, mark_from_numbers, mark_read, mark_to_text, needs_mark, needs_mark_after_page,
     needs_new, needs_next, needs_next_on_page, needs_resume,
+};
+pub use tools::{
+    write_commands, write_compdb, write_edge_objects, write_inputs, write_query, write_rules,
+    write_single_commands, write_targets, write_whole,
 };

@@ -1,4 +1,4 @@
-use Rattle.std.proofs.Common.{ap, sym, subst, ◌∙◌}
+use Rattle.std.proofs.Common.{subst}
 use Rattle.nj_graph.specs.Graph.{IsGraphOf}
 use Rattle.nj_discovered.specs.Discoveries.{discovery_at}
 use Rattle.nj_one_answer.proofs.GraphAnswers.{joins-agree, same-from}
@@ -11,4 +11,4 @@ returns c = λ entries is. joins-agree (λ edge. (discovery_at c.args.found.now 
     (c.join_discovered-2.ensures.joins entries (subst (λ g. IsGraphOf g entries) c.requires.same is))
     c.join_discovered.ensures.origins
     (same-from c.args.one c.args.other c.requires.same c.join_discovered-2.result
-        c.join_discovered-2.ensures.origins)
+    c.join_discovered-2.ensures.origins)

@@ -7,5 +7,5 @@ pub returns : goal.returns
 returns c =
     let g = c.args.graph.now in
     same-numbers (files_of g) c.files-files.ensures.each_path_once c.defaults.result.now
-        c.defaults-2.result.now
+    c.defaults-2.result.now
     (defaults_in_force g.built.defaults (edges_of g)) c.defaults.ensures.files c.defaults-2.ensures.files

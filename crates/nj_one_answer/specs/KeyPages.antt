@@ -1,0 +1,8 @@
+-- When two pages of keys are the same.
+use Rattle.std.specs.Prelude.{◌≡◌}
+use Rattle.nj_keys.specs.declared.pages.Page.{Page}
+
+-- they have the same lines and the same mark
+pub record SamePage (one other : Page) : Type 0 where
+  pub lines : one.lines.items ≡ other.lines.items
+  pub mark : one.mark ≡ other.mark

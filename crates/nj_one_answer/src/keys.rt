@@ -1,0 +1,58 @@
+//! The calls of `nj_keys`.
+
+ghost use Rattle.std.specs.Prelude.{◌≡◌, OnErr, OnOk};
+ghost use Rattle.nj_one_answer.specs.Cited.{AgreeIfOk, AgreeUpTo, IsMarkOutOfMemory, OfStatements, SamePage};
+
+use nj_graph::FileList;
+use nj_keys::{Bases, Page};
+use nj_needs::{Mark, MarkFault};
+use std::alloc::{AllocError, Global};
+
+/// Free: whether memory lacks.
+pub fn bases_add(
+    alloc: Global,
+    one: &mut Bases,
+    other: &mut Bases,
+    path: &[u8],
+) -> (Result<bool, AllocError>, Result<bool, AllocError>)
+    requires { one.old ≡ other.old }
+    ensures agree { AgreeIfOk (λ a b. a ≡ b) result.0 result.1 }
+    ensures added { OnOk result.0 (OnOk result.1 (one.new ≡ other.new)) }
+    ensures refused { OnErr result.0 (OnErr result.1 (one.new ≡ other.new)) }
+{
+    (one.add(alloc, path), other.add(alloc, path))
+}
+
+/// Free: whether memory lacks, and what has been appended then.
+pub fn bases_append_mapped(
+    bases: &Bases,
+    one: &mut Vec<u8>,
+    other: &mut Vec<u8>,
+    text: &[u8],
+) -> (Result<(), AllocError>, Result<(), AllocError>)
+    requires { one.old.items ≡ other.old.items }
+    ensures { OnOk result.0 (OnOk result.1 (one.new.items ≡ other.new.items)) }
+{
+    (
+        bases.append_mapped(one, text),
+        bases.append_mapped(other, text),
+    )
+}
+
+/// For a graph of statements. Free: whether memory lacks.
+pub fn page_from(
+    alloc: Global,
+    bases: &Bases,
+    targets: &FileList<'_>,
+    mark: &Mark,
+    take: Option<u64>,
+) -> (Result<Page, MarkFault>, Result<Page, MarkFault>)
+    ensures { OfStatements targets.now.graph (λ entries.
+        AgreeUpTo SamePage IsMarkOutOfMemory result.0 result.1) }
+{
+    nj_keys::lines_law();
+    (
+        nj_keys::page_from(alloc, bases, targets, mark, take),
+        nj_keys::page_from(alloc, bases, targets, mark, take),
+    )
+}
