@@ -9,7 +9,7 @@ crate for clients re-exports come first, and each call once.
 A call is a public function of a library, or a method of a public type. Of its contract the names of
 the clauses are shown, each with the definitions of ours that it cites. The must-fail edits of a call
 are those that change its body. The crates that make a call in a test or an example are named where
-no other public call has its name.
+no other public call has its name. Functions below `one_answer` make a call twice, and are left out.
 """
 
 import argparse
@@ -224,6 +224,7 @@ def page():
         if root_of(crate).name == "lib.rt" and crate not in CALLERS and crate != LAWS:
             public = exported(crate)
             files = sorted((CRATES / crate).glob("src/**/*.rt"))
+            files = [file for file in files if file.parent.name != "one_answer"]
             calls = [call for file in files for call in calls_in(crate, file, public)]
             types = dict(it for file in files for it in types_in(file, public))
             add_edits(crate, calls)

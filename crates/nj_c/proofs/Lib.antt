@@ -12,6 +12,9 @@ mod LoadRows
 mod LogLemmas
 mod MachineValues
 mod MadeLemmas
+mod OneAnswerCalls
+mod OneAnswerGraphs
+mod OneAnswerLemmas
 mod PageLemmas
 mod RunLemmas
 mod SessionValues

@@ -31,13 +31,16 @@ pub use Rattle.nj_faults.specs.Faults.{no_memory}
 pub use Rattle.nj_c.specs.Inside.Results.{FinishesLoad, KeepsFault, KeepsLoad, KeepsResult, AreStatements}
 pub use Rattle.nj_ask.specs.MadeFrom.{TellMadeFrom}
 pub use Rattle.nj_c.specs.MadeFrom.{FlagsKeptUnlessDone, GivesMadeFrom}
+pub use Rattle.nj_c.specs.OneAnswer.{SameAnswer, IfStated, SameBuffer, InMemory, OfAnyGraph}
+pub use Rattle.nj_edges.specs.Needs.{makers_of_inputs}
+pub use Rattle.nj_cycles.specs.Cycles.{IsAcyclic}
+pub use Rattle.std.specs.List.{IsDistinct, flat_map, list_any, filter}
 pub use Rattle.nj_needs.specs.Graphs.{makers_of, row_of}
 pub use Rattle.nj_needs.specs.Marks.{is_valid}
 pub use Rattle.nj_c.specs.Paths.{numbered_step, GivesPath, StepsKeptUnlessDone}
 pub use Rattle.nj_c.specs.Targets.{PicksFile}
 pub use Rattle.nj_c.specs.Inside.RunsHeld.{empty_memory, FinishesRun, KeepsRun, NoFailures, NoRun, Ran, WordsRefused}
 pub use Rattle.nj_scope.specs.Sources.{outcome_bytes}
-pub use Rattle.std.specs.List.{flat_map, list_any, filter}
 pub use Rattle.nj_c.specs.Inside.SuppliedHeld.{read_bytes, wanted_of}
 pub use Rattle.nj_c.specs.UndeclaredInputs.{numbered_input, GivesInputs, GivesUndeclared, InputsKeptUnlessDone}
 pub use Rattle.nj_names.specs.NameTables.{with_name}

@@ -14,6 +14,7 @@ pub mod DirtyEdges
 pub mod MadeFrom
 pub mod Paths
 pub mod UndeclaredInputs
+pub mod OneAnswer
 -- how a session keeps its contents
 pub mod Inside
 -- what the contracts cite

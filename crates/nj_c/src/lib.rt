@@ -21,6 +21,7 @@ mod lacking_depfiles;
 mod laws;
 mod loads;
 mod made_from;
+mod one_answer;
 mod opened_files;
 mod pages;
 mod paths;
@@ -63,3 +64,22 @@ pub use session::Session;
 pub use sessions::{nx_add_absent, nx_add_file, nx_close, nx_open, nx_version};
 pub use undeclared_inputs::{EdgeInput, nx_undeclared};
 pub use values::{nx_command, nx_variable};
+
+// Calls that are made twice, with the same arguments. C does not see them.
+pub use one_answer::counts::{edge_count_twice, file_count_twice, rule_count_twice};
+pub use one_answer::edges::{
+    edge_file_twice, edge_place_twice, explicit_inputs_twice, explicit_outputs_twice, input_twice,
+    is_phony_twice, output_twice, rule_name_twice, validation_twice,
+};
+pub use one_answer::faults::{
+    fault_file_twice, fault_kind_twice, fault_line_twice, fault_place_twice,
+};
+pub use one_answer::files::{
+    file_named_twice, maker_twice, path_twice, user_twice, validation_user_twice,
+};
+pub use one_answer::graphs::graph_is_sound;
+pub use one_answer::lists::{
+    default_twice, found_twice, opened_twice, page_mark_twice, root_twice, rule_name_at_twice,
+    wanted_twice,
+};
+pub use one_answer::values::{command_twice, variable_twice};

@@ -1,0 +1,24 @@
+use Rattle.std.proofs.Common.{length, rules, sym, w32, ◌∙◌, ◌≡◌}
+use Rattle.nj_edges.specs.Edges.{edge_at}
+use Rattle.nj_graph.specs.Graph.{edges_of}
+use mir.Val.{SFits}
+use Rattle.nj_c.proofs.OneAnswerCalls.{value-at-number}
+use Rattle.nj_c.proofs.OneAnswerGraphs.{edge_total, graph_in}
+use Rattle.nj_c.proofs.OneAnswerLemmas.{passed}
+use Rattle.nj_c.specs.OneAnswer.{SameAnswer}
+use Rattle.nj_c.proofs.one_answer.edges.explicit_inputs_twice.Goals as goal
+
+pub returns-clause-same : goal.returns-clause-same
+returns-clause-same c =
+    let fits : SFits w32 c.nx_explicit_inputs.result = search rules in
+    let fits2 : SFits w32 c.nx_explicit_inputs-2.result = search rules in
+    passed (λ r s. SameAnswer r s (c.nx_explicit_inputs.new.count ≡ c.nx_explicit_inputs-2.new.count)) fits
+    fits2 (value-at-number graph_in c.args.one.now.kept c.args.other.now.kept c.requires
+    c.nx_explicit_inputs.result c.nx_explicit_inputs-2.result edge_total c.args.edge (λ g. length (edge_at
+    (edges_of g) c.args.edge).explicit_inputs) c.nx_explicit_inputs.new.count
+    c.nx_explicit_inputs-2.new.count c.nx_explicit_inputs.ensures.count
+    c.nx_explicit_inputs-2.ensures.count)
+
+pub returns-clause-kept : goal.returns-clause-kept
+returns-clause-kept c =
+    c.nx_explicit_inputs.ensures.kept ∙ c.requires ∙ sym c.nx_explicit_inputs-2.ensures.kept

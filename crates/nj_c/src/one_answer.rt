@@ -1,0 +1,14 @@
+//! What the contracts of the exports leave open.
+//!
+//! Each function makes one call twice, in two sessions with the same contents and with the same
+//! arguments, and its contract says what the two answers have in common. Its proof sees the contract
+//! of the call alone. So no two answers that the contract allows differ in more than the function's
+//! documentation names as free. C does not see these functions.
+
+pub mod counts;
+pub mod edges;
+pub mod faults;
+pub mod files;
+pub mod graphs;
+pub mod lists;
+pub mod values;
