@@ -82,7 +82,7 @@ missing_source g missing serving file =
     option_map (λ edge. edge_finding g edge MissingSource (path_of g file))
     (user_of_missing g missing serving file)
 
--- the files are in the order in which the statements name them first
+-- in the order of the numbers of the files
 abbrev pub missing_sources : GraphModel → (missing serving : List Bool) → List FindingModel
 missing_sources g missing serving =
     filter_map (missing_source g missing serving) (numbers (length (files_of g)))

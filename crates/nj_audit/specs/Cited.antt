@@ -11,9 +11,8 @@ pub use Rattle.nj_scope.specs.ReadingList.{ReadStatement}
 pub use Rattle.nj_graph.specs.Edges.{is_among, inputs_of, maker_of}
 pub use Rattle.nj_audit.specs.Audit.{commands_at, repeated_commands, has_depfile_without_deps, depfiles_without_deps, repeated_inputs}
 pub use Rattle.nj_audit.specs.Audit.{repeated_inputs_at, path_of, unused_outputs, unused_outputs_at, is_unused_output, first_output_at}
-pub use Rattle.nj_audit.specs.Audit.{pools_of_edges, unused_pool, unused_pools, is_used_rule, unused_rule, unused_rules, is_set}
-pub use Rattle.nj_audit.specs.Audit.{missing_sources, edge_numbers, is_known, names_in, rule_at, unused_names, unused_variables}
-pub use Rattle.nj_audit.specs.Audit.{unused_variables_at}
+pub use Rattle.nj_audit.specs.Audit.{pools_of_edges, unused_pool, unused_pools, is_used_rule, unused_rules, is_set, missing_sources}
+pub use Rattle.nj_audit.specs.Audit.{edge_numbers, is_known, names_in, rule_at, unused_names, unused_variables, unused_variables_at}
 pub use Rattle.nj_audit.specs.Inside.Handles.{repeated_among, AreIn, input_of, missing_file, HaveNumbers}
 pub use Rattle.nj_names.specs.NameTables.{with_name}
 pub use Rattle.nj_graph.specs.Origins.{place_text}

@@ -1,7 +1,7 @@
 //! Rules that no edge uses.
 
 ghost use Rattle.std.specs.Prelude.{◌≡◌, ◌++◌, ◌<◌, ℕ, [], IfOk, OnOk, false, length, slice_index_or};
-ghost use Rattle.nj_audit.specs.Cited.{cons_option, is_used_rule, unused_rule, unused_rules};
+ghost use Rattle.nj_audit.specs.Cited.{is_used_rule, unused_rules};
 
 use crate::findings::Findings;
 use crate::kinds::Kind;
@@ -17,25 +17,15 @@ pub fn find_unused_rules<'a>(
     ensures { OnOk result (found.new ≡ found.old ++ unused_rules graph.entry.now) }
 {
     let used = used_rules(alloc, graph)?;
-    'rules: for rule in 0..graph.rules().len() {
+    'rules: for (rule, declared) in graph.rules().iter().enumerate() {
         if !used[rule] {
-            push_rule(graph, RuleNo(rule), found)?;
+            // No statement declares `phony`.
+            if let Some(place) = graph.rule_place(RuleNo(rule)) {
+                found.push(place, Kind::UnusedRule, declared.name())?;
+            }
         }
     }
     Ok(())
-}
-
-/// Appends a rule that no edge uses. No statement declares `phony`.
-fn push_rule<'a>(graph: &'a Graph, rule: RuleNo, found: &mut Findings<'a>) -> Result<(), AllocError>
-    requires within { rule.0 < length graph.now.declarations.rules }
-    requires unused { is_used_rule graph.now rule.0 ≡ false }
-    ensures { OnOk result (found.new
-        ≡ found.old ++ cons_option (unused_rule graph.entry.now rule.0) []) }
-{
-    match graph.rule_place(rule) {
-        Some(place) => found.push(place, Kind::UnusedRule, graph.rules()[rule.0].name()),
-        None => Ok(()),
-    }
 }
 
 /// Of each rule whether an edge uses it.
