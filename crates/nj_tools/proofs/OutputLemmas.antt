@@ -10,7 +10,7 @@ use Rattle.nj_tools.specs.declared.output.Output.{Output}
 use Rattle.nj_tools.specs.declared.tool_fault.ToolFault.{ToolFault}
 use Rattle.nj_tools.specs.declared.tool_fault.ToolFault.TheVariants.{TextNotUtf8, Write, OutOfMemory}
 use Rattle.nj_tools.specs.Inside.Blocks.{IsUnderway}
-use Rattle.nj_tools.specs.Inside.Outputs.{IsSame, Adds, Stops, PutsText, Leaves, LeavesEach}
+use Rattle.nj_tools.specs.Inside.Outputs.{Adds, Stops, PutsText, Leaves, LeavesEach}
 use Rattle.nj_tools.specs.Texts.{StopsWithin, WritesText}
 use Rattle.nj_tools.proofs.SinkLemmas.{Takes-nil, Takes-trans, FailsAfter-trans}
 

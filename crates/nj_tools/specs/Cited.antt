@@ -1,7 +1,7 @@
 -- What the contracts of this crate cite: each name comes from the module in its line.
 pub use Rattle.nj_tools.specs.Compdb.{is_chosen, text_fault, has_object, compilation_of, compdb_text, unheld_edge, WritesCompdb}
 pub use Rattle.nj_tools.specs.Compdb.{json_string}
-pub use Rattle.nj_graph.specs.Graph.{OfStatements, edges_of, files_of, IsGraphOf, GraphModel, main_rules, main_rule_at}
+pub use Rattle.nj_graph.specs.Graph.{OfStatements, edges_of, files_of, IsGraphOf, GraphModel}
 pub use Rattle.nj_graph.specs.Handles.{OfEdge, edge_in, edge_of, file_of, files_in, paths_of}
 pub use Rattle.nj_needs.specs.PageWalks.{written, StopsAt}
 pub use Rattle.nj_tools.specs.CommandStrings.{command_lines, own_commands}
@@ -41,7 +41,7 @@ pub use Rattle.nj_tools.specs.JsonObjects.{strings}
 pub use Rattle.nj_tools.specs.Queries.{inputs_by_kind, maker_text, query_text}
 pub use Rattle.nj_tools.specs.Lines.{line, lines}
 pub use Rattle.nj_edges.specs.Edges.{maker_of}
-pub use Rattle.nj_tools.specs.RuleLists.{rule_line, rules_text}
+pub use Rattle.nj_tools.specs.RuleLists.{rules_text}
 pub use Rattle.nj_text.specs.Quotes.{quoted}
 pub use Rattle.nj_tools.specs.Inside.QuotesHeld.{quote_strings, precedes_plain}
 pub use Rattle.nj_tools.specs.Inside.Trees.{rows_left}

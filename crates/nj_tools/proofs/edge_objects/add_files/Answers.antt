@@ -1,4 +1,4 @@
-use Rattle.std.proofs.Common.{List, ap, drop, length, map, take, ◌∙◌}
+use Rattle.std.proofs.Common.{List, ap, map, ◌∙◌}
 use Rattle.std.proofs.lemmas.Result.{on_ok_weaker}
 use Rattle.nj_graph.specs.Handles.{GraphFile, edge_of, paths_of}
 use Rattle.nj_tools.specs.EdgeObjects.{stated_count}
