@@ -45,22 +45,22 @@ rules-preserved c =
           let at = sym w.rule_place.ensures.held ∙ ap (option_map place_text) w.in-Some.is in
           let item = get_or_read c.rules-declared-items.result.now n c.declared-item.result c.rules-test.true
           c.declared-item.is phony_rule ∙ ap (λ rules. get_or rules n phony_rule)
-              c.rules-declared-items.ensures.held in
+          c.rules-declared-items.ensures.held in
           let named = ap (λ r. r.name) (sym item) ∙ sym w.name.ensures in
           w.found-is ∙ more-numbers (filter_map h) (filter_map-append h) c.args.found.now old w.push.new.self
-              n
+          n
           c.rules.invariant (w.in_ok-push.ensures ∙ ap (λ f. old ++ cons_option f [])
           (sym (placed-some g n (place_text w.in-Some.place) w.name.result.now (used ∙ w.if-not-index.true) at
-              named)))
+          named)))
       | then-not-index+in_default w ↦
           let at = sym w.rule_place.ensures.held ∙ ap (option_map place_text) w.in_default.is in
           w.found-is ∙ more-numbers (filter_map h) (filter_map-append h) c.args.found.now old old n
           c.rules.invariant (same (filter_map h) n old
-              (none-found h n (unplaced-none g n (used ∙ w.if-not-index.true) at)))
+          (none-found h n (unplaced-none g n (used ∙ w.if-not-index.true) at)))
       | else-not-index w ↦
           w.found-is ∙ more-numbers (filter_map h) (filter_map-append h) c.args.found.now old old n
           c.rules.invariant (same (filter_map h) n old
-              (none-found h n (used-none g n (used ∙ w.if-not-index.false))))
+          (none-found h n (used-none g n (used ∙ w.if-not-index.false))))
     ]
 
 pub returns : goal.returns
