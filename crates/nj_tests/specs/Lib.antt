@@ -1,0 +1,2 @@
+-- the definitions to believe
+pub mod Tests
