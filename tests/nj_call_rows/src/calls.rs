@@ -1,5 +1,6 @@
 //! The outcomes of rows of calls, as text.
 
+use crate::build_tests::{put_names, put_pieces};
 use crate::depfiles::put_depfile;
 use crate::deps_logs::put_of_log;
 use crate::discovered::{put_dirtied, put_discovered, put_joined_discoveries};
@@ -89,6 +90,7 @@ fn put_of_text(
         "number" | "version" | "quote" | "lossy" => put_meant(alloc, text, row.kind, &subject),
         "clean" => put_clean(alloc, text, &subject),
         "depfile" => put_depfile(alloc, text, &subject),
+        "pieces" => put_pieces(alloc, text, &subject),
         "mark" => put_mark(alloc, text, &subject),
         _ => return Ok(false),
     };
@@ -120,6 +122,7 @@ fn put_of_words(
         }
         "hash" => put_hash(alloc, text, row.rest),
         "glob" => put_matched(alloc, text, &words_of(alloc, row.rest)?),
+        "names" => put_names(alloc, text, &words_of(alloc, row.rest)?),
         "mark-of" => put_mark_of(alloc, text, row.rest),
         "deps-log" | "cut-log" | "deps-of" => {
             put_of_log(alloc, text, given.bytes("log"), row.kind, row.rest)

@@ -1,0 +1,39 @@
+//! Laws of the paths that a word may name.
+
+ghost use Rattle.nj_tests.specs.Cited.{SpellingsNameTheSame, AbsolutePathsNameTheSame, WayRoundNamesTheSame, WordsArePieces, RestsArePieces, PiecesBetweenSigns, PiecesBetweenCuts};
+
+/// Two spellings with the same clean path name the same path, whichever directory the test runs
+/// in.
+pub fn spellings_name_the_same()
+    ensures { SpellingsNameTheSame }
+{}
+
+/// A path names the same as the absolute path that it names.
+pub fn absolute_paths_name_the_same()
+    ensures { AbsolutePathsNameTheSame }
+{}
+
+/// In a directory `name`, `../name/a` names the same as `a`.
+pub fn way_round_names_the_same()
+    ensures { WayRoundNamesTheSame }
+{}
+
+/// A whole word is a piece, unless it is empty.
+pub fn words_are_pieces()
+    ensures { WordsArePieces }
+{}
+
+/// What follows a sign, up to the end of the word, is a piece.
+pub fn rests_are_pieces()
+    ensures { RestsArePieces }
+{}
+
+/// What lies between two signs, without one, is a piece.
+pub fn pieces_between_signs()
+    ensures { PiecesBetweenSigns }
+{}
+
+/// What lies between two signs, blanks or quotes, without one, is a piece.
+pub fn pieces_between_cuts()
+    ensures { PiecesBetweenCuts }
+{}
