@@ -124,7 +124,8 @@ text-again (p ∷ ps) w kept = ap (kept_after kept) (components-text p ps w)
 
 -- a relative path has the effect of its clean path
 clean-again : (path : List ℕ) → is_absolute path ≡ false → (kept : Kept)
-    → kept_after kept (slice_split is_slash (clean_path_of path)) ≡ kept_after kept (slice_split is_slash path)
+    → kept_after kept (slice_split is_slash (clean_path_of path))
+    ≡ kept_after kept (slice_split is_slash path)
 clean-again path low kept =
     let done = kept_of path in
     ap (λ text. kept_after kept (slice_split is_slash text)) (relative-kept path low)
@@ -235,7 +236,8 @@ round above name path is =
     kept-in (above ++ 47 ∷ name) (46 ∷ 46 ∷ 47 ∷ name ++ 47 ∷ path)
     ∙ ap (kept_after (kept_of (above ++ 47 ∷ name))) parts
     ∙ ap (λ k. kept_after k (up ∷ name ∷ slice_split is_slash path)) inside
-    ∙ ap (λ (x : Component). kept_after (with_component x name (kept_of above)) (slice_split is_slash path)) named
+    ∙ ap (λ (x : Component). kept_after (with_component x name (kept_of above)) (slice_split is_slash path))
+    named
     ∙ ap (λ k. kept_after k (slice_split is_slash path)) (sym inside)
     ∙ sym (kept-in (above ++ 47 ∷ name) path)
   where
@@ -259,7 +261,8 @@ clean-round : (above name path : List ℕ) → IsName name
     → clean_path_of ((above ++ 47 ∷ name) ++ 47 ∷ (46 ∷ 46 ∷ 47 ∷ name ++ 47 ∷ path))
     ≡ clean_path_of ((above ++ 47 ∷ name) ++ 47 ∷ path)
 clean-round above name path is =
-    same-clean ((above ++ 47 ∷ name) ++ 47 ∷ (46 ∷ 46 ∷ 47 ∷ name ++ 47 ∷ path)) ((above ++ 47 ∷ name) ++ 47 ∷ path)
+    same-clean ((above ++ 47 ∷ name) ++ 47 ∷ (46 ∷ 46 ∷ 47 ∷ name ++ 47 ∷ path))
+        ((above ++ 47 ∷ name) ++ 47 ∷ path)
     (front-in (above ++ 47 ∷ name) (46 ∷ 46 ∷ 47 ∷ name ++ 47 ∷ path) path)
     (round above name path is)
 

@@ -9,7 +9,8 @@ plain_word = refl
 
 -- a list in a variable
 rests_of_a_list : pieces_of (codes "P=/a:/b")
-    ≡ codes "P=/a:/b" ∷ codes "/a:/b" ∷ codes "/b" ∷ codes "P" ∷ codes "/a" ∷ codes "/b" ∷ codes "P" ∷ codes "/a"
+    ≡ codes "P=/a:/b" ∷ codes "/a:/b" ∷ codes "/b" ∷ codes "P" ∷ codes "/a" ∷ codes "/b" ∷ codes "P" ∷ codes
+    "/a"
     ∷ codes "/b" ∷ []
 rests_of_a_list = refl
 

@@ -1,6 +1,7 @@
 -- The pieces of a word.
 use Rattle.std.proofs.Common.{◌≡◌, ◌≢◌, ◌⊎◌, inl, inr, ℕ, ◌||◌, Bool, true, false, List, [], ◌∷◌, ◌++◌}
-use Rattle.std.proofs.Common.{refl, sym, ap, ◌∙◌, subst, arith, append-nil, append_assoc, map, length, take, ◌≤◌, Bor}
+use Rattle.std.proofs.Common.{refl, sym, ap, ◌∙◌, subst, arith, append-nil, append_assoc, map, length, take}
+use Rattle.std.proofs.Common.{◌≤◌, Bor}
 use Rattle.std.specs.Prelude.{Contains}
 use Rattle.std.specs.List.{All, flat_map, list_any, slice_split}
 use Rattle.std.proofs.lemmas.List.{take_all}
@@ -11,7 +12,8 @@ use Rattle.std.proofs.lemmas.List.Elements.{Contains-append_right, Contains-push
 use Rattle.std.proofs.lemmas.List.Splits.{slice_split_none, slice_split_at}
 use Rattle.nj_text.specs.Bytes.{begins_with}
 use Rattle.nj_text.proofs.SlashComponents.{or_false, or_of}
-use Rattle.nj_tests.specs.Words.{is_sign, is_blank_or_quote, is_cut, pieces_in, pieces_of, rests_of, stretches_of}
+use Rattle.nj_tests.specs.Words.{is_sign, is_blank_or_quote, is_cut, pieces_in, pieces_of, rests_of}
+use Rattle.nj_tests.specs.Words.{stretches_of}
 use Rattle.nj_tests.specs.WordLaws.{IsBetween, RestsArePieces, PiecesBetweenSigns, PiecesBetweenCuts}
 use Rattle.nj_tests.proofs.PathLemmas.{split-append}
 
@@ -118,7 +120,8 @@ module _ (word stretch : List ℕ) where
           (Contains-append_left ((word ∷ rests) ++ signed) cut stretch
           (Contains-append_right (word ∷ rests) signed stretch has))
       by false is = subst (λ ss. Contains ss stretch)
-          (slice_split_none is_sign word (none-pass is_sign word (no-signs word is)) ∙ sym (if-whole word is)) has
+          (slice_split_none is_sign word (none-pass is_sign word (no-signs word is)) ∙ sym (if-whole word is))
+              has
 
   cut-in : Contains cut stretch → Contains (stretches_of word) stretch
   cut-in has = by (list_any is_cut word) refl
@@ -145,7 +148,8 @@ pub rests-are : RestsArePieces
 rests-are before piece sign is some =
     let word = before ++ sign ∷ piece in
     stretch-piece word piece
-    (rest-in word piece (any-from is_cut before sign piece (sign-cuts sign is)) (rest-at before piece sign is))
+    (rest-in word piece (any-from is_cut before sign piece (sign-cuts sign is))
+        (rest-at before piece sign is))
     some
 
 -- ---- what lies between two bytes of a kind
