@@ -1,0 +1,4 @@
+pub mod ListLemmas
+pub mod PropertyLemmas
+pub mod TestLemmas
+pub mod ValueLemmas

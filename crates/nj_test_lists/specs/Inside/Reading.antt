@@ -1,0 +1,63 @@
+-- How lists are read. Nothing here has to be believed.
+use Rattle.std.specs.Prelude.{◌≡◌, ◌⊎◌, ℕ, None, List}
+use Rattle.serde_json.specs.Data.{Data}
+use Rattle.serde_json.specs.View.{view}
+use Rattle.nj_test_lists.specs.declared.list_fault.ListFault.{ListFault}
+use Rattle.nj_test_lists.specs.declared.list_fault.ListFault.TheVariants.{NotJson, WrongKind, WrongVersion, NoTests, WrongCTest, OutOfMemory}
+use Rattle.nj_test_lists.specs.declared.list_fault.CTestKey.{CTestKey}
+use Rattle.nj_test_lists.specs.declared.list_fault.CTestKey.TheVariants.{Name, Command, Properties, WorkingDirectory, Strings}
+use Rattle.nj_test_lists.specs.declared.properties.Property.{Property as PropertyOfCode}
+use Rattle.nj_test_lists.specs.Faults.{IsNoJson}
+use Rattle.nj_test_lists.specs.CTest.{Property, folder_of, property_strings, IsWrongAt, IsFirstWrong}
+
+-- a reason is right for a fault that is given, unless memory ran out
+abbrev pub Refuses : (fault : ListFault) → (reason : Type 0) → (given : ListFault) → Type 0
+Refuses fault reason given = (given ≡ OutOfMemory) ⊎ ((given ≡ fault) × reason)
+
+-- the value of the code
+abbrev pub property_model : PropertyOfCode → Property
+property_model property = record { name = property.name.now; value = view property.value.now }
+
+-- a value is no test, and its number is this one; or memory ran out
+pub record IsWrongTest (number : ℕ) (value : Data) (fault : ListFault) : Type 0 where
+  pub key : CTestKey
+  pub is_fault : fault ≡ WrongCTest number key
+  pub is_wrong : IsWrongAt key value
+
+abbrev pub IsTestFault : (number : ℕ) → Data → (fault : ListFault) → Type 0
+IsTestFault number value fault = (fault ≡ OutOfMemory) ⊎ IsWrongTest number value fault
+
+-- the first value that is no test, or memory ran out
+pub record IsWrongIn (values : List Data) (fault : ListFault) : Type 0 where
+  pub number : ℕ
+  pub key : CTestKey
+  pub is_fault : fault ≡ WrongCTest number key
+  pub is_first : IsFirstWrong values number key
+
+abbrev pub AreTestsFault : (values : List Data) → (fault : ListFault) → Type 0
+AreTestsFault values fault = (fault ≡ OutOfMemory) ⊎ IsWrongIn values fault
+
+-- properties are not what is expected at this key
+abbrev pub IsWrongAmong : CTestKey → List Property → Type 0
+IsWrongAmong Name properties = ⊥
+IsWrongAmong Command properties = ⊥
+IsWrongAmong Properties properties = ⊥
+IsWrongAmong WorkingDirectory properties = folder_of properties ≡ None
+IsWrongAmong (Strings property) properties = property_strings properties property ≡ None
+
+pub record IsWrongProperty (number : ℕ) (properties : List Property) (fault : ListFault) : Type 0 where
+  pub key : CTestKey
+  pub is_fault : fault ≡ WrongCTest number key
+  pub is_wrong : IsWrongAmong key properties
+
+abbrev pub IsPropertyFault : (number : ℕ) → List Property → (fault : ListFault) → Type 0
+IsPropertyFault number properties fault = (fault ≡ OutOfMemory) ⊎ IsWrongProperty number properties fault
+
+-- a text is not JSON, for this reason; the place is a hint
+abbrev pub IsNoJsonFault : (text : List ℕ) → ListFault → Type 0
+IsNoJsonFault text (NotJson line column) = IsNoJson text
+IsNoJsonFault text WrongKind = ⊥
+IsNoJsonFault text WrongVersion = ⊥
+IsNoJsonFault text NoTests = ⊥
+IsNoJsonFault text (WrongCTest number key) = ⊥
+IsNoJsonFault text OutOfMemory = Unit {0}

@@ -1,0 +1,8 @@
+-- the definitions to believe
+pub mod Values
+pub mod CTest
+pub mod Faults
+-- how the code does that
+pub mod Inside
+-- what the contracts cite
+pub mod Cited
