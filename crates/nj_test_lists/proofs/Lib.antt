@@ -1,4 +1,5 @@
 pub mod ListLemmas
+pub mod MesonLemmas
 pub mod PropertyLemmas
 pub mod TestLemmas
 pub mod ValueLemmas

@@ -4,10 +4,15 @@ use Rattle.serde_json.specs.Data.{Data}
 use Rattle.serde_json.specs.Read.{read}
 use Rattle.nj_tests.specs.Tests.{TestModel}
 use Rattle.nj_test_lists.specs.declared.list_fault.ListFault.{ListFault}
-use Rattle.nj_test_lists.specs.declared.list_fault.ListFault.TheVariants.{NotJson, WrongKind, WrongVersion, NoTests, WrongCTest, OutOfMemory}
+use Rattle.nj_test_lists.specs.declared.list_fault.ListFault.TheVariants.{NotJson, TargetsNotJson, WrongKind, WrongVersion, NoTests, NoTargets, WrongCTest, WrongMesonTest, WrongTarget, OutOfMemory}
 use Rattle.nj_test_lists.specs.declared.list_fault.CTestKey.{CTestKey}
 use Rattle.nj_test_lists.specs.declared.list_fault.CTestKey.TheVariants.{Name, Command, Properties, WorkingDirectory, Strings}
-use Rattle.nj_test_lists.specs.Values.{IsJson, items_at, string_at}
+use Rattle.nj_test_lists.specs.declared.list_fault.MesonKey.{MesonKey}
+use Rattle.nj_test_lists.specs.declared.list_fault.MesonKey.TheVariants as Meson
+use Rattle.nj_test_lists.specs.declared.list_fault.TargetKey.{TargetKey}
+use Rattle.nj_test_lists.specs.declared.list_fault.TargetKey.TheVariants.{Id, Filename, RepeatedId}
+use Rattle.nj_test_lists.specs.Values.{IsJson, items, items_at, string_at}
+use Rattle.nj_test_lists.specs.Meson.{TargetsModel, AreTargets, IsWrongTarget, AreMesonTests, IsFirstNoMesonTest}
 use Rattle.nj_test_lists.specs.CTest.{property_name, major_version, IsCTestList, IsFirstWrong}
 
 -- ---- texts
@@ -20,13 +25,33 @@ ctest_key_text Properties = codes "'properties' is not an array of names and val
 ctest_key_text WorkingDirectory = codes "'WORKING_DIRECTORY' is not one string"
 ctest_key_text (Strings property) = codes "'" ++ property_name property ++ codes "' is not an array of strings"
 
+-- the text of what is wrong with a test of Meson
+abbrev pub meson_key_text : MesonKey → List ℕ
+meson_key_text Meson.Name = codes "'name' is not a string"
+meson_key_text Meson.Command = codes "'cmd' is not an array of strings"
+meson_key_text Meson.Environment = codes "'env' is not an object of strings"
+meson_key_text Meson.ExtraPaths = codes "'extra_paths' is not an array of strings"
+meson_key_text Meson.Depends = codes "'depends' is not an array of ids of targets"
+meson_key_text Meson.Folder = codes "'workdir' is not a string"
+
+-- the text of what is wrong with a target of Meson
+abbrev pub target_key_text : TargetKey → List ℕ
+target_key_text Id = codes "'id' is not a string"
+target_key_text Filename = codes "'filename' is not an array of strings"
+target_key_text RepeatedId = codes "'id' is repeated"
+
 -- the text of a fault
 abbrev pub fault_text : ListFault → List ℕ
 fault_text (NotJson line column) = codes "no JSON at line " ++ decimal line ++ codes ", column " ++ decimal column
+fault_text (TargetsNotJson line column) =
+    codes "targets: no JSON at line " ++ decimal line ++ codes ", column " ++ decimal column
 fault_text WrongKind = codes "'kind' is not 'ctestInfo'"
 fault_text WrongVersion = codes "the major version is not 1"
 fault_text NoTests = codes "no array of tests"
+fault_text NoTargets = codes "no array of targets"
 fault_text (WrongCTest number key) = codes "tests[" ++ decimal number ++ codes "]: " ++ ctest_key_text key
+fault_text (WrongMesonTest number key) = codes "tests[" ++ decimal number ++ codes "]: " ++ meson_key_text key
+fault_text (WrongTarget number key) = codes "targets[" ++ decimal number ++ codes "]: " ++ target_key_text key
 fault_text OutOfMemory = codes "out of memory"
 
 -- ---- CTest
@@ -39,23 +64,58 @@ pub record IsCTestText (text : List ℕ) (tests : List TestModel) : Type 0 where
 
 -- A value is no list of tests by CTest, for this reason.
 abbrev pub IsCTestListFault : (list : Data) → ListFault → Type 0
-IsCTestListFault list (NotJson line column) = ⊥
 IsCTestListFault list WrongKind = string_at (codes "kind") list ≢ Some (codes "ctestInfo")
 IsCTestListFault list WrongVersion = major_version list ≢ Some 1
 IsCTestListFault list NoTests = items_at (codes "tests") list ≡ None
-IsCTestListFault list (WrongCTest number key) = (values : List Data)
-    × (items_at (codes "tests") list ≡ Some values) × IsFirstWrong values number key
+IsCTestListFault list (WrongCTest number key) =
+    (values : List Data) × (items_at (codes "tests") list ≡ Some values) × IsFirstWrong values number key
 IsCTestListFault list OutOfMemory = Unit {0}
+IsCTestListFault list _ = ⊥
 
 -- a text is not JSON
 abbrev pub IsNoJson : (text : List ℕ) → Type 0
 IsNoJson text = IsUtf8 text → read text ≡ None
 
--- A text is no list of tests by CTest, for this reason. Of a text that is no JSON the place is a hint.
+-- A text is no list of tests by CTest, for this reason. Of a text that is not JSON the place is a hint.
 abbrev pub IsCTestFault : (text : List ℕ) → ListFault → Type 0
 IsCTestFault text (NotJson line column) = IsNoJson text
-IsCTestFault text WrongKind = (list : Data) × IsJson text list × IsCTestListFault list WrongKind
-IsCTestFault text WrongVersion = (list : Data) × IsJson text list × IsCTestListFault list WrongVersion
-IsCTestFault text NoTests = (list : Data) × IsJson text list × IsCTestListFault list NoTests
-IsCTestFault text (WrongCTest number key) = (list : Data) × IsJson text list × IsCTestListFault list (WrongCTest number key)
 IsCTestFault text OutOfMemory = Unit {0}
+IsCTestFault text fault = (list : Data) × IsJson text list × IsCTestListFault list fault
+
+-- ---- Meson
+
+-- the list with this text has these targets
+pub record IsTargetsText (text : List ℕ) (targets : TargetsModel) : Type 0 where
+  pub list : Data
+  pub is_json : IsJson text list
+  pub values : List Data
+  pub has_values : items list ≡ Some values
+  pub are_targets : AreTargets values targets
+
+-- The list with a text that Meson wrote has these tests, beside the text with its list of targets.
+pub record IsMesonText (text targets_text : List ℕ) (tests : List TestModel) : Type 0 where
+  pub targets : TargetsModel
+  pub are_targets : IsTargetsText targets_text targets
+  pub list : Data
+  pub is_json : IsJson text list
+  pub values : List Data
+  pub has_values : items list ≡ Some values
+  pub are_tests : AreMesonTests targets values tests
+
+-- A text is no list of targets by Meson, for this reason. Of a text that is not JSON the place is a hint.
+abbrev pub IsTargetsFault : (text : List ℕ) → ListFault → Type 0
+IsTargetsFault text (TargetsNotJson line column) = IsNoJson text
+IsTargetsFault text NoTargets = (list : Data) × IsJson text list × (items list ≡ None)
+IsTargetsFault text (WrongTarget number key) = (list : Data) × (values : List Data) × IsJson text list
+    × (items list ≡ Some values) × IsWrongTarget values number key
+IsTargetsFault text OutOfMemory = Unit {0}
+IsTargetsFault text _ = ⊥
+
+-- A text is no list of tests by Meson beside that of its targets, for this reason.
+abbrev pub IsMesonFault : (text targets_text : List ℕ) → ListFault → Type 0
+IsMesonFault text targets_text (NotJson line column) = IsNoJson text
+IsMesonFault text targets_text NoTests = (list : Data) × IsJson text list × (items list ≡ None)
+IsMesonFault text targets_text (WrongMesonTest number key) = (targets : TargetsModel) × IsTargetsText targets_text targets
+    × ((list : Data) × (values : List Data) × IsJson text list × (items list ≡ Some values)
+    × IsFirstNoMesonTest targets values number key)
+IsMesonFault text targets_text fault = IsTargetsFault targets_text fault

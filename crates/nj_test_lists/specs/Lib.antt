@@ -1,6 +1,7 @@
 -- the definitions to believe
 pub mod Values
 pub mod CTest
+pub mod Meson
 pub mod Faults
 -- how the code does that
 pub mod Inside

@@ -46,6 +46,10 @@ string_at name value = option_and_then as_str (get name value)
 abbrev pub items_at : (name : List ℕ) → Data → Option (List Data)
 items_at name value = option_and_then items (get name value)
 
+-- the strings of the array of strings there
+abbrev pub strings_at : (name : List ℕ) → Data → Option (List (List ℕ))
+strings_at name value = option_and_then strings (get name value)
+
 -- `null` stands for a member that is left out
 abbrev not_null : Data → Option Data
 not_null null = None

@@ -6,7 +6,7 @@ ghost use Rattle.nj_test_lists.specs.Cited.{view, test_model, IsCTestText, IsCTe
 use crate::list_fault::{CTestKey, ListFault};
 use crate::list_property::ListProperty;
 use crate::properties::{Property, collect_properties, read_all, read_folder, read_property};
-use crate::values::{given, items, parse, read_strings, string_at};
+use crate::values::{given, items, items_at, parse, read_strings, string_at};
 use nj_tests::Test;
 use serde_json::Value;
 use std::alloc::Global;
@@ -54,7 +54,7 @@ fn read_list(alloc: Global, list: &Value) -> Result<Vec<Test>, ListFault>
     if !is_version_one(list) {
         return Err(ListFault::WrongVersion);
     }
-    match list.get("tests").and_then(items) {
+    match items_at(list, "tests") {
         Some(values) => read_tests(alloc, values),
         None => Err(ListFault::NoTests),
     }

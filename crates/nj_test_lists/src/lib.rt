@@ -4,9 +4,12 @@
 mod ctest_list;
 mod list_fault;
 mod list_property;
+mod meson_list;
 mod properties;
+mod targets;
 mod values;
 
 pub use ctest_list::ctest_tests;
-pub use list_fault::{CTestKey, ListFault};
+pub use list_fault::{CTestKey, ListFault, MesonKey, TargetKey};
 pub use list_property::ListProperty;
+pub use meson_list::meson_tests;

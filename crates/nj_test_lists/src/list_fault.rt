@@ -1,7 +1,7 @@
 //! Why a list of tests is not read.
 
 ghost use Rattle.std.specs.Prelude.{◌≡◌, Some};
-ghost use Rattle.nj_test_lists.specs.Cited.{OutOfMemory, fault_text, ctest_key_text};
+ghost use Rattle.nj_test_lists.specs.Cited.{OutOfMemory, fault_text, ctest_key_text, meson_key_text, target_key_text};
 
 use crate::list_property::ListProperty;
 use std::alloc::{AllocError, AllocFailed};
@@ -42,19 +42,82 @@ impl fmt::Display for CTestKey {
     }
 }
 
+/// What is wrong with a test in a list by Meson.
+#[derive(Clone, Copy, Debug, PartialEq, Eq)]
+pub enum MesonKey {
+    /// `name` is not a string.
+    Name,
+    /// `cmd` is not an array of strings.
+    Command,
+    /// `env` is not an object of strings.
+    Environment,
+    /// `extra_paths` is not an array of strings.
+    ExtraPaths,
+    /// `depends` is not an array of ids of targets.
+    Depends,
+    /// `workdir` is not a string.
+    Folder,
+}
+
+impl fmt::Display for MesonKey {
+    ghost output = { λ key. Some (meson_key_text key) };
+
+    fn fmt<W: fmt::Write>(&self, f: &mut fmt::Formatter<W>) -> fmt::Result {
+        match self {
+            MesonKey::Name => f.write_str("'name' is not a string"),
+            MesonKey::Command => f.write_str("'cmd' is not an array of strings"),
+            MesonKey::Environment => f.write_str("'env' is not an object of strings"),
+            MesonKey::ExtraPaths => f.write_str("'extra_paths' is not an array of strings"),
+            MesonKey::Depends => f.write_str("'depends' is not an array of ids of targets"),
+            MesonKey::Folder => f.write_str("'workdir' is not a string"),
+        }
+    }
+}
+
+/// What is wrong with a target in a list by Meson.
+#[derive(Clone, Copy, Debug, PartialEq, Eq)]
+pub enum TargetKey {
+    /// `id` is not a string.
+    Id,
+    /// `filename` is not an array of strings.
+    Filename,
+    /// A target before it has the same `id`.
+    RepeatedId,
+}
+
+impl fmt::Display for TargetKey {
+    ghost output = { λ key. Some (target_key_text key) };
+
+    fn fmt<W: fmt::Write>(&self, f: &mut fmt::Formatter<W>) -> fmt::Result {
+        match self {
+            TargetKey::Id => f.write_str("'id' is not a string"),
+            TargetKey::Filename => f.write_str("'filename' is not an array of strings"),
+            TargetKey::RepeatedId => f.write_str("'id' is repeated"),
+        }
+    }
+}
+
 /// Why a list of tests is not read. Tests and targets are numbered from 0, lines and columns from 1.
 #[derive(Clone, Copy, Debug, PartialEq, Eq)]
 pub enum ListFault {
     /// The list of tests is not JSON: it is wrong about here.
     NotJson { line: usize, column: usize },
+    /// The list of targets is not JSON: it is wrong about here.
+    TargetsNotJson { line: usize, column: usize },
     /// `kind` is not `ctestInfo`: CTest did not write this.
     WrongKind,
     /// `version` has another `major` number than 1.
     WrongVersion,
     /// There is no array of tests.
     NoTests,
+    /// There is no array of targets.
+    NoTargets,
     /// The CTest test with this number is wrong at this key.
     WrongCTest { number: usize, key: CTestKey },
+    /// The Meson test with this number is wrong at this key.
+    WrongMesonTest { number: usize, key: MesonKey },
+    /// The Meson target with this number is wrong at this key.
+    WrongTarget { number: usize, key: TargetKey },
     /// An allocation failed.
     OutOfMemory,
 }
@@ -67,10 +130,16 @@ impl fmt::Display for ListFault {
             ListFault::NotJson { line, column } => {
                 write!(f, "no JSON at line {line}, column {column}")
             }
+            ListFault::TargetsNotJson { line, column } => {
+                write!(f, "targets: no JSON at line {line}, column {column}")
+            }
             ListFault::WrongKind => f.write_str("'kind' is not 'ctestInfo'"),
             ListFault::WrongVersion => f.write_str("the major version is not 1"),
             ListFault::NoTests => f.write_str("no array of tests"),
+            ListFault::NoTargets => f.write_str("no array of targets"),
             ListFault::WrongCTest { number, key } => write!(f, "tests[{number}]: {key}"),
+            ListFault::WrongMesonTest { number, key } => write!(f, "tests[{number}]: {key}"),
+            ListFault::WrongTarget { number, key } => write!(f, "targets[{number}]: {key}"),
             ListFault::OutOfMemory => f.write_str("out of memory"),
         }
     }

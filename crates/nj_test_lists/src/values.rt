@@ -1,7 +1,7 @@
 //! What is taken from JSON values.
 
 ghost use Rattle.std.specs.Prelude.{◌≡◌, Some, None, map, option_map, string_bytes, IfOk, IfErr};
-ghost use Rattle.nj_test_lists.specs.Cited.{as_str, view, IsJson, IsNoJsonFault, Refuses, each, items, strings, string_at, given};
+ghost use Rattle.nj_test_lists.specs.Cited.{as_str, view, IsJson, IsNoJsonFault, Refuses, each, items, strings, string_at, strings_at, items_at, given};
 
 use crate::list_fault::ListFault;
 use serde_json::Value;
@@ -67,6 +67,33 @@ pub(crate) fn read_strings(
         Some(values) => copy_strings(alloc, values, wrong),
         None => Err(wrong),
     }
+}
+
+/// The strings of the array of strings that an object has at this name. If there is none, the fault
+/// is this one.
+pub(crate) fn read_strings_at(
+    alloc: Global,
+    value: &Value,
+    name: &str,
+    wrong: ListFault,
+) -> Result<Vec<String>, ListFault>
+    ensures strings { IfOk result (λ v. strings_at name.now (view value.now)
+        ≡ Some (map string_bytes v.items)) }
+    ensures fault { IfErr result (λ fault.
+        Refuses wrong (strings_at name.now (view value.now) ≡ None) fault) }
+{
+    match value.get(name) {
+        Some(strings) => read_strings(alloc, strings, wrong),
+        None => Err(wrong),
+    }
+}
+
+/// The items of the array that an object has at this name.
+pub(crate) fn items_at<'v>(value: &'v Value, name: &str) -> Option<&'v [Value]>
+    ensures { option_map (λ values. map view values.now) result
+        ≡ items_at name.now (view value.now) }
+{
+    value.get(name).and_then(items)
 }
 
 // The strings that all of these are. If one is none, the fault is this one.

@@ -3,9 +3,12 @@ use Rattle.std.specs.Prelude.{◌≡◌, ◌⊎◌, ℕ, None, List}
 use Rattle.serde_json.specs.Data.{Data}
 use Rattle.serde_json.specs.View.{view}
 use Rattle.nj_test_lists.specs.declared.list_fault.ListFault.{ListFault}
-use Rattle.nj_test_lists.specs.declared.list_fault.ListFault.TheVariants.{NotJson, WrongKind, WrongVersion, NoTests, WrongCTest, OutOfMemory}
+use Rattle.nj_test_lists.specs.declared.list_fault.ListFault.TheVariants.{NotJson, WrongCTest, WrongMesonTest, WrongTarget, OutOfMemory}
 use Rattle.nj_test_lists.specs.declared.list_fault.CTestKey.{CTestKey}
 use Rattle.nj_test_lists.specs.declared.list_fault.CTestKey.TheVariants.{Name, Command, Properties, WorkingDirectory, Strings}
+use Rattle.nj_test_lists.specs.declared.list_fault.MesonKey.{MesonKey}
+use Rattle.nj_test_lists.specs.declared.list_fault.TargetKey.{TargetKey}
+use Rattle.nj_test_lists.specs.Meson.{TargetsModel, IsNoTarget, IsWrongTarget, IsNoMesonTest, IsFirstNoMesonTest}
 use Rattle.nj_test_lists.specs.declared.properties.Property.{Property as PropertyOfCode}
 use Rattle.nj_test_lists.specs.Faults.{IsNoJson}
 use Rattle.nj_test_lists.specs.CTest.{Property, folder_of, property_strings, IsWrongAt, IsFirstWrong}
@@ -56,8 +59,42 @@ IsPropertyFault number properties fault = (fault ≡ OutOfMemory) ⊎ IsWrongPro
 -- a text is not JSON, for this reason; the place is a hint
 abbrev pub IsNoJsonFault : (text : List ℕ) → ListFault → Type 0
 IsNoJsonFault text (NotJson line column) = IsNoJson text
-IsNoJsonFault text WrongKind = ⊥
-IsNoJsonFault text WrongVersion = ⊥
-IsNoJsonFault text NoTests = ⊥
-IsNoJsonFault text (WrongCTest number key) = ⊥
 IsNoJsonFault text OutOfMemory = Unit {0}
+IsNoJsonFault text _ = ⊥
+
+-- ---- Meson
+
+-- a target with this number is wrong, or memory ran out
+pub record IsWrongAmongTargets (values : List Data) (fault : ListFault) : Type 0 where
+  pub number : ℕ
+  pub key : TargetKey
+  pub is_fault : fault ≡ WrongTarget number key
+  pub is_wrong : IsWrongTarget values number key
+
+abbrev pub AreTargetsFault : (values : List Data) → (fault : ListFault) → Type 0
+AreTargetsFault values fault = (fault ≡ OutOfMemory) ⊎ IsWrongAmongTargets values fault
+
+-- an id is not that of a further target
+pub record IsWrongId (number : ℕ) (before : List (List ℕ)) (value : Data) (fault : ListFault) : Type 0 where
+  pub key : TargetKey
+  pub is_fault : fault ≡ WrongTarget number key
+  pub is_wrong : IsNoTarget before key value
+
+-- a value is no test of Meson, and its number is this one; or memory ran out
+pub record IsWrongMesonTest (targets : TargetsModel) (number : ℕ) (value : Data) (fault : ListFault) : Type 0 where
+  pub key : MesonKey
+  pub is_fault : fault ≡ WrongMesonTest number key
+  pub is_wrong : IsNoMesonTest targets key value
+
+abbrev pub IsMesonTestFault : TargetsModel → (number : ℕ) → Data → (fault : ListFault) → Type 0
+IsMesonTestFault targets number value fault = (fault ≡ OutOfMemory) ⊎ IsWrongMesonTest targets number value fault
+
+-- the first value that is no test, or memory ran out
+pub record IsWrongAmongMesonTests (targets : TargetsModel) (values : List Data) (fault : ListFault) : Type 0 where
+  pub number : ℕ
+  pub key : MesonKey
+  pub is_fault : fault ≡ WrongMesonTest number key
+  pub is_first : IsFirstNoMesonTest targets values number key
+
+abbrev pub AreMesonTestsFault : TargetsModel → (values : List Data) → (fault : ListFault) → Type 0
+AreMesonTestsFault targets values fault = (fault ≡ OutOfMemory) ⊎ IsWrongAmongMesonTests targets values fault

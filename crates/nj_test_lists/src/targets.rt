@@ -1,0 +1,81 @@
+//! The targets that Meson lists.
+
+ghost use Rattle.std.specs.Prelude.{◌≡◌, Some, false, codes, bytes_eq, map, string_bytes, option_map, IfOk, IfErr};
+ghost use Rattle.nj_test_lists.specs.Cited.{view, list_any, AreTargets, AreTargetsFault, IsWrongId, files_of, string_at};
+
+use crate::list_fault::{ListFault, TargetKey};
+use crate::values::{read_strings_at, string_at};
+use nj_names::{HashKeys, Names};
+use serde_json::Value;
+use std::alloc::Global;
+use std::marker::Model;
+
+/// The targets of a build.
+#[derive(Drop)]
+pub(crate) struct Targets {
+    ids: Names,
+    // of each target the files that it makes
+    files: Vec<Vec<String>>,
+}
+
+impl Model for Targets {
+    ghost use Rattle.std.specs.Prelude.{map, string_bytes};
+    ghost use Rattle.nj_test_lists.specs.Meson.{TargetsModel};
+
+    ghost Value = { TargetsModel };
+
+    ghost view = { λ t. record {
+      ids = t.ids;
+      files = map (λ strings. map string_bytes strings.items) t.files.items;
+    } };
+}
+
+impl Targets {
+    /// The targets that these values are.
+    pub(crate) fn read(alloc: Global, values: &[Value]) -> Result<Targets, ListFault>
+        ensures targets { IfOk result (λ targets. AreTargets (map view values.now) targets) }
+        ensures fault { IfErr result (λ fault. AreTargetsFault (map view values.now) fault) }
+    {
+        let mut ids = Names::new(alloc, HashKeys::default());
+        let mut files = Vec::new(alloc);
+        'values: for (number, value) in values.iter().enumerate() {
+            let id = new_id(&ids, number, value)?;
+            let key = TargetKey::Filename;
+            let wrong = ListFault::WrongTarget { number, key };
+            files.push(read_strings_at(alloc, value, "filename", wrong)?)?;
+            ids.add(id.as_bytes())?;
+        }
+        Ok(Targets { ids, files })
+    }
+
+    /// The files of the target whose id a value is.
+    pub(crate) fn files_of(&self, id: &Value) -> Option<&[String]>
+        ensures { option_map (λ files. map string_bytes files.now) result
+            ≡ files_of self.now (view id.now) }
+    {
+        let id = id.as_str()?;
+        let number = self.ids.number(id.as_bytes())?;
+        self.files.get(number).map(Vec::as_slice)
+    }
+}
+
+// The id of the target with this number, if no target before it has that.
+fn new_id<'v>(ids: &Names, number: usize, value: &'v Value) -> Result<&'v str, ListFault>
+    ensures id { IfOk result (λ id. string_at (codes "id") (view value.now) ≡ Some id.now) }
+    ensures is_new { IfOk result (λ id. list_any (bytes_eq id.now) ids.now ≡ false) }
+    ensures fault { IfErr result (λ fault. IsWrongId number ids.now (view value.now) fault) }
+{
+    match string_at(value, "id") {
+        Some(id) => {
+            if ids.number(id.as_bytes()).is_some() {
+                let key = TargetKey::RepeatedId;
+                return Err(ListFault::WrongTarget { number, key });
+            }
+            Ok(id)
+        }
+        None => {
+            let key = TargetKey::Id;
+            Err(ListFault::WrongTarget { number, key })
+        }
+    }
+}
