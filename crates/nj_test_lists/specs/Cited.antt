@@ -8,6 +8,8 @@ pub use Rattle.nj_test_lists.specs.CTest.{property_name, property_of, property_s
 pub use Rattle.nj_test_lists.specs.Inside.Reading.{AreTestsFault, IsTestFault, property_model, AreMesonTestsFault, IsMesonTestFault}
 pub use Rattle.nj_test_lists.specs.Inside.Reading.{Refuses, IsPropertyFault, AreTargetsFault, IsWrongId, IsNoJsonFault}
 pub use Rattle.nj_test_lists.specs.Values.{string_at, IsJson, joined, strings_at, each, items, strings, items_at, given}
+pub use Rattle.nj_test_lists.specs.Laws.{EachValueIsOneTest, FileStringsAreTexts, OneReading, GoodListsAreRead, EachMesonValueIsOneTest}
+pub use Rattle.nj_test_lists.specs.Laws.{FilesOfTargetsAreTexts}
 pub use Rattle.nj_test_lists.specs.declared.list_fault.ListFault.TheVariants.{OutOfMemory, WrongMesonTest}
 pub use Rattle.nj_test_lists.specs.Meson.{AreMesonTests, IsMesonTest, files_of, nonempty, environment, assignments, extra_paths}
 pub use Rattle.nj_test_lists.specs.Meson.{built_before, folder_of_test, AreTargets}

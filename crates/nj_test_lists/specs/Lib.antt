@@ -3,6 +3,7 @@ pub mod Values
 pub mod CTest
 pub mod Meson
 pub mod Faults
+pub mod Laws
 -- how the code does that
 pub mod Inside
 -- what the contracts cite
