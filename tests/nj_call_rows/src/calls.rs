@@ -8,6 +8,7 @@ use crate::globs::put_matched;
 use crate::joined_logs::{put_joined, put_undeclared};
 use crate::keys::DrawnKeys;
 use crate::lexing::put_lexed;
+use crate::lists::{put_ctest, put_meson};
 use crate::loads::{put_comparison, put_of_files};
 use crate::marks::{put_mark, put_mark_of};
 use crate::present::put_present;
@@ -92,6 +93,8 @@ fn put_of_text(
         "depfile" => put_depfile(alloc, text, &subject),
         "pieces" => put_pieces(alloc, text, &subject),
         "mark" => put_mark(alloc, text, &subject),
+        "ctest" => put_ctest(alloc, text, &subject),
+        "meson" => put_meson(alloc, text, &subject, given.bytes("targets")),
         _ => return Ok(false),
     };
     outcome?;

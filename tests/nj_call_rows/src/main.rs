@@ -15,6 +15,7 @@ mod handles;
 mod joined_logs;
 mod keys;
 mod lexing;
+mod lists;
 mod loads;
 mod marks;
 mod present;
