@@ -262,7 +262,7 @@ clean-round : (above name path : List ℕ) → IsName name
     ≡ clean_path_of ((above ++ 47 ∷ name) ++ 47 ∷ path)
 clean-round above name path is =
     same-clean ((above ++ 47 ∷ name) ++ 47 ∷ (46 ∷ 46 ∷ 47 ∷ name ++ 47 ∷ path))
-        ((above ++ 47 ∷ name) ++ 47 ∷ path)
+    ((above ++ 47 ∷ name) ++ 47 ∷ path)
     (front-in (above ++ 47 ∷ name) (46 ∷ 46 ∷ 47 ∷ name ++ 47 ∷ path) path)
     (round above name path is)
 

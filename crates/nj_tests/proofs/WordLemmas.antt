@@ -121,7 +121,7 @@ module _ (word stretch : List ℕ) where
           (Contains-append_right (word ∷ rests) signed stretch has))
       by false is = subst (λ ss. Contains ss stretch)
           (slice_split_none is_sign word (none-pass is_sign word (no-signs word is)) ∙ sym (if-whole word is))
-              has
+          has
 
   cut-in : Contains cut stretch → Contains (stretches_of word) stretch
   cut-in has = by (list_any is_cut word) refl
@@ -149,7 +149,7 @@ rests-are before piece sign is some =
     let word = before ++ sign ∷ piece in
     stretch-piece word piece
     (rest-in word piece (any-from is_cut before sign piece (sign-cuts sign is))
-        (rest-at before piece sign is))
+    (rest-at before piece sign is))
     some
 
 -- ---- what lies between two bytes of a kind
