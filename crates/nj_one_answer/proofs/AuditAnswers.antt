@@ -4,14 +4,14 @@ use Rattle.std.proofs.Common.{OnOk, List, [], ◌∷◌, ◌++◌, map, length, 
 use Rattle.std.proofs.Common.{arith}
 use Rattle.std.specs.Prelude.{slice_index_or, find, cond, not, ◌&&◌, is_some, option_map}
 use Rattle.std.specs.Borrow.{Bor}
-use Rattle.std.specs.List.{filter_map}
+use Rattle.std.specs.List.{filter, filter_map}
 use Rattle.std.proofs.Math.Path.{fun_ext}
 use Rattle.std.proofs.lemmas.List.{length_push, reverse-append, reverse-reverse}
 use Rattle.nj_scope.specs.ReadingList.{ReadStatement}
 use Rattle.nj_graph.specs.Edges.{EdgePaths, is_among, maker_of, users_of}
 use Rattle.nj_graph.specs.Graph.{GraphModel, edges_of, files_of}
 use Rattle.nj_graph.specs.Undeclared.{InputOfEdge}
-use Rattle.nj_audit.specs.Audit.{depfiles_without_deps, edge_numbers, findings_asked_for, is_set}
+use Rattle.nj_audit.specs.Audit.{depfiles_without_deps, edge_numbers, is_set}
 use Rattle.nj_audit.specs.Audit.{missing_sources, numbers, path_of}
 use Rattle.nj_audit.specs.Audit.{repeated_commands, repeated_inputs, unused_outputs, unused_pools}
 use Rattle.nj_audit.specs.Audit.{unused_rules, unused_variables}
@@ -23,6 +23,7 @@ use Rattle.nj_audit.specs.Serving.{AreServing}
 use Rattle.nj_audit.specs.UnorderedFiles.{AreUnordered, AreNamedUnordered, IsUnordered, files_named}
 use Rattle.nj_audit.specs.UnorderedFiles.AreUnordered.{none, unordered, again, ordered}
 use Rattle.nj_audit.specs.UnorderedFiles.AreNamedUnordered.{no_edges, one_more}
+use Rattle.nj_audit.specs.declared.kinds.Kind.{Kind}
 use Rattle.nj_audit.specs.declared.kinds.Kind.TheVariants.{MissingSource, UndeclaredInput}
 use Rattle.nj_audit.specs.declared.kinds.Kinds.{Kinds}
 use Rattle.nj_one_answer.specs.Agreement.{AgreeBoth, AgreeIfOk}
@@ -54,7 +55,7 @@ same-flag false false to from = refl
 abbrev flags : List Bool → ℕ → Bool
 flags given e = slice_index_or given e false
 
-serving-agree : (edges : List EdgePaths) (one other : List Bool) → AreServing edges one
+pub serving-agree : (edges : List EdgePaths) (one other : List Bool) → AreServing edges one
     → AreServing edges other
     → flags one ≡ flags other
 serving-agree edges one other is also = fun_ext (λ e. same-flag (slice_index_or one e false)
@@ -62,14 +63,14 @@ serving-agree edges one other is also = fun_ext (λ e. same-flag (slice_index_or
 
 -- ---- files that commands name
 
-last-same : {X : Type 0} (xs ys : List X) (x y : X) → xs ++ x ∷ [] ≡ ys ++ y ∷ [] → (xs ≡ ys) × (x ≡ y)
+pub last-same : {X : Type 0} (xs ys : List X) (x y : X) → xs ++ x ∷ [] ≡ ys ++ y ∷ [] → (xs ≡ ys) × (x ≡ y)
 last-same xs ys x y is =
     let turned : x ∷ reverse xs ≡ y ∷ reverse ys =
     sym (reverse-append xs (x ∷ [])) ∙ ap reverse is ∙ reverse-append ys (y ∷ []) in
     let front : reverse xs ≡ reverse ys = cc in
     (sym (reverse-reverse xs) ∙ ap reverse front ∙ reverse-reverse ys, cc)
 
-last-apart : {X : Type 0} (xs : List X) (x : X) → [] ≡ xs ++ x ∷ [] → ⊥
+pub last-apart : {X : Type 0} (xs : List X) (x : X) → [] ≡ xs ++ x ∷ [] → ⊥
 last-apart xs x is = absurd (omega (arith, ap length is, length_push xs x))
 
 module _ (g : GraphModel) (edge : ℕ) where
@@ -188,7 +189,7 @@ module _ (g : GraphModel) (entries : List ReadStatement) (folder : List ℕ) whe
 
 -- ---- all findings
 
-sources-agree : (g : GraphModel) (missing one other : List Bool)
+pub sources-agree : (g : GraphModel) (missing one other : List Bool)
     → flags one ≡ flags other
     → missing_sources g missing one ≡ missing_sources g missing other
 sources-agree g missing one other same =
@@ -197,6 +198,28 @@ sources-agree g missing one other same =
     (cond (is_set missing file && not (is_some (maker_of (edges_of g) (path_of g file))))
     (find s (users_of (edges_of g) (path_of g file))) None)) (numbers (length (files_of g)))) same
 
+-- by the same kinds
+pub findings-agree : (g : GraphModel) (entries : List ReadStatement) (missing : List Bool) (folder : List ℕ)
+    (logged : List InputOfEdge) (kinds kinds2 : Kinds) → contains kinds ≡ contains kinds2
+    → (one other : List FindingModel) → IsAudit g entries missing folder logged kinds one
+    → IsAudit g entries missing folder logged kinds2 other → one ≡ other
+findings-agree g entries missing folder logged kinds kinds2 same one other is also =
+    let all : (Kind → Bool) → List FindingModel → List FindingModel → List FindingModel =
+    λ test sources undeclared.
+    filter (λ f. test f.kind) (unused_outputs g ++ sources ++ unused_rules g ++ unused_pools g entries
+    ++ unused_variables g entries ++ repeated_commands g entries ++ depfiles_without_deps g entries
+    ++ repeated_inputs g ++ undeclared) in
+    is.finds
+    ∙ ap (λ test. all test (missing_sources g missing is.serving) is.undeclared) same
+    ∙ ap (λ s. all (contains kinds2) s is.undeclared) (sources-agree g missing is.serving also.serving
+    (serving-agree (edges_of g) is.serving also.serving is.are_serving also.are_serving))
+    ∙ ap (all (contains kinds2) (missing_sources g missing also.serving))
+    (undeclared-agree g entries folder logged
+    (contains kinds2 UndeclaredInput) is.undeclared also.undeclared
+    (subst (λ asked. AreFoundIf asked g entries folder logged is.undeclared)
+    (ap (λ (test : Kind → Bool). test UndeclaredInput) same) is.are_undeclared) also.are_undeclared)
+    ∙ sym also.finds
+
 pub audits-agree : {E : Type 0} (g : GraphModel) (entries : List ReadStatement) (missing : List Bool)
     (folder : List ℕ)
     → (logged : List InputOfEdge) (kinds : Kinds) (a b : Result (List FindingModel) E)
@@ -204,16 +227,7 @@ pub audits-agree : {E : Type 0} (g : GraphModel) (entries : List ReadStatement) 
     → IfOk b (IsAudit g entries missing folder logged kinds)
     → AgreeIfOk (λ one other. one ≡ other) a b
 audits-agree g entries missing folder logged kinds (Ok a) (Ok b) is also =
-    let all : List FindingModel → List FindingModel → List FindingModel = λ sources undeclared.
-    findings_asked_for kinds (unused_outputs g ++ sources ++ unused_rules g ++ unused_pools g entries
-    ++ unused_variables g entries ++ repeated_commands g entries ++ depfiles_without_deps g entries
-    ++ repeated_inputs g ++ undeclared) in
-    is.finds
-    ∙ ap (λ s. all s is.undeclared) (sources-agree g missing is.serving also.serving
-    (serving-agree (edges_of g) is.serving also.serving is.are_serving also.are_serving))
-    ∙ ap (all (missing_sources g missing also.serving)) (undeclared-agree g entries folder logged
-    (contains kinds UndeclaredInput) is.undeclared also.undeclared is.are_undeclared also.are_undeclared)
-    ∙ sym also.finds
+    findings-agree g entries missing folder logged kinds kinds refl a b is also
 audits-agree g entries missing folder logged kinds (Ok a) (Err f) is also = tt
 audits-agree g entries missing folder logged kinds (Err e) (Ok b) is also = tt
 audits-agree g entries missing folder logged kinds (Err e) (Err f) is also = tt

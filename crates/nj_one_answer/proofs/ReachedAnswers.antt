@@ -2,10 +2,12 @@
 use Rattle.std.proofs.Common.{◌≡◌, ◌⊎◌, inl, inr, ℕ, zero, suc, ◌<◌, List, [], ◌∷◌, length, refl, sym, ap}
 use Rattle.std.proofs.Common.{subst, ◌∙◌, arith}
 use Rattle.std.proofs.Common.{Result, Ok, Err, IfOk}
-use Rattle.std.specs.Prelude.{Contains, slice_index_or}
+use Rattle.std.specs.Prelude.{Contains, ◌↔◌, slice_index_or}
 use Rattle.std.specs.List.{AllPairs}
+use Rattle.std.specs.List.Sorted.{IsStrictlyIncreasing}
 use Rattle.std.proofs.lemmas.List.Kept.{AllPairs-from_increasing}
-use Rattle.nj_graph.specs.Graph.{GraphModel}
+use Rattle.nj_graph.specs.Changes.{IsAffected}
+use Rattle.nj_graph.specs.Graph.{GraphModel, edges_of}
 use Rattle.nj_graph.specs.Handles.{GraphEdge, ListsAffected, ListsNeeded, edges_in}
 use Rattle.nj_one_answer.specs.Agreement.{AgreeIfOk}
 use Rattle.nj_one_answer.specs.Graphs.{SameButTies}
@@ -63,27 +65,30 @@ same-members (x ∷ xs) (y ∷ ys) up up2 to from =
     kept-back n low first (inl is) = absurd (omega (arith, low, first, is))
     kept-back n low first (inr later) = later
 
+-- rising numbers of one kind
+pub rising-agree : (P : ℕ → Type 0) (one other : List ℕ) → ((n : ℕ) → Contains one n ↔ P n)
+    → IsStrictlyIncreasing one → ((n : ℕ) → Contains other n ↔ P n) → IsStrictlyIncreasing other → one ≡ other
+rising-agree P one other are up are2 up2 =
+    same-members one other (AllPairs-from_increasing one up) (AllPairs-from_increasing other up2)
+    (λ n there. let c = (are2 n).1 ((are n).0 (contains one n there)) in among other n c.0 c.1 c.2)
+    (λ n there. let c = (are n).1 ((are2 n).0 (contains other n there)) in among one n c.0 c.1 c.2)
+
 pub affected-agree : {E : Type 0} (graph : GraphModel) (files : List (List ℕ))
     (one other : Result (List GraphEdge) E)
     → IfOk one (ListsAffected graph files) → IfOk other (ListsAffected graph files)
     → AgreeIfOk (λ a b. a ≡ b) one other
 affected-agree graph files (Ok a) (Ok b) is also =
-    let numbers : is.numbers ≡ also.numbers = same-members is.numbers also.numbers
-    (AllPairs-from_increasing is.numbers is.rises) (AllPairs-from_increasing also.numbers also.rises)
-    (λ n there. let c = (also.affected n).1 ((is.affected n).0 (contains is.numbers n there)) in
-    among also.numbers n c.0 c.1 c.2)
-    (λ n there. let c = (is.affected n).1 ((also.affected n).0 (contains also.numbers n there)) in
-    among is.numbers n c.0 c.1 c.2) in
-    is.found_are ∙ ap (edges_in graph) numbers ∙ sym also.found_are
+    is.found_are ∙ ap (edges_in graph) (rising-agree (IsAffected (edges_of graph) files) is.numbers
+    also.numbers
+    is.affected is.rises also.affected also.rises) ∙ sym also.found_are
 affected-agree graph files (Ok a) (Err f) is also = tt
 affected-agree graph files (Err e) (Ok b) is also = tt
 affected-agree graph files (Err e) (Err f) is also = tt
 
-pub needed-agree : {E : Type 0} (graph : GraphModel) (files : List (List ℕ))
-    (one other : Result (List GraphEdge) E)
-    → IfOk one (ListsNeeded graph files) → IfOk other (ListsNeeded graph files)
-    → AgreeIfOk (SameButTies graph files) one other
-needed-agree graph files (Ok a) (Ok b) is also = record {
+-- edges that are needed, nearest first
+pub nearest-agree : (graph : GraphModel) (files : List (List ℕ)) (one other : List GraphEdge)
+    → ListsNeeded graph files one → ListsNeeded graph files other → SameButTies graph files one other
+nearest-agree graph files one other is also = record {
   numbers = is.numbers;
   others = also.numbers;
   one_is = is.found_are;
@@ -95,6 +100,12 @@ needed-agree graph files (Ok a) (Ok b) is also = record {
   once = (is.each_once, also.each_once);
   nearest_first = (is.nearest_first, also.nearest_first);
 }
+
+pub needed-agree : {E : Type 0} (graph : GraphModel) (files : List (List ℕ))
+    (one other : Result (List GraphEdge) E)
+    → IfOk one (ListsNeeded graph files) → IfOk other (ListsNeeded graph files)
+    → AgreeIfOk (SameButTies graph files) one other
+needed-agree graph files (Ok a) (Ok b) is also = nearest-agree graph files a b is also
 needed-agree graph files (Ok a) (Err f) is also = tt
 needed-agree graph files (Err e) (Ok b) is also = tt
 needed-agree graph files (Err e) (Err f) is also = tt

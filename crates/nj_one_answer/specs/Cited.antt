@@ -1,11 +1,13 @@
 -- What the contracts of this crate cite: each name comes from the module in its line.
-pub use Rattle.nj_one_answer.specs.Agreement.{AgreeBoth, AgreeIfOk, AgreeBut, AgreeUpTo}
-pub use Rattle.nj_graph.specs.Graph.{OfStatements, edges_of, main_rules, files_of, GraphModel}
+pub use Rattle.nj_one_answer.specs.Answers.{OneAffectedAnswer, OneAffectedDrawing, OneAnswer, OneAuditAnswer, OneDrawAnswer, OneJsonAnswer}
+pub use Rattle.nj_one_answer.specs.Answers.{OneKeysAnswer, OneWhyAnswer, SameKnownHaveSameAnswers}
+pub use Rattle.nj_graph.specs.Graph.{files_of, OfStatements, edges_of, main_rules, GraphModel}
+pub use Rattle.nj_one_answer.specs.Agreement.{AgreeIfOk, AgreeUpTo, AgreeBoth, AgreeBut}
+pub use Rattle.nj_one_answer.specs.Sources.{DeclareSame, TellAll, UnlessFails}
+pub use Rattle.nj_one_answer.specs.Memory.{IsGraphOutOfMemory, IsLogOutOfMemory, IsUnread, IsMarkOutOfMemory}
 pub use Rattle.nj_one_answer.specs.AuditKinds.{SameKinds}
-pub use Rattle.nj_one_answer.specs.Memory.{IsLogOutOfMemory, IsGraphOutOfMemory, IsUnread, IsMarkOutOfMemory}
 pub use Rattle.nj_graph.specs.Handles.{edge_of, OfEdge, edges_in, files_in, file_of}
 pub use Rattle.nj_scope.specs.Scopes.{IsScope, parent_at}
-pub use Rattle.nj_one_answer.specs.Sources.{DeclareSame, UnlessFails, TellAll}
 pub use Rattle.nj_one_answer.specs.Graphs.{SameDiscoveries, SameGraph, SameLoaded, SameButTies}
 pub use Rattle.std.specs.List.{IsDistinct}
 pub use Rattle.nj_one_answer.specs.KeyPages.{SamePage}

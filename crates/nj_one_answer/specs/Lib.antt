@@ -1,5 +1,6 @@
 -- the definitions to believe
 pub mod Agreement
+pub mod Answers
 pub mod AuditKinds
 pub mod Graphs
 pub mod KeyPages

@@ -5,6 +5,7 @@
 //! contract allows differ in more than the function's documentation names as free.
 #![tactic(auto)]
 
+mod answers;
 mod audits;
 mod deps;
 mod graph;
@@ -12,6 +13,10 @@ mod keys;
 mod needs;
 mod tools;
 
+pub use answers::{
+    affected_answer_law, answer_law, audit_answer_law, draw_answer_law, json_answer_law,
+    keys_answer_law, known_answer_law, why_answer_law,
+};
 pub use audits::{audit, findings_extend, findings_push, findings_push_at, kinds_from_words};
 pub use deps::{deps_log_read, deps_log_read_with_keys};
 pub use graph::edge_values::{

@@ -1,0 +1,307 @@
+-- Answers about two graphs with the same values.
+use Rattle.std.proofs.Common.{◌≡◌, ◌⊎◌, inl, inr, ℕ, Bool, true, false, cond, Option, Some, None, List, []}
+use Rattle.std.proofs.Common.{◌∷◌}
+use Rattle.std.proofs.Common.{◌++◌, map, refl, sym, ap, subst, ◌∙◌}
+use Rattle.std.specs.Prelude.{find, not, unwrap_or}
+use Rattle.nj_text.specs.Calls.{is_empty}
+use Rattle.nj_scope.specs.ReadingList.{ReadStatement}
+use Rattle.nj_discovered.specs.Times.{DeclaredTimes}
+use Rattle.nj_graph.specs.declared.EdgeNo.{EdgeNo}
+use Rattle.nj_graph.specs.declared.undeclared.UndeclaredInput.{UndeclaredInput}
+use Rattle.nj_graph.specs.Graph.{GraphModel, edges_of}
+use Rattle.nj_graph.specs.Handles.{GraphEdge, files_in}
+use Rattle.nj_audit.specs.Audits.{IsAudit}
+use Rattle.nj_audit.specs.LoggedInputs.{inputs_in}
+use Rattle.nj_tools.specs.Compdb.{text_fault}
+use Rattle.nj_tools.specs.EdgeObjects.{edge_lines, unwritable_edge}
+use Rattle.nj_tools.specs.declared.EdgeDiscovery.{EdgeDiscovery}
+use Rattle.nj_questions.specs.Questions.{AffectedModel, AuditModel, DrawModel, KeysModel, SubjectModel}
+use Rattle.nj_questions.specs.Questions.{WhyModel}
+use Rattle.nj_questions.specs.Questions.{affected, audit, draw, json, keys, why}
+use Rattle.nj_ask.specs.declared.discovered.DiscoveredGraph.{DiscoveredGraph}
+use Rattle.nj_ask.specs.declared.doubts.EdgeFault.{EdgeFault}
+use Rattle.nj_ask.specs.declared.status.Status.TheVariants.{Fault}
+use Rattle.nj_ask.specs.Affected.{Asked}
+use Rattle.nj_ask.specs.Answers.{AnswersAffected, AnswersDraw, AnswersJson, AnswersKeys, AnswersWhy}
+use Rattle.nj_ask.specs.Answers.{HasDepfileFault}
+use Rattle.nj_ask.specs.Answers.{IsClear, asked_mark, kinds_asked}
+use Rattle.nj_ask.specs.Answers.AnswersAffected.{no_path, no_rule, reported}
+use Rattle.nj_ask.specs.Answers.AnswersDraw.{no_target as undrawn_target, no_depfile as undrawn_depfile}
+use Rattle.nj_ask.specs.Answers.AnswersDraw.{drawing}
+use Rattle.nj_ask.specs.Answers.AnswersJson.{all, not_text}
+use Rattle.nj_ask.specs.Answers.AnswersKeys.{no_target, no_depfile, out_of_range, page}
+use Rattle.nj_ask.specs.Answers.AnswersWhy.{no_start, no_end, no_depfile as unlinked_depfile, chain, no_chain}
+use Rattle.nj_ask.specs.Asks.{Answers}
+use Rattle.nj_ask.specs.Audits.{AnswersAudit, lookup_lines}
+use Rattle.nj_ask.specs.Chains.{HasChain}
+use Rattle.nj_ask.specs.DiscoveredGraphs.{IsTouched, TouchedBy}
+use Rattle.nj_ask.specs.Drawings.{IsDrawing, ListsEdges, drawing_text}
+use Rattle.nj_ask.specs.Drawings.ListsEdges.{needed, touched}
+use Rattle.nj_ask.specs.DrawnNodes.{drawn_nodes}
+use Rattle.nj_ask.specs.Endings.{Ending, answered, fault_line, program_line, refused}
+use Rattle.nj_ask.specs.Manifest.{is_one_of}
+use Rattle.nj_ask.specs.NeededFaults.{IsFirstFault}
+use Rattle.nj_ask.specs.Pages.{mark_line}
+use Rattle.nj_ask.specs.Reports.{ChangeModel, IsReport, changed_numbers, changed_paths}
+use Rattle.nj_ask.specs.Shape.{caveat_text, dyndep_text, shape_text}
+use Rattle.nj_one_answer.specs.Answers.{SameKnown, SameKnownHaveSameAnswers}
+
+-- ---- faults of depfiles
+
+abbrev number_of : EdgeFault → ℕ
+number_of fault = fault.edge.0
+
+abbrev text_of : EdgeFault → List ℕ
+text_of fault = fault.text.items
+
+none-left : (faults : List EdgeFault) → [] ≡ map number_of faults → faults ≡ []
+none-left [] is = refl
+none-left (f ∷ faults) is = absurd cc
+
+module _ (test : ℕ → Bool) where
+  abbrev first : List EdgeFault → Option EdgeFault
+  first faults = find (λ (fault : EdgeFault). test fault.edge.0) faults
+
+  none-moves : (one other : List EdgeFault) → map number_of one ≡ map number_of other → None ≡ first one
+      → None ≡ first other
+  none-moves [] [] are is = refl
+  none-moves [] (g ∷ other) are is = absurd cc
+  none-moves (f ∷ one) [] are is = absurd cc
+  none-moves (f ∷ one) (g ∷ other) are is =
+      let here : f.edge.0 ≡ g.edge.0 = cc in
+      let rest : map number_of one ≡ map number_of other = cc in
+      by (test f.edge.0) (test g.edge.0) (ap test here) (none-moves one other rest) is
+    where
+      by : (b c : Bool) → b ≡ c → (None ≡ first one → None ≡ first other) → None ≡ cond b (Some f) (first one)
+          → None ≡ cond c (Some g) (first other)
+      by true c same later is = absurd cc
+      by false true same later is = absurd cc
+      by false false same later is = later is
+
+  some-moves : (one other : List EdgeFault) → map number_of one ≡ map number_of other
+      → map text_of one ≡ map text_of other → (fault : EdgeFault) → Some fault ≡ first one
+      → (more : EdgeFault) × (Some more ≡ first other) × (text_of fault ≡ text_of more)
+  some-moves [] other are texts fault is = absurd cc
+  some-moves (f ∷ one) [] are texts fault is = absurd cc
+  some-moves (f ∷ one) (g ∷ other) are texts fault is =
+      let here : f.edge.0 ≡ g.edge.0 = cc in
+      let rest : map number_of one ≡ map number_of other = cc in
+      let text : text_of f ≡ text_of g = cc in
+      let others : map text_of one ≡ map text_of other = cc in
+      by (test f.edge.0) (test g.edge.0) (ap test here) text
+      (λ found. some-moves one other rest others fault found) is
+    where
+      by : (b c : Bool) → b ≡ c → text_of f ≡ text_of g
+          → (Some fault ≡ first one → (more : EdgeFault) × (Some more ≡ first other)
+          × (text_of fault ≡ text_of more))
+          → Some fault ≡ cond b (Some f) (first one)
+          → (more : EdgeFault) × (Some more ≡ cond c (Some g) (first other)) × (text_of fault ≡ text_of more)
+      by true true same text later is = let it : fault ≡ f = cc in (g, refl, ap text_of it ∙ text)
+      by true false same text later is = absurd cc
+      by false true same text later is = absurd cc
+      by false false same text later is = later is
+
+-- ---- a graph in which what lies in memory is another's
+
+module _ (one other : DiscoveredGraph) (same : SameKnown one other) where
+  abbrev mid : DiscoveredGraph
+  mid = record other { graph = one.graph; has_discovered = one.has_discovered }
+
+  mid-is : mid ≡ other
+  mid-is =
+      ap (λ (k : GraphModel). let d : DiscoveredGraph =
+      record other { graph = k; has_discovered = one.has_discovered } in d)
+      same.graph
+      ∙ ap (λ (b : Bool). let d : DiscoveredGraph = record other { graph = other.graph; has_discovered = b }
+      in d)
+      same.has_discovered
+
+  caveats : (entries : List ReadStatement) → caveat_text mid entries ≡ caveat_text one entries
+  caveats entries =
+      ap (λ (c : List ℕ). c ++ cond one.has_discovered (dyndep_text one.graph entries [] []) [])
+      (sym same.caveats)
+
+  abbrev by_unknown : (files : List (List ℕ)) (edge : ℕ) → List EdgeNo → Type 0
+  by_unknown files edge unknown =
+      TouchedBy one.has_discovered (edges_of one.graph) files (map (λ (e : EdgeNo). e.0) unknown) edge
+
+  touches : (files : List (List ℕ)) (edge : ℕ) → IsTouched one files edge → IsTouched mid files edge
+  touches files edge = subst (by_unknown files edge) same.unknown
+
+  touches-back : (files : List (List ℕ)) (edge : ℕ) → IsTouched mid files edge → IsTouched one files edge
+  touches-back files edge = subst (by_unknown files edge) (sym same.unknown)
+
+  faulty : (files : List (List ℕ)) (line : List ℕ) → HasDepfileFault one files line
+      → HasDepfileFault mid files line
+  faulty files line has =
+      let m = some-moves (is_one_of has.first.needed) one.faults.items other.faults.items same.faulty
+      same.texts
+      has.fault has.first.first in
+      record {
+        fault = m.0;
+        first = record { needed = has.first.needed; are_needed = has.first.are_needed; first = m.1 };
+        line_is = has.line_is ∙ ap program_line m.2;
+      }
+
+  clear : (files : List (List ℕ)) → IsClear one files → IsClear mid files
+  clear files (inl none) = inl (none-left other.faults.items (sym (ap (map number_of) none) ∙ same.faulty))
+  clear files (inr is) = inr (record {
+    needed = is.needed;
+    are_needed = is.are_needed;
+    first = none-moves (is_one_of is.needed) one.faults.items other.faults.items same.faulty is.first;
+  })
+
+  report : (entries : List ReadStatement) (q : ChangeModel) (asked : Asked) (outputs warnings : List ℕ)
+      → IsReport one entries q asked outputs warnings → IsReport mid entries q asked outputs warnings
+  report entries q asked outputs warnings is = record {
+    lists = record {
+      edges = is.lists.edges;
+      touched = λ e. (
+        (λ has. touches (changed_paths one.graph q) e ((is.lists.touched e).0 has)),
+        (λ it. (is.lists.touched e).1 (touches-back (changed_paths one.graph q) e it)),
+      );
+      rises = is.lists.rises;
+      lines = is.lists.lines;
+    };
+    about = is.about;
+    warns = is.warns;
+    all = is.all ∙ ap (λ (c : List ℕ). c ++ is.about
+        ++ shape_text one entries (changed_numbers one.graph q) is.lists.edges) same.caveats;
+  }
+
+  affected-moves : (entries : List ReadStatement) (options : AffectedModel) (input output : List ℕ)
+      (ending : Ending)
+      → AnswersAffected one entries options input output ending
+      → AnswersAffected mid entries options input output ending
+  affected-moves entries options input _ _ (no_rule is) = no_rule is
+  affected-moves entries options input _ _ (no_path none empty asks) = no_path none empty asks
+  affected-moves entries options input _ _ (reported {outputs = o} {warnings = w} none some is) =
+      reported none some (report entries _ _ o w is)
+
+  why-moves : (entries : List ReadStatement) (options : WhyModel) (output : List ℕ) (ending : Ending)
+      → AnswersWhy one entries options output ending → AnswersWhy mid entries options output ending
+  why-moves entries options _ _ (no_start bad) = no_start bad
+  why-moves entries options _ _ (no_end from bad) = no_end from bad
+  why-moves entries options _ _ (unlinked_depfile {line = line} from to has) =
+      unlinked_depfile from to (faulty _ line has)
+  why-moves entries options _ _ (chain {start = a} {end = b} {lines = t} from to fine is) =
+      subst (λ (c : List ℕ). AnswersWhy mid entries options t (answered false c)) (caveats entries)
+      (chain from to (clear _ fine)
+      (subst (λ (ds : List EdgeDiscovery). HasChain one.graph ds (kinds_asked options) a b t) same.discoveries
+      is))
+  why-moves entries options _ _ (no_chain from to fine none) =
+      subst (λ (c : List ℕ). AnswersWhy mid entries options [] (answered true c)) (caveats entries)
+      (no_chain from to (clear _ fine) none)
+
+  keys-moves : (entries : List ReadStatement) (options : KeysModel) (mark output : List ℕ) (ending : Ending)
+      → AnswersKeys one entries options mark output ending
+      → AnswersKeys mid entries options mark output ending
+  keys-moves entries options mark _ _ (no_target bad) = no_target bad
+  keys-moves entries options mark _ _ (no_depfile {paths = ps} {line = line} at has) =
+      no_depfile at (faulty ps line has)
+  keys-moves entries options mark _ _ (out_of_range {paths = ps} at fine bad) =
+      out_of_range at (clear ps fine) bad
+  keys-moves entries options mark _ _ (page {paths = ps} {lines = t} rest at fine valid lists begins stops) =
+      subst (λ (c : List ℕ). AnswersKeys mid entries options mark t (answered false (mark_line rest ++ c)))
+      (caveats entries) (page rest at (clear ps fine) valid lists begins stops)
+
+  json-moves : (entries : List ReadStatement) (output : List ℕ) (ending : Ending)
+      → AnswersJson one entries output ending → AnswersJson mid entries output ending
+  json-moves entries _ _ (all none) =
+      subst (λ (ds : List EdgeDiscovery). AnswersJson mid entries (edge_lines entries ds)
+      (answered false (caveat_text one entries))) (sym same.discoveries)
+      (subst (λ (c : List ℕ). AnswersJson mid entries (edge_lines entries other.discoveries.items)
+      (answered false c))
+      (caveats entries)
+      (all (subst (λ (ds : List EdgeDiscovery). unwritable_edge entries ds ≡ None) same.discoveries none)))
+  json-moves entries _ _ (not_text {edge = e} is) =
+      subst (λ (ds : List EdgeDiscovery). AnswersJson mid entries (edge_lines entries ds)
+      (refused (fault_line (text_fault entries e)) Fault)) (sym same.discoveries)
+      (not_text (subst (λ (ds : List EdgeDiscovery). unwritable_edge entries ds ≡ Some e) same.discoveries
+      is))
+
+  lists-move : (files : List (List ℕ)) (affected : Bool) (edges : List GraphEdge)
+      → ListsEdges one files affected edges → ListsEdges mid files affected edges
+  lists-move files _ _ (needed is) = needed is
+  lists-move files _ _ (touched numbers are up) =
+      touched numbers (λ e. (
+        (λ has. touches files e ((are e).0 has)),
+        (λ it. (are e).1 (touches-back files e it)),
+      )) up
+
+  drawing-moves : (options : DrawModel) (files : List (List ℕ)) (text : List ℕ)
+      → IsDrawing one options files text
+      → IsDrawing mid options files text
+  drawing-moves options files text is = record {
+    edges = is.edges;
+    lists = lists-move files options.affected is.edges is.lists;
+    text_is = is.text_is ∙ ap (λ (ds : List EdgeDiscovery). drawing_text ds options.fold
+        (drawn_nodes options (files_in one.graph files) is.edges) is.edges) same.discoveries;
+  }
+
+  fine-moves : (on : Bool) (files : List (List ℕ)) → (on ≡ true) ⊎ IsClear one files
+      → (on ≡ true) ⊎ IsClear mid files
+  fine-moves on files (inl is) = inl is
+  fine-moves on files (inr fine) = inr (clear files fine)
+
+  draw-moves : (entries : List ReadStatement) (options : DrawModel) (output : List ℕ) (ending : Ending)
+      → AnswersDraw one entries options output ending → AnswersDraw mid entries options output ending
+  draw-moves entries options _ _ (undrawn_target bad) = undrawn_target bad
+  draw-moves entries options _ _ (undrawn_depfile {paths = ps} {line = line} at off has) =
+      undrawn_depfile at off (faulty ps line has)
+  draw-moves entries options _ _ (drawing {paths = ps} {text = t} at fine is) =
+      subst (λ (c : List ℕ). AnswersDraw mid entries options t (answered false c)) (caveats entries)
+      (drawing at (fine-moves options.affected ps fine) (drawing-moves options ps t is))
+
+  audit-moves : (entries : List ReadStatement) (times : DeclaredTimes) (folder : List ℕ)
+      (options : AuditModel)
+      (output : List ℕ) (ending : Ending) → AnswersAudit one entries times folder options output ending
+      → AnswersAudit mid entries times folder options output ending
+  audit-moves entries times folder options output ending is = record {
+    kinds = is.kinds;
+    asked = is.asked;
+    missing = is.missing;
+    unknown = is.unknown;
+    look_up = is.look_up;
+    found = is.found;
+    finds = subst (λ (ns : List UndeclaredInput). IsAudit one.graph entries is.missing folder
+        (inputs_in one.graph ns)
+        is.kinds is.found) same.undeclared is.finds;
+    lookups = is.lookups;
+    would_be_missing = is.would_be_missing;
+    output_is = is.output_is;
+    ending_is = is.ending_is
+        ∙ ap (λ (c : List ℕ). answered (not (is_empty is.found)) (lookup_lines is.lookups ++ c))
+        (sym (caveats entries));
+  }
+
+  moves : (entries : List ReadStatement) (times : DeclaredTimes) (folder : List ℕ) (subject : SubjectModel)
+      (input output : List ℕ) (ending : Ending) → Answers one entries times folder subject input output ending
+      → Answers mid entries times folder subject input output ending
+  moves entries times folder (affected options) input output ending is =
+      affected-moves entries options input output ending is
+  moves entries times folder (audit options) input output ending is =
+      audit-moves entries times folder options output ending is
+  moves entries times folder (draw options) input output ending is =
+      draw-moves entries options output ending is
+  moves entries times folder json input output ending is = json-moves entries output ending is
+  moves entries times folder (keys options) input output ending is =
+      keys-moves entries options (unwrap_or (asked_mark options) []) output ending is
+  moves entries times folder (why options) input output ending is = why-moves entries options output ending is
+
+pub same-answers : SameKnownHaveSameAnswers
+same-answers one other same entries times folder subject input output ending is =
+    subst (λ (known : DiscoveredGraph). Answers known entries times folder subject input output ending)
+    (mid-is one other same) (moves one other same entries times folder subject input output ending is)
+
+pub same-back : (one other : DiscoveredGraph) → SameKnown one other → SameKnown other one
+same-back one other same = record {
+  graph = sym same.graph;
+  has_discovered = sym same.has_discovered;
+  unknown = sym same.unknown;
+  faulty = sym same.faulty;
+  texts = sym same.texts;
+  discoveries = sym same.discoveries;
+  caveats = sym same.caveats;
+  undeclared = sym same.undeclared;
+}

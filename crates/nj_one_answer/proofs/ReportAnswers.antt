@@ -1,0 +1,72 @@
+-- Two answers of `affected`.
+use Rattle.std.proofs.Common.{◌≡◌, ◌≢◌, ◌⊎◌, inl, inr, ℕ, true, false, Option, Some, None, List, [], ◌∷◌}
+use Rattle.std.proofs.Common.{◌++◌}
+use Rattle.std.proofs.Common.{refl, sym, ap, ◌∙◌}
+use Rattle.std.specs.Prelude.{codes}
+use Rattle.std.specs.List.{flat_map}
+use Rattle.std.proofs.lemmas.Bool.{both_ways}
+use Rattle.std.proofs.lemmas.Option.{same_Some}
+use Rattle.nj_scope.specs.ReadingList.{ReadStatement}
+use Rattle.nj_questions.specs.Questions.{AffectedModel}
+use Rattle.nj_ask.specs.declared.discovered.DiscoveredGraph.{DiscoveredGraph}
+use Rattle.nj_ask.specs.declared.status.Status.TheVariants.{Fault}
+use Rattle.nj_ask.specs.Affected.{Asked, lines_of_outputs, unknown_rule}
+use Rattle.nj_ask.specs.Answers.{AnswersAffected}
+use Rattle.nj_ask.specs.Answers.AnswersAffected.{no_path, no_rule, reported}
+use Rattle.nj_ask.specs.Endings.{Ending, answered, program_line, refused}
+use Rattle.nj_ask.specs.Laws.{WarningsAreUnique}
+use Rattle.nj_ask.specs.Reports.{ChangeModel, IsReport, IsTouchedBy, changed_numbers}
+use Rattle.nj_ask.specs.Shape.{shape_text}
+use Rattle.nj_one_answer.specs.Answers.{OneAffectedAnswer}
+use Rattle.nj_one_answer.proofs.ReachedAnswers.{rising-agree}
+
+pub some-or-none : {X : Type 0} (x : X) (o : Option X) → o ≡ Some x → o ≡ None → ⊥
+some-or-none x o is none = let both : Some x ≡ None = sym is ∙ none in absurd cc
+
+module _ (unique : WarningsAreUnique) (known : DiscoveredGraph) (entries : List ReadStatement) where
+  reports-agree : (q : ChangeModel) (asked : Asked) (output other warnings more : List ℕ)
+      → IsReport known entries q asked output warnings → IsReport known entries q asked other more
+      → (output ≡ other) × (warnings ≡ more)
+  reports-agree q asked output other warnings more is also =
+      let edges = rising-agree (IsTouchedBy known q) is.lists.edges also.lists.edges is.lists.touched
+      is.lists.rises also.lists.touched also.lists.rises in
+      let about = unique known.graph entries q q.paths is.about also.about is.warns also.warns in
+      let text : List ℕ → List ℕ → List ℕ = λ a es.
+      known.caveats.items ++ a ++ shape_text known entries (changed_numbers known.graph q) es in (
+        is.lists.lines ∙ ap (flat_map (lines_of_outputs known.graph asked)) edges ∙ sym also.lists.lines,
+        is.all ∙ ap (λ a. text a is.lists.edges) about ∙ ap (text also.about) edges ∙ sym also.all,
+      )
+
+  module _ (options : AffectedModel) (input : List ℕ) where
+    unmade : (lines : List (List ℕ)) → lines ≡ [] → options.allow_empty ≡ false
+        → (lines ≢ []) ⊎ (options.allow_empty ≡ true) → ⊥
+    unmade lines none asks (inl some) = absurd (some none)
+    unmade lines none asks (inr allowed) = absurd (both_ways options.allow_empty asks allowed)
+
+    pub answers-agree : (output other : List ℕ) (ending end : Ending)
+        → AnswersAffected known entries options input output ending
+        → AnswersAffected known entries options input other end → (output ≡ other) × (ending ≡ end)
+    answers-agree _ _ _ _ (no_rule {name = a} is) (no_rule {name = b} also) = (
+      refl,
+      ap (λ name. refused (program_line (codes "unknown rule '" ++ name ++ codes "'")) Fault)
+          (same_Some a b (sym is ∙ also)),
+    )
+    answers-agree _ _ _ _ (no_rule {name = a} is) (no_path none empty asks) =
+        absurd (some-or-none a (unknown_rule known.graph options.rules) is none)
+    answers-agree _ _ _ _ (no_rule {name = a} is) (reported none some report) =
+        absurd (some-or-none a (unknown_rule known.graph options.rules) is none)
+    answers-agree _ _ _ _ (no_path none empty asks) (no_rule {name = a} is) =
+        absurd (some-or-none a (unknown_rule known.graph options.rules) is none)
+    answers-agree _ _ _ _ (no_path none empty asks) (no_path none2 empty2 asks2) = (refl, refl)
+    answers-agree _ _ _ _ (no_path none empty asks) (reported none2 some report) =
+        absurd (unmade _ empty asks some)
+    answers-agree _ _ _ _ (reported none some report) (no_rule {name = a} is) =
+        absurd (some-or-none a (unknown_rule known.graph options.rules) is none)
+    answers-agree _ _ _ _ (reported none some report) (no_path none2 empty asks) =
+        absurd (unmade _ empty asks some)
+    answers-agree _ _ _ _ (reported {outputs = o} {warnings = w} none some report)
+        (reported {outputs = p} {warnings = v} none2 some2 report2) =
+        let both = reports-agree _ _ o p w v report report2 in (both.0, ap (answered false) both.1)
+
+pub one-affected-answer : WarningsAreUnique → OneAffectedAnswer
+one-affected-answer unique known entries options input = answers-agree unique known entries options input

@@ -1,0 +1,111 @@
+-- When two answers to one question about a graph are the same.
+use Rattle.std.specs.Prelude.{◌≡◌, ℕ, true, false, Ok, List, map}
+use Rattle.nj_scope.specs.ReadingList.{ReadStatement}
+use Rattle.nj_discovered.specs.Times.{DeclaredTimes}
+use Rattle.nj_graph.specs.Graph.{IsGraphOf}
+use Rattle.nj_graph.specs.Handles.{GraphEdge, files_in}
+use Rattle.nj_questions.specs.Questions.{AffectedModel, AuditModel, DrawModel, KeysModel, WhyModel, SubjectModel, audit, draw}
+use Rattle.nj_ask.specs.declared.discovered.DiscoveredGraph.{DiscoveredGraph}
+use Rattle.nj_ask.specs.Answers.{AnswersAffected, AnswersDraw, AnswersJson, AnswersKeys, AnswersWhy, asked_targets}
+use Rattle.nj_ask.specs.Asks.{Answers}
+use Rattle.nj_ask.specs.Audits.{AnswersAudit}
+use Rattle.nj_ask.specs.Drawings.{drawing_text}
+use Rattle.nj_ask.specs.DrawnNodes.{drawn_nodes}
+use Rattle.nj_ask.specs.Endings.{Ending}
+use Rattle.nj_one_answer.specs.Graphs.{SameButTies}
+use Rattle.nj_one_answer.specs.Sources.{TellAll}
+
+-- only one output and one ending answer a question
+abbrev pub HasOneAnswer : (Is : (output : List ℕ) → Ending → Type 0) → Type 0
+HasOneAnswer Is = (output other : List ℕ) (ending end : Ending) → Is output ending → Is other end → (output ≡ other) × (ending ≡ end)
+
+-- ---- by subcommand, about one graph and its statements
+
+-- `affected`
+abbrev pub OneAffectedAnswer : Type 0
+OneAffectedAnswer = (known : DiscoveredGraph) (entries : List ReadStatement) (options : AffectedModel) (input : List ℕ)
+    → HasOneAnswer (AnswersAffected known entries options input)
+
+-- `audit`, by times that are declared of all paths
+abbrev pub OneAuditAnswer : Type 0
+OneAuditAnswer = (known : DiscoveredGraph) (entries : List ReadStatement) (times : DeclaredTimes) (folder : List ℕ)
+    (options : AuditModel) → TellAll times → HasOneAnswer (AnswersAudit known entries times folder options)
+
+-- `json`
+abbrev pub OneJsonAnswer : Type 0
+OneJsonAnswer = (known : DiscoveredGraph) (entries : List ReadStatement) → HasOneAnswer (AnswersJson known entries)
+
+-- `keys`, from a mark on
+abbrev pub OneKeysAnswer : Type 0
+OneKeysAnswer = (known : DiscoveredGraph) (entries : List ReadStatement) (options : KeysModel) (mark : List ℕ)
+    → IsGraphOf known.graph entries → HasOneAnswer (AnswersKeys known entries options mark)
+
+-- `why`
+abbrev pub OneWhyAnswer : Type 0
+OneWhyAnswer = (known : DiscoveredGraph) (entries : List ReadStatement) (options : WhyModel)
+    → HasOneAnswer (AnswersWhy known entries options)
+
+-- ---- `draw`
+
+-- the drawing of these edges for these files
+abbrev pub drawing_of : DiscoveredGraph → DrawModel → (files : List (List ℕ)) → List GraphEdge → List ℕ
+drawing_of known options files edges =
+    drawing_text known.discoveries.items options.fold (drawn_nodes options (files_in known.graph files) edges) edges
+
+-- Two texts are the same; or they are drawings, without `--affected`, of the edges that the targets need, nearest first. So only edges
+-- that are equally far from the targets may have changed places.
+pub data SameDrawing (known : DiscoveredGraph) (options : DrawModel) (one other : List ℕ) : Type 0 where
+  same : one ≡ other → SameDrawing known options one other
+  but_ties : {files : List (List ℕ)} {edges others : List GraphEdge} → options.affected ≡ false
+      → asked_targets known.graph options.targets ≡ Ok files → SameButTies known.graph files edges others
+      → one ≡ drawing_of known options files edges → other ≡ drawing_of known options files others
+      → SameDrawing known options one other
+
+-- `draw`
+abbrev pub OneDrawAnswer : Type 0
+OneDrawAnswer = (known : DiscoveredGraph) (entries : List ReadStatement) (options : DrawModel) (output other : List ℕ)
+    (ending end : Ending) → AnswersDraw known entries options output ending → AnswersDraw known entries options other end
+    → SameDrawing known options output other × (ending ≡ end)
+
+-- `draw --affected`
+abbrev pub OneAffectedDrawing : Type 0
+OneAffectedDrawing = (known : DiscoveredGraph) (entries : List ReadStatement) (options : DrawModel) → options.affected ≡ true
+    → HasOneAnswer (AnswersDraw known entries options)
+
+-- ---- the same graph
+
+-- Two graphs with the same values, whatever they are in memory, and by whatever keys of hashes they were read.
+pub record SameKnown (one other : DiscoveredGraph) : Type 0 where
+  pub graph : one.graph ≡ other.graph
+  pub has_discovered : one.has_discovered ≡ other.has_discovered
+  pub unknown : one.unknown.items ≡ other.unknown.items
+  pub faulty : map (λ fault. fault.edge.0) one.faults.items ≡ map (λ fault. fault.edge.0) other.faults.items
+  pub texts : map (λ fault. fault.text.items) one.faults.items ≡ map (λ fault. fault.text.items) other.faults.items
+  pub discoveries : one.discoveries.items ≡ other.discoveries.items
+  pub caveats : one.caveats.items ≡ other.caveats.items
+  pub undeclared : one.undeclared.items ≡ other.undeclared.items
+
+-- they have the same answers
+abbrev pub SameKnownHaveSameAnswers : Type 0
+SameKnownHaveSameAnswers = (one other : DiscoveredGraph) → SameKnown one other → (entries : List ReadStatement) (times : DeclaredTimes)
+    (folder : List ℕ) (subject : SubjectModel) (input output : List ℕ) (ending : Ending)
+    → Answers one entries times folder subject input output ending → Answers other entries times folder subject input output ending
+
+-- ---- whatever is asked
+
+-- two outputs for one question about a graph are the same, or the same drawing
+abbrev pub SameOutput : DiscoveredGraph → SubjectModel → (one other : List ℕ) → Type 0
+SameOutput known (draw options) one other = SameDrawing known options one other
+SameOutput known subject one other = one ≡ other
+
+-- `audit` looks sources up, so their times are declared
+abbrev pub TellTimes : SubjectModel → DeclaredTimes → Type 0
+TellTimes (audit options) times = TellAll times
+TellTimes subject times = Unit {0}
+
+-- One graph, its statements and the options leave one output, but for a drawing's edges that are equally far, and one ending.
+abbrev pub OneAnswer : Type 0
+OneAnswer = (known : DiscoveredGraph) (entries : List ReadStatement) (times : DeclaredTimes) (folder : List ℕ) (subject : SubjectModel)
+    (input : List ℕ) (output other : List ℕ) (ending end : Ending) → IsGraphOf known.graph entries → TellTimes subject times
+    → Answers known entries times folder subject input output ending → Answers known entries times folder subject input other end
+    → SameOutput known subject output other × (ending ≡ end)

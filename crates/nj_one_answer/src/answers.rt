@@ -1,0 +1,56 @@
+//! What the definitions of `nj_ask` leave open about the answer to a question.
+
+ghost use Rattle.nj_one_answer.specs.Cited.{OneAffectedAnswer, OneAffectedDrawing, OneAnswer, OneAuditAnswer, OneDrawAnswer, OneJsonAnswer, OneKeysAnswer, OneWhyAnswer, SameKnownHaveSameAnswers};
+
+/// A graph, its statements, the options and the changed paths have one report.
+pub fn affected_answer_law()
+    ensures { OneAffectedAnswer }
+{
+    nj_ask::report_law();
+}
+
+/// A graph, its statements and the options have one list of findings, by times that are declared.
+pub fn audit_answer_law()
+    ensures { OneAuditAnswer }
+{}
+
+/// A graph, its statements and the options have one drawing, but for the order of edges that are
+/// equally far from the targets; with `--affected` they have one.
+pub fn draw_answer_law()
+    ensures one { OneDrawAnswer }
+    ensures affected { OneAffectedDrawing }
+{}
+
+/// A graph and its statements have one text of objects.
+pub fn json_answer_law()
+    ensures { OneJsonAnswer }
+{}
+
+/// A graph, its statements, the options and a mark have one page of keys.
+pub fn keys_answer_law()
+    ensures { OneKeysAnswer }
+{
+    nj_keys::lines_law();
+}
+
+/// A graph, its statements and the options have one chain, or none.
+pub fn why_answer_law()
+    ensures { OneWhyAnswer }
+{}
+
+/// The answers to a question depend on the values of a graph alone.
+pub fn known_answer_law()
+    ensures { SameKnownHaveSameAnswers }
+{}
+
+/// The same of whatever is asked.
+pub fn answer_law()
+    ensures { OneAnswer }
+{
+    affected_answer_law();
+    audit_answer_law();
+    draw_answer_law();
+    json_answer_law();
+    keys_answer_law();
+    why_answer_law();
+}
