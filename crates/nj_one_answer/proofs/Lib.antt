@@ -1,3 +1,4 @@
+mod AskAnswers
 mod AuditAnswers
 mod DeclaredAnswers
 mod DepsAnswers
@@ -6,16 +7,20 @@ mod DrawAnswers
 mod FileNumbers
 mod FoundAnswers
 mod GraphAnswers
+mod JoinedAnswers
 mod JsonAnswers
 mod KeyAnswers
 mod KnownAnswers
 mod LoadAnswers
+mod MadeAnswers
 mod NeededFaults
 mod NeedsAnswers
 mod PageAnswers
 mod QuestionAnswers
 mod ReachedAnswers
 mod ReportAnswers
+mod RunAnswers
+mod RunRows
 mod TargetAnswers
 mod ToolAnswers
 mod UndeclaredAnswers

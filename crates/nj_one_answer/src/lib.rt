@@ -6,16 +6,22 @@
 #![tactic(auto)]
 
 mod answers;
+mod asks;
 mod audits;
 mod deps;
 mod graph;
 mod keys;
 mod needs;
+mod runs;
 mod tools;
 
 pub use answers::{
     affected_answer_law, answer_law, audit_answer_law, draw_answer_law, json_answer_law,
     keys_answer_law, known_answer_law, why_answer_law,
+};
+pub use asks::{
+    ask_read_words, ask_words, made_from, refuse_folder, refuse_input, refuse_words,
+    report_out_of_memory, with_discovered,
 };
 pub use audits::{audit, findings_extend, findings_push, findings_push_at, kinds_from_words};
 pub use deps::{deps_log_read, deps_log_read_with_keys};
@@ -43,6 +49,7 @@ pub use needs::{
     grow_targets, mark_from_numbers, mark_read, mark_to_text, needs_mark, needs_mark_after_page,
     needs_new, needs_next, needs_next_on_page, needs_resume,
 };
+pub use runs::alike_runs_law;
 pub use tools::{
     write_commands, write_compdb, write_edge_objects, write_inputs, write_query, write_rules,
     write_single_commands, write_targets, write_whole,
