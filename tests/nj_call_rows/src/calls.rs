@@ -1,5 +1,6 @@
 //! The outcomes of rows of calls, as text.
 
+use crate::build_logs::{put_build_log, put_command_hash};
 use crate::build_tests::{put_names, put_pieces};
 use crate::depfiles::put_depfile;
 use crate::deps_logs::put_of_log;
@@ -17,7 +18,7 @@ use crate::small_graphs::{put_chain, put_collected, put_of_edges};
 use crate::sources::put_sources;
 use crate::statements::{Grammar, put_parsed};
 use crate::texts::{put_clean, put_hash, put_in_turn, put_meant};
-use nj_rows::{Block, Given, Outcomes, bytes_of, words_of};
+use nj_rows::{Block, Given, Outcomes, bytes_of, first_of, words_of};
 use std::alloc::{AllocError, Global};
 
 /// The rows of this program.
@@ -130,6 +131,8 @@ fn put_of_words(
         "deps-log" | "cut-log" | "deps-of" => {
             put_of_log(alloc, text, given.bytes("log"), row.kind, row.rest)
         }
+        "build-log" => put_build_log(alloc, text, given.bytes("log"), row.rest),
+        "command-hash" => put_hash_of(alloc, text, given, row.rest),
         "shown" => put_shown_fault(alloc, text, row.rest),
         "reported" => put_reported(alloc, text, row.rest),
         "sources" => put_sources(alloc, text, &row.text),
@@ -142,4 +145,17 @@ fn put_of_words(
     };
     outcome?;
     Ok(true)
+}
+
+/// Appends the hash of a command, whose version comes before it, with the contents `contents` of its
+/// response file.
+fn put_hash_of(
+    alloc: Global,
+    text: &mut Vec<u8>,
+    given: &Given,
+    words: &str,
+) -> Result<(), AllocError> {
+    let (version, command) = first_of(words);
+    let command = bytes_of(alloc, command)?;
+    put_command_hash(alloc, text, version, &command, given.bytes("contents"))
 }

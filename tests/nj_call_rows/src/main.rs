@@ -1,6 +1,7 @@
 //! Runs the rows of calls: each has results of one library, of those up to the graph, of deps
-//! logs or of depfiles. `nj_run_rows` has the rows of runs.
+//! logs, build logs or depfiles. `nj_run_rows` has the rows of runs.
 
+mod build_logs;
 mod build_tests;
 mod calls;
 mod chains;

@@ -1,0 +1,5 @@
+pub mod DigitLemmas
+pub mod TextLemmas
+pub mod LineLemmas
+pub mod EntryLemmas
+pub mod LogRows
