@@ -24,9 +24,9 @@ from reference import CLAUSE, LAWS, calls_in, documentation, end_of, exported
 
 PAGE = ROOT / "docs/PROOFS.md"
 # The crates whose public calls are listed.
-COVERED = ("nj_deps", "nj_needs", "nj_keys", "nj_audit", "nj_graph", "nj_tools")
+COVERED = ("nj_deps", "nj_needs", "nj_keys", "nj_audit", "nj_graph", "nj_tools", "nj_ask")
 MARKS = re.compile(r"(<!-- one_answer -->\n).*?(<!-- end -->)", re.S)
-FUNCTION = re.compile(r"^pub fn (\w+)", re.M)
+FUNCTION = re.compile(r"^pub fn (\w+)\b(?!\(\))", re.M)
 LAW = re.compile(r"pub fn \w+\(\)\n.*\n\{\}$", re.S)
 # What may not stand in a clause that names the value.
 CONDITION = re.compile(r"→|\b(?:IfOk|IfErr|IfSome|OnOk|OnErr|OfEdge|OfStatements)\b")

@@ -7,7 +7,7 @@ use Rattle.std.proofs.lemmas.Option.{same_Some}
 use Rattle.nj_discovered.specs.Times.{DeclaredTimes}
 use Rattle.nj_questions.specs.Questions.{QuestionModel, SubjectModel, affected, audit, draw, json, keys, why}
 use Rattle.nj_questions.specs.Questions.{question_model}
-use Rattle.nj_questions.specs.QuestionOf.{RefusalModel, question_of, refusal_model}
+use Rattle.nj_questions.specs.QuestionOf.{question_of, refusal_model}
 use Rattle.nj_questions.specs.declared.questions.Question.{Question}
 use Rattle.nj_questions.specs.declared.refusals.Refusal.{Refusal}
 use Rattle.nj_questions.specs.declared.refusals.Refusal.TheVariants as refusal

@@ -1,25 +1,21 @@
 -- Two answers of `audit`.
-use Rattle.std.proofs.Common.{◌≡◌, ℕ, Bool, true, false, Option, Some, None, List, [], ◌∷◌, ◌++◌}
+use Rattle.std.proofs.Common.{◌≡◌, ℕ, Bool, true, false, List, [], ◌∷◌, ◌++◌}
 use Rattle.std.proofs.Common.{refl, sym, ap, subst, ◌∙◌}
 use Rattle.std.specs.Prelude.{not}
 use Rattle.std.proofs.Math.Path.{fun_ext}
 use Rattle.nj_text.specs.Calls.{is_empty}
-use Rattle.nj_scope.specs.ReadingList.{ReadStatement}
 use Rattle.nj_discovered.specs.Times.{DeclaredTimes}
-use Rattle.nj_discovered.specs.declared.times.TimeFound.{TimeFound}
 use Rattle.nj_graph.specs.Edges.{maker_of}
 use Rattle.nj_graph.specs.Graph.{GraphModel, edges_of, files_of}
 use Rattle.nj_audit.specs.Audits.{IsAudit}
 use Rattle.nj_audit.specs.Findings.{FindingModel}
 use Rattle.nj_audit.specs.Kinds.{contains}
 use Rattle.nj_audit.specs.declared.kinds.Kind.TheVariants.{MissingSource}
-use Rattle.nj_questions.specs.Questions.{AuditModel}
-use Rattle.nj_ask.specs.declared.discovered.DiscoveredGraph.{DiscoveredGraph}
-use Rattle.nj_ask.specs.Audits.{AnswersAudit, LookUp, LookUpIf, LooksUp, WouldBeMissing, asks_for}
+use Rattle.nj_ask.specs.Audits.{LookUp, LookUpIf, LooksUp, WouldBeMissing, asks_for}
 use Rattle.nj_ask.specs.Audits.{finding_lines, is_absent, is_unanswered, lookup_lines}
 use Rattle.nj_ask.specs.Audits.LooksUp.{made, source}
 use Rattle.nj_ask.specs.Audits.LookUp.{none, last}
-use Rattle.nj_ask.specs.Endings.{Ending, answered}
+use Rattle.nj_ask.specs.Endings.{answered}
 use Rattle.nj_ask.specs.KnownGraphs.{undeclared_in}
 use Rattle.nj_ask.specs.Shape.{caveat_text}
 use Rattle.nj_one_answer.specs.Answers.{OneAuditAnswer}

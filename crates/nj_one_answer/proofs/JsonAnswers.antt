@@ -1,5 +1,5 @@
 -- Two answers of `json`.
-use Rattle.std.proofs.Common.{◌≡◌, ℕ, None, List, refl, ap, sym, ◌∙◌}
+use Rattle.std.proofs.Common.{◌≡◌, ℕ, List, refl, ap, sym, ◌∙◌}
 use Rattle.std.proofs.lemmas.Option.{same_Some}
 use Rattle.nj_scope.specs.ReadingList.{ReadStatement}
 use Rattle.nj_tools.specs.Compdb.{text_fault}

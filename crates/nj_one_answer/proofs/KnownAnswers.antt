@@ -40,7 +40,6 @@ use Rattle.nj_ask.specs.Drawings.ListsEdges.{needed, touched}
 use Rattle.nj_ask.specs.DrawnNodes.{drawn_nodes}
 use Rattle.nj_ask.specs.Endings.{Ending, answered, fault_line, program_line, refused}
 use Rattle.nj_ask.specs.Manifest.{is_one_of}
-use Rattle.nj_ask.specs.NeededFaults.{IsFirstFault}
 use Rattle.nj_ask.specs.Pages.{mark_line}
 use Rattle.nj_ask.specs.Reports.{ChangeModel, IsReport, changed_numbers, changed_paths}
 use Rattle.nj_ask.specs.Shape.{caveat_text, dyndep_text, shape_text}

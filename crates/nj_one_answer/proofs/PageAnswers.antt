@@ -1,13 +1,11 @@
 -- Two answers of `keys`.
-use Rattle.std.proofs.Common.{◌≡◌, ℕ, true, false, Option, Result, Ok, List, map, ◌++◌, refl, sym, ap, subst}
-use Rattle.std.proofs.Common.{◌∙◌}
+use Rattle.std.proofs.Common.{◌≡◌, ℕ, true, false, Result, Ok, List, map, ◌++◌, refl, ap, subst}
 use Rattle.std.proofs.lemmas.Bool.{both_ways}
 use Rattle.nj_text.specs.Paths.{clean_path_of}
 use Rattle.nj_scope.specs.ReadingList.{ReadStatement}
 use Rattle.nj_graph.specs.declared.GraphFault.{GraphFault}
 use Rattle.nj_graph.specs.Graph.{IsGraphOf, edges_of}
-use Rattle.nj_needs.specs.PageWalks.{StopsAt, written}
-use Rattle.nj_needs.specs.Walks.{WalkState}
+use Rattle.nj_needs.specs.PageWalks.{written}
 use Rattle.nj_keys.specs.Keys.{LinesAreUnique, ListsKeys}
 use Rattle.nj_keys.specs.Pages.{BeginsAfter, leads, left_at}
 use Rattle.nj_questions.specs.Questions.{KeysModel}

@@ -1,5 +1,5 @@
 -- Two answers, whatever is asked.
-use Rattle.std.proofs.Common.{ℕ, List, []}
+use Rattle.std.proofs.Common.{[]}
 use Rattle.std.specs.Prelude.{unwrap_or}
 use Rattle.nj_questions.specs.Questions.{affected, audit, draw, json, keys, why}
 use Rattle.nj_ask.specs.Answers.{asked_mark}

@@ -1,14 +1,13 @@
 -- Two runs that end with one answer.
-use Rattle.std.proofs.Common.{◌≡◌, ◌⊎◌, inl, inr, ℕ, Bool, false, List, [], refl, sym, ap, subst, ◌∙◌}
+use Rattle.std.proofs.Common.{◌≡◌, ◌⊎◌, inl, inr, ℕ, false, List, [], refl, sym, ap, subst, ◌∙◌}
 use Rattle.nj_scope.specs.Sources.{SourceState}
 use Rattle.nj_tools.specs.Sinks.{SinkState, Takes}
 use Rattle.nj_ask.specs.declared.status.Status.{Status}
-use Rattle.nj_ask.specs.declared.status.Status.TheVariants.{Fault, OutputFailed}
 use Rattle.nj_ask.specs.Endings.{Concludes, Ending, Ends, Reported, ReportsError, Sinks, answered}
 use Rattle.nj_ask.specs.Asks.{around}
 use Rattle.nj_ask.specs.Endings.{refused}
 use Rattle.nj_ask.specs.Endings.Ends.{ended, memory_fails, output_fails}
-use Rattle.nj_one_answer.specs.Runs.{AlikeRunsAreSame, EndAlike, Failed, IsCutOff, IsJust, SameErrors}
+use Rattle.nj_one_answer.specs.Runs.{AlikeRunsAreSame, EndAlike, IsCutOff, IsJust, SameErrors}
 use Rattle.nj_one_answer.specs.Runs.{SameRuns}
 use Rattle.nj_one_answer.specs.Runs.{SameUnlessFailed}
 use Rattle.nj_one_answer.specs.Runs.IsCutOff.{output_failed, error_failed, lacked_memory as cut_by_memory}

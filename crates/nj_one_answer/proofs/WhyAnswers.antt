@@ -1,5 +1,5 @@
 -- Two answers of `why`.
-use Rattle.std.proofs.Common.{◌≡◌, ◌≢◌, ◌<◌, ◌⊎◌, inl, inr, ℕ, ◌-◌, Bool, false, not, ◌&&◌, Option, Some}
+use Rattle.std.proofs.Common.{◌≡◌, ◌<◌, ◌⊎◌, inl, inr, ℕ, ◌-◌, Bool, not, ◌&&◌, Option, Some}
 use Rattle.std.proofs.Common.{None}
 use Rattle.std.proofs.Common.{Result, Ok, Err, List, [], ◌∷◌, ◌++◌, length, refl, sym, ap, subst, ◌∙◌, arith}
 use Rattle.std.specs.Prelude.{nat_lt, slice_get, codes}
@@ -10,8 +10,8 @@ use Rattle.nj_graph.specs.declared.GraphFault.{GraphFault}
 use Rattle.nj_graph.specs.declared.Kind.{Kind}
 use Rattle.nj_graph.specs.declared.Step.{Step}
 use Rattle.nj_graph.specs.Built.{detail_at}
-use Rattle.nj_graph.specs.Chains.{IsChain, IsNotAfter, IsShortest, Lead, inputs_with, kind_with}
-use Rattle.nj_graph.specs.Edges.{EdgePaths, edge_at, maker_of}
+use Rattle.nj_graph.specs.Chains.{IsChain, IsNotAfter, Lead, inputs_with, kind_with}
+use Rattle.nj_graph.specs.Edges.{EdgePaths, edge_at}
 use Rattle.nj_graph.specs.Files.{path_at}
 use Rattle.nj_graph.specs.Graph.{GraphModel, edges_of, files_of, rule_name}
 use Rattle.nj_graph.specs.Targets.{picked}

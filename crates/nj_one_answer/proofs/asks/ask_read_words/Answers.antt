@@ -1,4 +1,4 @@
-use Rattle.std.proofs.Common.{map, sym, subst, string_bytes}
+use Rattle.std.proofs.Common.{sym, subst}
 use Rattle.nj_ask.specs.AskedWords.{AsksWith, ended_status}
 use Rattle.nj_ask.specs.Asks.{Around, around}
 use Rattle.nj_one_answer.proofs.AskAnswers.{reads-alike}

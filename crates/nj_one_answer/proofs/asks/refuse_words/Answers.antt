@@ -1,6 +1,6 @@
 use Rattle.std.proofs.Common.{sym, subst, ◌∙◌}
 use Rattle.std.specs.Prelude.{codes}
-use Rattle.nj_ask.specs.Endings.{Reported, memory_line, program_line}
+use Rattle.nj_ask.specs.Endings.{Reported, program_line}
 use Rattle.nj_one_answer.proofs.RunAnswers.{reports-agree}
 use Rattle.nj_one_answer.proofs.asks.refuse_words.Goals as goal
 

@@ -1,6 +1,5 @@
 use Rattle.std.proofs.Common.{sym, subst, ◌∙◌}
-use Rattle.std.specs.Prelude.{codes}
-use Rattle.nj_ask.specs.Endings.{Reported, memory_line, program_line}
+use Rattle.nj_ask.specs.Endings.{Reported, memory_line}
 use Rattle.nj_one_answer.proofs.RunAnswers.{reports-agree}
 use Rattle.nj_one_answer.proofs.asks.report_out_of_memory.Goals as goal
 
