@@ -65,13 +65,9 @@ fn put_output(
     let Some(entry) = entry else {
         return text.extend_from_slice(b": none\n");
     };
-    let shown = format!(
-        in alloc;
+    let shown = format!(in alloc;
         ": {} to {}, time {}, hash {:x}\n",
-        entry.start,
-        entry.end,
-        entry.time,
-        entry.hash
+        entry.start, entry.end, entry.time, entry.hash
     )?;
     text.extend_from_slice(shown.as_bytes())
 }
