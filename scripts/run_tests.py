@@ -43,7 +43,7 @@ TEST = re.compile(r"^test (\S+) \.\.\. (\w+)", re.M)
 RESULT = re.compile(r"^test result: (\w+)\. (\d+) passed; (\d+) failed", re.M)
 MOST_LINES = 20
 # How long a program or a test may take, with run-time checks and with others beside it.
-SECONDS = "300"
+SECONDS = "900"
 # An argument of the checks that `rt try` makes beside a run.
 HINT = b"\0no function\0"
 
