@@ -1,4 +1,4 @@
-//! Tests of a build: what each names, and which a change chooses.
+//! Tests of a build, and the paths that their words may name.
 #![tactic(auto)]
 
 mod test;
