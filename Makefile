@@ -28,7 +28,7 @@ INSTALLED_HEADERS := $(DESTDIR)$(PREFIX)/include
 INSTALLED_LIBRARY := $(DESTDIR)$(PREFIX)/$(LIBRARY)
 INSTALLED_PC := $(DESTDIR)$(PREFIX)/lib/pkgconfig/ninja_explain.pc
 
-.PHONY: pages all c run test check edits gate lint smoke c-test sweep install install-c uninstall dist dist-check
+.PHONY: pages map all c run test check edits gate lint smoke c-test sweep install install-c uninstall dist dist-check
 .PHONY: fuzz-c wheel save-proofs load-proofs clean
 
 # Proves and builds the programs as bin/ninja-explain and bin/ninja-graph. `rt all` proves a program and
@@ -105,6 +105,10 @@ gate:
 pages:
 	@python3 scripts/map.py && python3 scripts/reference.py && python3 scripts/headline.py
 	@python3 scripts/believed.py --write && python3 scripts/one_answer.py
+
+# Prints each crate with its lines and must-fail edits, and each file with its subject.
+map:
+	@python3 scripts/map.py --print
 
 # Runs the checks that read files alone: docs/GATE.md lists them. It takes seconds, and needs no program.
 lint:

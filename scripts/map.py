@@ -1,13 +1,15 @@
 #!/usr/bin/env python3
 """Writes the generated parts of docs/ARCHITECTURE.md: which crates there are, on what each stands,
-how long it is, and the subject of each of its files; and the files of the crates in tests/.
+and the files of the crates in tests/. What changes with each commit is printed and not kept: how long
+each crate is, and the subject of each of its files.
 
-    map.py            writes them, between the marks that name them
+    map.py            writes the parts, between the marks that name them
     map.py --check    ends with status 1 if they are out of date
+    map.py --print    prints the crates with their counts of lines, and their files
 
 The subject of a crate or a file is the first sentence of its comment: of `//!` in `src/`, and of the
-comment at the top of a definition file. So a crate, a module or a definition file that is added,
-renamed or removed is in the page once this has run.
+comment at the top of a definition file. So a crate that is added, renamed or removed is in the page
+once this has run.
 """
 
 import argparse
@@ -85,8 +87,7 @@ def crate_row(crate, uses):
         edits,
     ]
     others = [name for name in uses if name not in code]
-    what = first_sentence(root_of(crate), "//!")
-    return [f"`{crate}`", what, names(code), names(others), *(f"{it:,}" if it else "" for it in counts)]
+    return [f"`{crate}`", names(code), names(others), *(f"{it:,}" if it else "" for it in counts)]
 
 
 def sum_of(cells):
@@ -94,11 +95,18 @@ def sum_of(cells):
 
 
 def of_crates():
+    rows = [[f"`{crate}`", first_sentence(root_of(crate), "//!")] for crate in crates()]
+    return table(["Crate", "Subject"], rows)
+
+
+def counts():
+    """The crates with their lines of `src`, of the definitions to believe (`specs`), of the plumbing
+    (`Inside`) and of the hand-written parts of the proofs, and with their must-fail edits."""
     rows = [crate_row(crate, uses) for crate, uses in crates().items()]
-    sums = [sum_of(row[at] for row in rows) for at in range(4, 9)]
-    head = ["Crate", "Subject", "Its code uses", "Only its proofs use"]
+    sums = [sum_of(row[at] for row in rows) for at in range(3, 8)]
+    head = ["Crate", "Its code uses", "Only its proofs use"]
     head += ["`src` ", "`specs` ", "`Inside` ", "`proofs` ", "Edits "]
-    return table(head, [*rows, ["all", "", "", "", *sums]])
+    return table(head, [*rows, ["all", "", "", *sums]])
 
 
 def reduced(uses):
@@ -141,7 +149,8 @@ def module_rows(crate):
             yield [f"`{file.relative_to(source).as_posix()}`", first_sentence(file, "//!")]
 
 
-def of_files():
+def files():
+    """The files of each crate with their subjects: definitions, plumbing in italics, and modules."""
     rows = []
     for crate in crates():
         rows += [[f"**`{crate}`**", ""], *spec_rows(crate), *module_rows(crate)]
@@ -158,7 +167,7 @@ def of_tests():
     return table(["File", "Subject"], rows)
 
 
-PARTS = {"crates": of_crates, "layers": of_layers, "files": of_files, "tests": of_tests}
+PARTS = {"crates": of_crates, "layers": of_layers, "tests": of_tests}
 
 
 def with_parts(page):
@@ -174,7 +183,11 @@ def with_parts(page):
 def main():
     parser = argparse.ArgumentParser(description=__doc__.split("\n")[0])
     parser.add_argument("--check", action="store_true")
+    parser.add_argument("--print", action="store_true")
     words = parser.parse_args()
+    if words.print:
+        print("\n".join([*counts(), "", *files()]))
+        return
     old = PAGE.read_text()
     new = with_parts(old)
     if words.check:
