@@ -21,7 +21,7 @@ from lib.programs import ROOT
 
 # The kinds of files, each with the paths of its files; the first that fits counts.
 KINDS = {
-    "generated": r"docs/(REFERENCE|HEADLINE)\.md",
+    "generated": r"docs/(reference/.*|HEADLINE)\.md",
     "pages": r".*\.md|man/.*",
     "source": r"crates/.*/src/.*\.rt",
     "definitions": r"crates/.*/specs/.*\.antt",

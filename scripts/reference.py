@@ -1,15 +1,15 @@
 #!/usr/bin/env python3
-"""Writes docs/REFERENCE.md: each public call of the libraries with its documentation, its signature,
-its proved clauses, and the edits and tests that show that these say something. The calls that the
-crate for clients re-exports come first, and each call once.
+"""Writes docs/reference/, a page for each library: its public calls with their documentation, their
+contracts, and the edits and tests that show that these say something. Calls that the crate for clients
+re-exports are on its page alone.
 
-    reference.py            writes the page
-    reference.py --check    ends with status 1 if the page is out of date
+    reference.py            writes the pages, and removes those of crates that are gone
+    reference.py --check    ends with status 1 if a page is out of date
 
-A call is a public function of a library, or a method of a public type. Of its contract the names of
-the clauses are shown, each with the definitions of ours that it cites. The must-fail edits of a call
-are those that change its body. The crates that make a call in a test or an example are named where
-no other public call has its name. Functions below `one_answer` make a call twice, and are left out.
+A call is a public function of a library, or a method of a public type. Below its contract are links to
+the definitions of ours that it cites. The must-fail edits of a call are those that change its body. The
+crates that make a call in a test or an example are named where no other public call has its name.
+Functions below `one_answer` make a call twice, and are left out.
 """
 
 import argparse
@@ -21,9 +21,11 @@ from dataclasses import dataclass, field
 from lib.composed import TESTS, test_crates
 from lib.edits import edits_of
 from lib.programs import CRATES, ROOT
-from map import crates, first_sentence, root_of
+from map import crates, first_sentence, root_of, table
 
-PAGE = ROOT / "docs/REFERENCE.md"
+FOLDER = ROOT / "docs/reference"
+# The way from a page to the top.
+TOP = "../.."
 # The crates that make calls to show or test them, with their sources.
 CALLERS = {name: TESTS / name / "src" for name in test_crates()}
 CALLERS["library_example"] = CRATES / "library_example/src"
@@ -36,18 +38,20 @@ CLIENTS = "ninja"
 REEXPORTED = ("nj_graph", "nj_needs", "nj_tools", "nj_disk", "nj_deps")
 # The crate whose functions make calls of the others twice: docs/PROOFS.md lists them.
 LAWS = "nj_one_answer"
-IMPORT = re.compile(r"ghost use Rattle\.((?:nj_|affected|audit|cache)\w*)\.[\w.]+\.\{([^}]*)\}")
+# The import of definitions that a crate's contracts cite, in `specs/Cited.antt` and in `src/`.
+IMPORT = re.compile(r"use Rattle\.(nj_\w+)\.specs\.([\w.]+)\.\{([^}]*)\}")
 
 
 @dataclass
 class Call:
     crate: str
     file: str
+    line: int
     owner: str
     name: str
     documentation: list
-    signature: str
-    clauses: list
+    contract: str
+    cited: list
     text: str
     edits: list = field(default_factory=list)
 
@@ -75,18 +79,21 @@ def documentation(lines, row):
     return found[::-1]
 
 
-def cited(clause, names):
-    """The definitions of ours that a clause names, in its order."""
-    words = re.findall(r"[A-Za-z_]\w*", clause)
-    return list(dict.fromkeys(word for word in words if word in names))
+def definitions(crate):
+    """The definitions of ours that the crate's contracts cite, each with its file."""
+    found = {}
+    cited = CRATES / crate / "specs/Cited.antt"
+    for name, module, listed in IMPORT.findall(cited.read_text() if cited.is_file() else ""):
+        file = CRATES / name / f"specs/{module.replace('.', '/')}.antt"
+        for item in listed.split(",") if file.is_file() else ():
+            found[item.split(" as ")[-1].strip()] = str(file.relative_to(ROOT))
+    return found
 
 
-def contract(text, names):
-    """The clauses of a contract: the kind of each, its name, and the definitions that it cites."""
-    starts = list(CLAUSE.finditer(text))
-    ends = [found.start() for found in starts[1:]] + [len(text)]
-    for found, end in zip(starts, ends):
-        yield found[1], found[2], cited(text[found.end() : end], names)
+def cited(contract, known):
+    """The definitions of ours that a contract names, in its order, each with its file."""
+    words = dict.fromkeys(re.findall(r"[A-Za-z_]\w*", contract))
+    return [(word, known[word]) for word in words if word in known]
 
 
 def end_of(text, start, indent):
@@ -116,13 +123,9 @@ def for_clients(found):
     return {CLIENTS: (calls, types)} | {it: had for it, had in found.items() if it != CLIENTS}
 
 
-def calls_in(crate, file, public):
+def calls_in(crate, file, public, known=None):
     text = file.read_text()
-    names = {
-        name
-        for _, listed in IMPORT.findall(text)
-        for name in (item.split(" as ")[-1].strip() for item in listed.split(","))
-    }
+    known = known or {}
     impls = list(IMPL.finditer(text))
     for found in HEAD.finditer(text):
         indent, name = found.groups()
@@ -133,17 +136,16 @@ def calls_in(crate, file, public):
         body = re.search(rf"^{indent}\{{|\{{$", whole, re.M)
         before = whole[: body.start()] if body else whole
         first = CLAUSE.search(before)
-        signature = before[: first.start()] if first else before
-        lines = text.splitlines()
         row = text.count("\n", 0, found.start())
         yield Call(
             crate,
             str(file.relative_to(CRATES / crate)),
+            row + 1,
             owner,
             name,
-            documentation(lines, row),
-            re.sub(rf"^{indent}", "", signature, flags=re.M).strip(),
-            list(contract(before[first.start() :], names)) if first else [],
+            documentation(text.splitlines(), row),
+            re.sub(rf"^{indent}", "", before, flags=re.M).strip(),
+            cited(before[first.start() :], known) if first else [],
             whole,
         )
 
@@ -177,25 +179,19 @@ def quoted(names):
     return ", ".join(f"`{name}`" for name in names)
 
 
-def clause_text(kind, name, names):
-    by = f" ({quoted(names)})" if names else ""
-    if name:
-        return f"`{name}`{by}"
-    return quoted(names) or f"one {'clause' if kind == 'ensures' else 'condition'}"
+def link(text, path):
+    return f"[`{text}`]({TOP}/{path})"
 
 
 def section(call, makers):
-    yield f"#### `{call.title}`"
-    yield ""
-    yield from ["```rust", call.signature, "```", ""]
+    place = f"{call.file}:{call.line}"
+    yield from [f"### `{call.title}`", ""]
     if call.documentation:
         yield from ["\n".join(call.documentation).replace("\n# Errors", "\nErrors:"), ""]
-    owed = [clause_text(*it) for it in call.clauses if it[0] == "requires"]
-    given = [clause_text(*it) for it in call.clauses if it[0] == "ensures"]
-    facts = []
-    if owed:
-        facts.append(f"Requires: {', '.join(owed)}.")
-    facts.append(f"Proved: {', '.join(given)}." if given else "No clause.")
+    yield from ["```", call.contract, "```", ""]
+    facts = [f"{link(place, f'crates/{call.crate}/{call.file}#L{call.line}')}."]
+    if call.cited:
+        facts.append(f"Definitions: {', '.join(link(name, file) for name, file in call.cited)}.")
     if call.edits:
         facts.append(f"Must fail: {quoted(call.edits)}.")
     if makers:
@@ -204,58 +200,83 @@ def section(call, makers):
 
 
 def library(crate, calls, types, texts, counts):
-    about = f" [README.md](../crates/{crate}/README.md) names the definition to read first."
-    about = " [LIBRARY.md](LIBRARY.md) shows how they are used." if crate == CLIENTS else about
+    about = f" Its [README]({TOP}/crates/{crate}/README.md) names the definition to read first."
+    about = " [LIBRARY.md](../LIBRARY.md) shows how its calls are used." if crate == CLIENTS else about
     has_page = (CRATES / crate / "README.md").is_file()
-    yield from [f"## `{crate}`", "", f"{first_sentence(root_of(crate), '//!')}.{about * has_page}", ""]
+    yield from [f"# `{crate}`", "", f"{first_sentence(root_of(crate), '//!')}.{about * has_page}", ""]
     for owner in dict.fromkeys(["", *types, *(call.owner for call in calls)]):
         mine = [call for call in calls if call.owner == owner]
         if owner and (mine or types.get(owner)):
-            yield from [f"### `{owner}`", "", "\n".join(types.get(owner, [])), ""]
+            yield from [f"## `{owner}`", "", "\n".join(types.get(owner, [])), ""]
+        elif mine:
+            yield from ["## Functions", ""]
         for call in mine:
             used = re.compile(rf"\b{call.name}\(")
             makers = [it for it, text in texts.items() if counts[call.name] == 1 and used.search(text)]
             yield from section(call, makers)
 
 
-def page():
+def described():
+    """The calls and the types of each library, for clients first."""
     found = {}
     for crate in crates():
         if root_of(crate).name == "lib.rt" and crate not in CALLERS and crate != LAWS:
-            public = exported(crate)
+            public, known = exported(crate), definitions(crate)
             files = sorted((CRATES / crate).glob("src/**/*.rt"))
             files = [file for file in files if file.parent.name != "one_answer"]
-            calls = [call for file in files for call in calls_in(crate, file, public)]
+            calls = [call for file in files for call in calls_in(crate, file, public, known)]
             types = dict(it for file in files for it in types_in(file, public))
             add_edits(crate, calls)
             found[crate] = calls, types
-    found = for_clients(found)
-    counts = Counter(call.name for calls, _ in found.values() for call in calls)
-    texts = callers()
-    rows = [
+    return for_clients(found)
+
+
+def index(found):
+    rows = [[f"[`{crate}`]({crate}.md)", len(calls), first_sentence(root_of(crate), "//!")]
+            for crate, (calls, _) in found.items()]
+    return [
         "# Reference",
         "",
         "The public calls of the libraries, as `scripts/reference.py` reads them from the sources: do not",
-        "edit this page. Those that a client names by the crate `ninja` come first, then the others, from",
-        "the top down. [ARCHITECTURE.md](ARCHITECTURE.md#how-to-read-a-contract) shows how to read a",
-        "contract. *Proved* names the clauses of a call's contract, each with the",
-        "definitions that it cites (in `specs/`); *Requires* names the caller's duties; *Must fail* names",
-        "the wrong bodies that the gate tries, and that the proof refuses.",
+        "edit these pages. A program names the crate `ninja`, whose page has the calls that it re-exports;",
+        "the others follow from the top down. The contract of each call stands below its signature, and",
+        "[ARCHITECTURE.md](../ARCHITECTURE.md#how-to-read-a-contract) shows how to read it. *Definitions*",
+        "links to the files in `specs/` that define its words. *Must fail* names the wrong bodies that the",
+        "gate tries, each of which the proof refuses.",
         "",
-        "Crates: " + ", ".join(f"[{crate}](#{crate})" for crate in found) + ".",
-        "",
+        *table(["Crate", "Calls ", "Subject"], rows),
     ]
-    for crate, (calls, types) in found.items():
-        rows += library(crate, calls, types, texts, counts)
-    return re.sub(r"\n{3,}", "\n\n", "\n".join(rows)).rstrip() + "\n"
+
+
+def pages():
+    """The text of each page, by its name."""
+    found = described()
+    counts = Counter(call.name for calls, _ in found.values() for call in calls)
+    texts = callers()
+    rows = {crate: library(crate, *of, texts, counts) for crate, of in found.items()}
+    rows = {"README": index(found)} | rows
+    return {
+        f"{name}.md": re.sub(r"\n{3,}", "\n\n", "\n".join(it)).rstrip() + "\n"
+        for name, it in rows.items()
+    }
+
+
+def kept():
+    """The text of each page in the repository."""
+    return {file.name: file.read_text() for file in sorted(FOLDER.glob("*.md"))}
 
 
 def main():
     parser = argparse.ArgumentParser(description=__doc__.split("\n")[0])
     parser.add_argument("--check", action="store_true")
     if parser.parse_args().check:
-        sys.exit(not PAGE.is_file() or page() != PAGE.read_text())
-    PAGE.write_text(page())
+        sys.exit(pages() != kept())
+    FOLDER.mkdir(exist_ok=True)
+    written = pages()
+    for name in kept().keys() - written.keys():
+        (FOLDER / name).unlink()
+    for name, text in written.items():
+        (FOLDER / name).write_text(text)
 
 
 if __name__ == "__main__":

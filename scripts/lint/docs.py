@@ -18,22 +18,30 @@ def is_old(script, text):
     return text != (script.with_parts(text) if script in PARTED else script.page())
 
 
+def old_references(kept):
+    """The names of the pages in docs/reference/ that differ from the script's output, of those kept."""
+    written = reference.pages()
+    return sorted(name for name in kept.keys() | written.keys() if kept.get(name) != written.get(name))
+
+
 @check
 def pages_are_generated():
-    """docs/ARCHITECTURE.md has the crates, layers and files, docs/REFERENCE.md the public calls,
-    docs/HEADLINE.md the definitions, and docs/PROOFS.md what contracts leave free, that there are."""
-    for script in map, reference, headline, one_answer:
+    """docs/ARCHITECTURE.md has the crates and layers, docs/reference/ the public calls, docs/HEADLINE.md
+    the definitions, and docs/PROOFS.md what contracts leave free, that there are."""
+    for script in map, headline, one_answer:
         if not script.PAGE.is_file() or is_old(script, script.PAGE.read_text()):
             yield f"{script.PAGE.name} is old: run make pages"
+    for name in old_references(reference.kept()):
+        yield f"docs/reference/{name} is old: run make pages"
 
 
 @check
 def calls_are_listed_once():
-    """In each crate's part of docs/REFERENCE.md each call has one heading."""
-    for part in re.split(r"^## ", reference.page(), flags=re.M)[1:]:
-        heads = re.findall(r"^#### (.*)$", part, re.M)
+    """On each crate's page in docs/reference/ each call has one heading."""
+    for name, text in reference.pages().items():
+        heads = re.findall(r"^### (.*)$", text, re.M)
         repeated = sorted({head for head in heads if heads.count(head) > 1})
-        yield from expect(f"{part.split()[0]}, calls that are listed twice", repeated, [])
+        yield from expect(f"{name}, calls that are listed twice", repeated, [])
 
 
 @check
@@ -46,8 +54,6 @@ def calls_have_one_answer():
 PLANTED = [
     (map, "`nj_text`", "`nj_texts`"),
     (map, "nj_manifest nj_names", "nj_manifest nj_edges"),
-    (map, "| all |  |  |  | ", "| all |  |  |  | 1"),
-    (reference, "Proved: `RunsWords`", "Proved: `RunsWord`"),
     (headline, "record IsAnswered", "record IsAnswer"),
     (one_answer, "| whether memory lacks |", "| |"),
 ]
@@ -55,11 +61,15 @@ PLANTED = [
 
 @check
 def planted_mistakes_are_seen():
-    """A crate that is named wrongly, an arrow to another crate, a wrong count, a wrong clause, a
-    changed definition and a freedom that is not named."""
+    """A crate that is named wrongly, an arrow to another crate, a changed definition and a freedom that
+    is not named; a clause that says something else, and the page of a crate that is gone."""
     for script, old, new in PLANTED:
         parted = script in PARTED
         text = script.with_parts(script.PAGE.read_text()) if parted else script.page()
         planted = text.replace(old, new, 1)
         if planted == text or not is_old(script, planted):
             yield f"`{new}` in place of `{old}` is not seen in {script.PAGE.name}"
+    kept = reference.kept()
+    changed = kept["nj_cli.md"].replace("RunsWords", "RunsWord", 1)
+    yield from expect("the pages with another clause", old_references(kept | {"nj_cli.md": changed}), ["nj_cli.md"])
+    yield from expect("the pages of crates that are gone", old_references(kept | {"gone.md": ""}), ["gone.md"])
