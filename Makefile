@@ -28,7 +28,15 @@ INSTALLED_HEADERS := $(DESTDIR)$(PREFIX)/include
 INSTALLED_LIBRARY := $(DESTDIR)$(PREFIX)/$(LIBRARY)
 INSTALLED_PC := $(DESTDIR)$(PREFIX)/lib/pkgconfig/ninja_explain.pc
 
-.PHONY: pages map all c run test check edits gate lint smoke c-test sweep install install-c uninstall dist dist-check
+# The targets that prove, build or run something: they need the toolchain.
+NEEDING := all c run test check edits gate lint smoke c-test fuzz-c sweep dist wheel dist-check
+ifneq ($(filter $(NEEDING),$(or $(MAKECMDGOALS),all)),)
+ifeq ($(shell command -v rt),)
+$(error there is no rt on the PATH, the command of the Rattle toolchain; README.md, "Install", says more)
+endif
+endif
+
+.PHONY: help pages map all c run test check edits gate lint smoke c-test sweep install install-c uninstall dist dist-check
 .PHONY: fuzz-c wheel save-proofs load-proofs clean
 
 # Proves and builds the programs as bin/ninja-explain and bin/ninja-graph. `rt all` proves a program and
@@ -41,6 +49,11 @@ all:
 	mkdir -p bin
 	cp $(BUILT) bin/ninja-explain
 	cp $(GRAPH) bin/ninja-graph
+
+# Lists the targets, each with the first sentence of the comment above it.
+help:
+	@awk -F: '/^# / { text = text substr($$0, 2); next } \
+	/^[a-z][a-z-]*:/ && text { sub(/\. .*/, ".", text); printf "%-12s%s\n", $$1, text } { text = "" }' Makefile
 
 # Proves the library for C and builds it in lib/, static and shared, with a file for pkg-config that
 # finds it here. docs/C.md describes it.
@@ -110,7 +123,7 @@ pages:
 map:
 	@python3 scripts/map.py --print
 
-# Runs the checks that read files alone: docs/GATE.md lists them. It takes seconds, and needs no program.
+# Runs the checks that read files alone: docs/GATE.md lists them. It takes a minute, and needs no built program.
 lint:
 	@python3 scripts/lint --jobs $(JOBS) $(CHECKS)
 
@@ -123,10 +136,10 @@ smoke: $(BUILT) $(GRAPH)
 c-test: $(BUILT) $(GRAPH) $(LIBRARY).so
 	python3 scripts/c_test.py --jobs $(JOBS) $(BUILT) $(GRAPH)
 
+SECONDS ?= 60
 # Feeds the library for C with what libFuzzer makes of our seeds, for SECONDS, on as many processors as
 # JOBS gives. It needs clang with libFuzzer's runtime, says so before anything is built where there is
 # none, and is no part of the gate. docs/RELIABILITY.md describes it.
-SECONDS ?= 60
 fuzz-c:
 	@python3 scripts/fuzz_c.py --tools
 	@$(MAKE) --silent $(LIBRARY).a
@@ -188,13 +201,16 @@ wheel: $(LIBRARY).so
 dist-check: $(BUILT) $(GRAPH) $(LIBRARY).so
 	@python3 scripts/dist_check $(if $(LOG),--log "$(LOG)") --jobs $(JOBS) $(CHECKS)
 
-# Packs in FILE what checks kept in this clone; in another clone, `make load-proofs FILE=..` unpacks it,
-# and then `make` proves only what differs. CONTRIBUTING.md says whom it trusts then.
 FILE ?= proofs.tar.zst
+# Packs in FILE what checks kept in this clone.
 save-proofs:
 	@python3 scripts/proofs.py save "$(FILE)"
+
+# Unpacks what `make save-proofs FILE=..` packed in another clone, after which `make` proves only what
+# differs. CONTRIBUTING.md says whom it trusts then.
 load-proofs:
 	@python3 scripts/proofs.py load "$(FILE)"
 
+# Removes what was proved and built.
 clean:
 	rm -rf bin lib dist crates/*/out
