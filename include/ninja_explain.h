@@ -27,10 +27,10 @@
  * Every call returns a status, one of `enum nx_status`. Texts are bytes with a length; they need not
  * be UTF-8 and have no zero byte at their end. A call that returns a text copies it into the buffer
  * of the caller and stores its length in `needed`; if the buffer is too small the status is
- * NX_SHORT, the length is stored all the same, and the buffer is unchanged. After any other status
- * than NX_DONE do not read numbers that a call stores. No result points into the session. Edges
+ * NX_SHORT, the length is stored all the same, and the buffer is unchanged. Unless the status is
+ * NX_DONE, the numbers that a call stores are unspecified. No result points into the session. Edges
  * (one for each build statement) and files have numbers from 0, in reading order. Lists are read by
- * an index, until the status is NX_NOTHING.
+ * index, until the status is NX_NOTHING.
  *
  * nx_outputs, nx_inputs and nx_users return many items of a list in one call: those from an index
  * on, as many as the caller's array has room for; the rest of the array is unchanged. `count` is
@@ -216,7 +216,7 @@ int32_t nx_version(size_t *major, size_t *minor);
  */
 int32_t nx_open(nx_session *session, uint64_t key);
 
-/* Closes a session and frees all that it keeps. One that is not open remains closed. NX_DONE. */
+/* Closes a session and frees all that it keeps. Closing a closed session has no effect. NX_DONE. */
 int32_t nx_close(nx_session *session);
 
 /*
@@ -376,10 +376,10 @@ int32_t nx_users(nx_session *session, size_t file, size_t from, size_t *edges, s
 int32_t nx_opened(nx_session *session, size_t index, void *buffer, size_t size, size_t *needed);
 
 /*
- * Of each of these files whether the manifest is made from it, 1 or 0: whether it was opened in the
+ * For each of the given files, whether the manifest depends on it, 1 or 0: whether it was opened in the
  * load, or is an input of an edge that makes such a file or has a value of `generator`, or of an edge
- * that one of these needs through any chain of inputs. A change of the file may change everything.
- * Stores as many as there is room for, and leaves the rest of the array unchanged.
+ * that such an edge needs through any chain of inputs. A change of the file may change everything.
+ * Stores as many as fit, and leaves the rest of the array unchanged.
  * NX_DONE, NX_BAD_NUMBER, NX_OUT_OF_MEMORY.
  */
 int32_t nx_made_from(nx_session *session, const size_t *files, size_t file_count, int32_t *flags,
@@ -440,8 +440,8 @@ int32_t nx_edge_file(nx_session *session, size_t edge, void *buffer, size_t size
                      size_t *needed);
 
 /*
- * The command of an edge, as it is passed to a shell. No phony edge is run: its command is the
- * value that its block binds to `command`, and mostly empty.
+ * The command of an edge, as it is passed to a shell. Phony edges are never run; their command is
+ * what their block binds to `command`, usually empty.
  * NX_DONE, NX_BAD_NUMBER, NX_SHORT, NX_OUT_OF_MEMORY.
  */
 int32_t nx_command(nx_session *session, size_t edge, void *buffer, size_t size, size_t *needed);
@@ -530,9 +530,9 @@ int32_t nx_path_between(nx_session *session, size_t from, size_t to, uint32_t wi
  * edge makes that file, and the edge needs that maker through no chain of inputs, so it may run before
  * the file is made. They come by edge and then in the order of the log, without duplicates. An edge for
  * which the log names `build.ninja`, by that very path, is left out: that says only that it is to run
- * again after the manifest was made anew. Nothing is joined; ask before nx_join_deps, after which what
- * the log names are inputs. Gives as many as there is room for, the rest of which remains unchanged, and
- * through `count` how many there are. Each call reads the log anew.
+ * again after the manifest was regenerated. Nothing is joined: call it before nx_join_deps, which makes
+ * logged files inputs. Stores as many as fit, and in `count` how many there are; the rest of the array
+ * is unchanged. Each call reads the log again.
  * NX_DONE, NX_BAD_LOG, NX_OUT_OF_MEMORY.
  */
 int32_t nx_undeclared(nx_session *session, const void *log, size_t log_length, nx_edge_input *inputs,

@@ -5,7 +5,7 @@
  *
  * FILE, by default build.ninja, and all files that it includes are read from the disk. After N
  * commands it stops; if any are left, it writes the mark for --resume to the error output. The
- * status is 0 at the end, 1 after a fault, 2 if the words are not these, 3 if it stopped before the
+ * status is 0 at the end, 1 after a fault, 2 on a usage error, 3 if it stopped before the
  * end, and 4 if the output could not be written.
  */
 #define _DEFAULT_SOURCE

@@ -1,12 +1,12 @@
 /*
  * Writes why a target needs a file: a shortest chain of inputs from the one to the other. Files that the
- * compiler found out are inputs too, if there is a deps log.
+ * compiler discovered are inputs too, if there is a deps log.
  *
  *     why TARGET FILE
  *
- * build.ninja, all files that it includes and .ninja_deps are read in the working folder. The chain has
+ * build.ninja, all files that it includes and .ninja_deps are read in the working directory. The chain has
  * a line for each file. The status is 0 if there is a chain, 1 if there is none or after a fault, and 2
- * if the words are not these.
+ * on a usage error.
  */
 #define _DEFAULT_SOURCE
 #include <ninja_explain_files.h>

@@ -374,7 +374,7 @@ class Session:
 
     @in_turn
     def made_from(self, files: Sequence[int]) -> list[bool]:
-        """Of each of these files whether the manifest is made from it."""
+        """For each of the given files, whether the manifest depends on it."""
         flags = (c_int32 * len(files))()
         self._call("nx_made_from", *number_arguments(files), flags, len(files))
         return [bool(flag) for flag in flags]

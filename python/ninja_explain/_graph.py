@@ -242,8 +242,8 @@ class Edge(_Numbered):
 
     @property
     def command(self) -> str:
-        """Its command, as it is passed to a shell. No phony edge is run: its command is the value that its block
-        binds to `command`, and mostly empty."""
+        """Its command, as it is passed to a shell. Phony edges are never run; their command
+        is what their block binds to `command`, usually empty."""
         return self._session.text("nx_command", self._number)
 
     def variable(self, name: str) -> str:
