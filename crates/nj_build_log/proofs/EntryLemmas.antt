@@ -200,7 +200,7 @@ known-push count more [] line le known here = (here, tt)
 known-push count more (first ∷ lines) line le known here =
     (omega (arith, known.0), known-push count more lines line le known.1 here)
 
-entry-push : (lines : List LineModel) (line : LineModel) (output : List ℕ)
+pub entry-push : (lines : List LineModel) (line : LineModel) (output : List ℕ)
     → entry_of (lines ++ line ∷ []) output
     ≡ cond (bytes_eq output line.output) (Some line.entry) (entry_of lines output)
 entry-push lines line output =

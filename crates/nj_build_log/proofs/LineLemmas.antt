@@ -45,7 +45,7 @@ split_some test text k first =
 
 -- ---- what is known of texts that are cut so
 
-two_ways : (b : Bool) → (b ≡ true) ⊎ (b ≡ false)
+pub two_ways : (b : Bool) → (b ≡ true) ⊎ (b ≡ false)
 two_ways true = inl refl
 two_ways false = inr refl
 
@@ -70,11 +70,11 @@ some_byte test text front rest e = elim (two_ways (list_any test text)) [
       (sym e ∙ ap (λ b. cond b (Some (before_first test text, after_first test text)) None) none)))
 ]
 
-all_fail : (test : ℕ → Bool) (text : List ℕ) → list_any test text ≡ false
+pub all_fail : (test : ℕ → Bool) (text : List ℕ) → list_any test text ≡ false
     → All (λ byte. test byte ≡ false) text
 all_fail test text e = λ k d lt. is_false _ (λ t. true≢false (sym (list_any_at test text k d lt t) ∙ e))
 
-first_within : (test : ℕ → Bool) (text : List ℕ) → list_any test text ≡ true
+pub first_within : (test : ℕ → Bool) (text : List ℕ) → list_any test text ≡ true
     → position_or_len test text < length text
 first_within test text e = elim (cases_lt (position_or_len test text) (length text)) [
   | inl within ↦ within

@@ -1,9 +1,11 @@
 -- Numbers, lines and hashes, worked out on the definitions.
 use Rattle.std.proofs.Common.{◌≡◌, ◌^◌, ◌-◌, Some, None, [], ◌∷◌, ◌++◌, refl}
-use Rattle.std.specs.Prelude.{codes, pos, neg_ℤ}
+use Rattle.std.specs.Prelude.{ℕ, List, Ok, codes, pos, neg_ℤ}
+use Rattle.std.specs.Fmt.{digits}
 use Rattle.std.specs.Int.{int_wrap}
 use Rattle.nj_build_log.specs.Numbers.{int_of, long_of, hash_of}
-use Rattle.nj_build_log.specs.Logs.{line_of, version_number, lines_of}
+use Rattle.nj_build_log.specs.Logs.{line_of, version_number, lines_of, build_log_of, logged_lines, entry_of}
+use Rattle.nj_build_log.specs.Laws.{with_line, tabbed, written_line}
 use Rattle.nj_build_log.specs.Murmur.{murmur_of}
 use Rattle.nj_build_log.specs.Rapid.{rapid_of}
 use Rattle.nj_build_log.specs.CommandHashes.{command_hash}
@@ -63,6 +65,54 @@ logged = refl
 
 three_tabs : line_of (codes "0" ++ 9 ∷ codes "17" ++ 9 ∷ codes "1" ++ 9 ∷ codes "a.o") ≡ None
 three_tabs = refl
+
+-- that Ninja wrote
+written : written_line 0 17 1796008948066910939 (codes "a.o") 0x9390d6fd3ddc2105
+    ≡ tabbed (codes "0") (codes "17") (codes "1796008948066910939") (codes "a.o") (codes "9390d6fd3ddc2105")
+unfolding digits
+written = refl
+
+-- ---- a line after a log
+
+abbrev one_line_log : List ℕ
+one_line_log = with_line (codes "# ninja log v5" ++ 10 ∷ [])
+    (tabbed (codes "0") (codes "17") (codes "5") (codes "a.o") (codes "ff"))
+
+-- the last line of an output counts
+pub last_line : build_log_of (with_line one_line_log
+    (tabbed (codes "18") (codes "20") (codes "6") (codes "a.o") (codes "a")))
+    ≡ Ok (record {
+      version = Some Five;
+      lines =
+          record {
+            output = codes "a.o";
+            entry =
+                record { start = pos 0; end = pos 17; time = pos 5; hash = 255 };
+          }
+          ∷ record {
+            output = codes "a.o";
+            entry =
+                record { start = pos 18; end = pos 20; time = pos 6; hash = 10 };
+          }
+          ∷ [];
+    })
+unfolding int_wrap
+last_line = refl
+
+entry_of_last_line : entry_of (logged_lines
+    (with_line (with_line [] (tabbed (codes "0") (codes "17") (codes "5") (codes "a.o") (codes "ff")))
+    (tabbed (codes "18") (codes "20") (codes "6") (codes "a.o") (codes "a")))) (codes "a.o")
+    ≡ Some (record { start = pos 18; end = pos 20; time = pos 6; hash = 10 })
+unfolding int_wrap
+entry_of_last_line = refl
+
+without_end : build_log_of (one_line_log
+    ++ tabbed (codes "18") (codes "20") (codes "6") (codes "a.o") (codes "a")) ≡ build_log_of one_line_log
+without_end = refl
+
+with_three_tabs : build_log_of (with_line one_line_log (codes "18" ++ 9 ∷ codes "20" ++ 9 ∷ codes "6"
+    ++ 9 ∷ codes "a.o")) ≡ build_log_of one_line_log
+with_three_tabs = refl
 
 -- ---- hashes of commands in that log
 

@@ -6,6 +6,7 @@ pub use Rattle.std.specs.List.{IsDistinct, before_first, after_first, list_all}
 pub use Rattle.nj_build_log.specs.Faults.{fault_text}
 pub use Rattle.nj_build_log.specs.CommandHashes.{hashed_text, command_hash}
 pub use Rattle.nj_build_log.specs.Murmur.{word, multiplied, folded, murmur_of, with_block, with_blocks, with_rest}
+pub use Rattle.nj_build_log.specs.Laws.{LastLineCounts, UnendedLineChangesNothing, FewTabsChangeNothing, WrittenLinesAreRead}
 pub use Rattle.nj_names.specs.NameTables.{with_name}
 pub use Rattle.nj_build_log.specs.Inside.LinesHeld.{SetsEntry, split_at_first}
 pub use Rattle.nj_build_log.specs.Numbers.{is_blank, without_blanks, leading_value, long_of, int_of, without_prefix, hash_of}

@@ -11,6 +11,7 @@ mod build_log_fault;
 mod entry;
 mod hashed_text;
 mod hashing;
+mod laws;
 mod line_table;
 mod lines;
 mod log_version;
@@ -24,6 +25,9 @@ pub use build_log::BuildLog;
 pub use build_log_fault::BuildLogFault;
 pub use entry::{Entry, LoggedLine};
 pub use hashing::command_hash;
+pub use laws::{
+    few_tabs_change_nothing, last_line_counts, unended_line_changes_nothing, written_lines_are_read,
+};
 pub use log_version::LogVersion;
 pub use nj_names::HashKeys;
 pub use outputs::Outputs;
