@@ -1,0 +1,3 @@
+pub mod StateLemmas
+pub mod BlameLemmas
+pub mod StaleRows

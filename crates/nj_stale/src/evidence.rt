@@ -1,0 +1,14 @@
+//! What is known of a build before it runs.
+
+/// What is known of an edge beside its files.
+#[derive(Clone, Copy, Debug, PartialEq, Eq)]
+pub struct EdgeFacts {
+    /// The inputs that builds discovered for it are not known.
+    pub is_unknown: bool,
+    /// Its value of `restat` is not empty.
+    pub restat: bool,
+    /// Its value of `generator` is not empty.
+    pub generator: bool,
+    /// The hash of its command, as a build log of that version has it.
+    pub command_hash: u64,
+}

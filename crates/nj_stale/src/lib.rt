@@ -1,0 +1,14 @@
+//! Which edges of a build are stale: what Ninja would run, and why.
+//!
+//! An edge is stale if what it discovers is unknown, if an input that counts is stale, or if an
+//! output is missing, older than an input that counts, or made by another command, as the build log
+//! has it.
+#![tactic(auto)]
+
+mod evidence;
+mod laws;
+mod reason;
+
+pub use evidence::EdgeFacts;
+pub use laws::{one_state_fits, some_state_fits, stale_edges_have_reasons};
+pub use reason::Reason;
