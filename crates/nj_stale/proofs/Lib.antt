@@ -1,3 +1,5 @@
 pub mod StateLemmas
 pub mod BlameLemmas
+pub mod FileLemmas
+pub mod FoundLemmas
 pub mod StaleRows

@@ -3,7 +3,7 @@ use Rattle.std.proofs.Common.{◌≡◌, ℕ, Bool, true, false, Option, Some, N
 use Rattle.std.specs.Prelude.{codes, pos, find, option_map, unwrap_or, bytes_eq}
 use Rattle.nj_edges.specs.Edges.{EdgePaths}
 use Rattle.nj_build_log.specs.Logs.{LineModel}
-use Rattle.nj_stale.specs.States.{Evidence, State, reason_of, output_time}
+use Rattle.nj_stale.specs.States.{reason_of, output_time}
 use Rattle.nj_stale.specs.declared.evidence.EdgeFacts.{EdgeFacts}
 use Rattle.nj_stale.specs.declared.reason.Reason.{Reason}
 use Rattle.nj_stale.specs.declared.reason.Reason.TheVariants.{UnknownInputs, StaleInput, MissingOutput}

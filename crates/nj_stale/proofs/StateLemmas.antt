@@ -77,20 +77,20 @@ needs_maker edges edge path maker c is =
 -- ---- states that say the same
 
 -- of a file
-record Same (known : Evidence) (s t : State) (path : List ℕ) : Type 0 where
-  stale : is_stale_file known s path ≡ is_stale_file known t path
-  time : s.time path ≡ t.time path
+pub record Same (known : Evidence) (s t : State) (path : List ℕ) : Type 0 where
+  pub stale : is_stale_file known s path ≡ is_stale_file known t path
+  pub time : s.time path ≡ t.time path
 
 -- of an edge, and of the files that it makes
-record SameEdge (known : Evidence) (s t : State) (edge : ℕ) : Type 0 where
-  reason : s.reason edge ≡ t.reason edge
-  times : (path : List ℕ) → maker_of known.edges path ≡ Some edge → s.time path ≡ t.time path
+pub record SameEdge (known : Evidence) (s t : State) (edge : ℕ) : Type 0 where
+  pub reason : s.reason edge ≡ t.reason edge
+  pub times : (path : List ℕ) → maker_of known.edges path ≡ Some edge → s.time path ≡ t.time path
 
-abbrev SameInputs : Evidence → State → State → ℕ → Type 0
+abbrev pub SameInputs : Evidence → State → State → ℕ → Type 0
 SameInputs known s t edge =
     (path : List ℕ) → Contains (counted_inputs_of (edge_at known.edges edge)) path → Same known s t path
 
-same_reason : (known : Evidence) (s t : State) (edge : ℕ) → SameInputs known s t edge
+pub same_reason : (known : Evidence) (s t : State) (edge : ℕ) → SameInputs known s t edge
     → reason_of known s edge ≡ reason_of known t edge
 same_reason known s t edge same =
     let paths = edge_at known.edges edge in
@@ -102,7 +102,7 @@ same_reason known s t edge same =
     (λ path at c. ap (λ b. if b then Some (StaleInput at) else None) (same path c).stale))
     (newest_agree s.time t.time counted (λ path c. (same path c).time))
 
-same_newest : (known : Evidence) (s t : State) (edge : ℕ) → SameInputs known s t edge
+pub same_newest : (known : Evidence) (s t : State) (edge : ℕ) → SameInputs known s t edge
     → newest_input s (edge_at known.edges edge) ≡ newest_input t (edge_at known.edges edge)
 same_newest known s t edge same =
     newest_agree s.time t.time (counted_inputs_of (edge_at known.edges edge)) (λ path c. (same path c).time)
@@ -115,9 +115,10 @@ same_output known s t edge path reason newest =
     ap₂ (λ (r : Option Reason) (n : Option ℕ). if is_missing known path
     then (if phony && not (is_some r) then unwrap_or n 0 else 0) else known.disk_time path) reason newest
 
-same_inputs : (known : Evidence) (s t : State) (edge : ℕ)
+pub same_inputs : (known : Evidence) (s t : State) (edge : ℕ)
     → ((path : List ℕ) → maker_of known.edges path ≡ None → s.time path ≡ t.time path)
-    → ((maker : ℕ) → Needs (makers_of_inputs known.edges) edge maker → SameEdge known s t maker)
+    → ((path : List ℕ) (maker : ℕ) → Contains (counted_inputs_of (edge_at known.edges edge)) path
+    → maker_of known.edges path ≡ Some maker → SameEdge known s t maker)
     → SameInputs known s t edge
 same_inputs known s t edge sources makers path c = by (maker_of known.edges path) refl
   where
@@ -127,7 +128,7 @@ same_inputs known s t edge sources makers path c = by (maker_of known.edges path
       time = sources path is;
     }
     by (Some maker) is =
-        let same = makers maker (needs_maker known.edges edge path maker c is) in
+        let same = makers path maker c is in
         record {
           stale = ap (λ m. is_stale_by m known s path) is ∙ ap is_some same.reason
               ∙ sym (ap (λ m. is_stale_by m known t path) is);
@@ -158,7 +159,8 @@ same_below : (known : Evidence) (s t : State) (rank : ℕ → ℕ)
 same_below known s t rank is of_s of_t zero edge lt below = absurd (omega arith)
 same_below known s t rank is of_s of_t (suc n) edge lt below =
     fit_alike known s t of_s of_t edge lt (same_inputs known s t edge (same_sources known s t of_s of_t)
-    (λ maker needs. same_below known s t rank is of_s of_t n maker (is.within edge maker needs)
+    (λ path maker c made. let needs = needs_maker known.edges edge path maker c made in
+    same_below known s t rank is of_s of_t n maker (is.within edge maker needs)
     (let falls = is.falls edge maker needs in omega arith)))
 
 pub one_state : OneStateFits
@@ -224,8 +226,8 @@ stays known rank is (suc n) zero edge le below = absurd (omega arith)
 stays known rank is (suc n) (suc m) edge le below =
     next_alike known (turn known n) (turn known m) edge (same_inputs known (turn known n) (turn known m) edge
     (λ path none. source_at known n path none ∙ sym (source_at known m path none))
-    (λ maker needs. stays known rank is n m maker (omega arith)
-    (let falls = is.falls edge maker needs in omega arith)))
+    (λ path maker c made. let needs = needs_maker known.edges edge path maker c made in
+    stays known rank is n m maker (omega arith) (let falls = is.falls edge maker needs in omega arith)))
 
 pub some_state : SomeStateFits
 some_state known acyclic =

@@ -1,5 +1,8 @@
 -- the definitions to believe
 pub mod States
 pub mod Laws
+pub mod Numbered
+-- how the code does that
+pub mod Inside
 -- what the contracts cite
 pub mod Cited

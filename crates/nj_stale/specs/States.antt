@@ -50,9 +50,9 @@ is_stale_file known s path = is_stale_by (maker_of known.edges path) known s pat
 -- ---- times
 
 -- the newest of the times of these files; none of no files
-abbrev pub newest : (time : List ℕ → ℕ) → (paths : List (List ℕ)) → Option ℕ
+abbrev pub newest : {File : Type 0} → (time : File → ℕ) → (files : List File) → Option ℕ
 newest time [] = None
-newest time (path ∷ paths) = Some (max (time path) (unwrap_or (newest time paths) 0))
+newest time (file ∷ files) = Some (max (time file) (unwrap_or (newest time files) 0))
 
 -- the newest of the inputs that count: the explicit, the implicit and the discovered ones
 abbrev pub newest_input : State → EdgePaths → Option ℕ
@@ -76,9 +76,9 @@ output_time known s edge path =
 -- ---- reasons
 
 -- the first reason that one of these files is, where each is asked with its place
-abbrev pub first_reason : (asked : List ℕ → (place : ℕ) → Option Reason) → (place : ℕ) → (paths : List (List ℕ)) → Option Reason
+abbrev pub first_reason : {File : Type 0} → (asked : File → (place : ℕ) → Option Reason) → (place : ℕ) → (files : List File) → Option Reason
 first_reason asked place [] = None
-first_reason asked place (path ∷ paths) = option_or (asked path place) (first_reason asked (place + 1) paths)
+first_reason asked place (file ∷ files) = option_or (asked file place) (first_reason asked (place + 1) files)
 
 -- what builds discover for the edge is not known
 abbrev pub by_discovery : EdgeFacts → Option Reason

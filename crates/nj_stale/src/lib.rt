@@ -6,9 +6,13 @@
 #![tactic(auto)]
 
 mod evidence;
+mod files;
+mod judging;
 mod laws;
 mod reason;
+mod reasons;
 
 pub use evidence::EdgeFacts;
 pub use laws::{one_state_fits, some_state_fits, stale_edges_have_reasons};
 pub use reason::Reason;
+pub use reasons::reasons_of;

@@ -1,0 +1,9 @@
+use Rattle.std.proofs.Common.{◌≡◌, drop}
+use Rattle.nj_stale.specs.States.{first_reason}
+use Rattle.nj_stale.specs.Inside.Held.{missing_held}
+use Rattle.nj_stale.proofs.files.first_missing.Given as goal
+
+abbrev pub invariant-files : goal.invariant-files
+invariant-files l =
+    let asked = missing_held l.times in first_reason asked l.index (drop l.index l.files)
+    ≡ first_reason asked 0 l.files

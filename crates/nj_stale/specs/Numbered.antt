@@ -1,0 +1,36 @@
+-- What is known of a graph whose files and edges have numbers, and the reasons of its edges by their numbers.
+use Rattle.std.specs.Prelude.{◌≡◌, ℕ, ◌<◌, if◌then◌else◌, Option, Some, List, [], ◌∷◌, length, bytes_eq, slice_get, slice_index, Contains}
+use Rattle.nj_edges.specs.EdgeGraphs.{EdgeGraph}
+use Rattle.nj_edges.specs.Edges.{EdgePaths, edge_at, counted_inputs_of, maker_of}
+use Rattle.nj_build_log.specs.Logs.{LineModel}
+use Rattle.nj_stale.specs.States.{Evidence, State, IsStateOf}
+use Rattle.nj_stale.specs.declared.evidence.EdgeFacts.{EdgeFacts}
+use Rattle.nj_stale.specs.declared.reason.Reason.{Reason}
+
+-- the time of a path, where each file has one; 0 of any other path
+abbrev pub time_of : (files : List (List ℕ)) → (times : List ℕ) → (path : List ℕ) → ℕ
+time_of [] times path = 0
+time_of (file ∷ files) [] path = 0
+time_of (file ∷ files) (time ∷ times) path = if bytes_eq path file then time else time_of files times path
+
+-- the facts of each edge, the times of each file, and the lines of a log
+abbrev pub evidence_of : EdgeGraph → List EdgeFacts → (times : List ℕ) → List LineModel → Evidence
+evidence_of g facts times lines =
+    record { edges = g.edges; facts = facts; disk_time = time_of g.files times; lines = lines }
+
+-- there are as many facts as edges, and as many times as files
+pub record IsKnown (g : EdgeGraph) (facts : List EdgeFacts) (times : List ℕ) : Type 0 where
+  pub fact_count : length facts ≡ length g.edges
+  pub time_count : length times ≡ length g.files
+
+-- an order of edges, in which each comes after those that make the inputs of it that count
+pub record IsMakersFirst (edges : List EdgePaths) (order : List ℕ) : Type 0 where
+  pub within : (turn : ℕ) → turn < length order → slice_index order turn < length edges
+  pub first : (turn maker : ℕ) (path : List ℕ) → turn < length order
+      → Contains (counted_inputs_of (edge_at edges (slice_index order turn))) path → maker_of edges path ≡ Some maker
+      → (earlier : ℕ) × (earlier < turn) × (slice_index order earlier ≡ maker)
+
+-- For each edge of the order, this is its reason in the state of the build.
+abbrev pub AreReasonsOf : Evidence → (order : List ℕ) → (reasons : List (Option Reason)) → Type 0
+AreReasonsOf known order reasons = (s : State) → IsStateOf known s → (turn : ℕ) → turn < length order
+    → slice_get reasons (slice_index order turn) ≡ Some (s.reason (slice_index order turn))

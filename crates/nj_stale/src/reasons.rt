@@ -1,0 +1,181 @@
+//! The reasons for which edges are stale.
+
+ghost use Rattle.std.specs.Prelude.{◌≡◌, ℕ, ◌<◌, ◌+◌, ◌==◌, List, [], length, map, bytes_eq, slice_index, IfOk};
+ghost use Rattle.nj_stale.specs.Cited.{AreReasonsOf, IsDistinct, IsFound, IsKnown, IsMakersFirst, IsNext, by_discovery, by_files, by_outputs, by_phony_outputs, edge_at, evidence_of, inputs_of, newest_input, reason_of, state_held};
+
+use crate::evidence::EdgeFacts;
+use crate::files::{counted_inputs, first_missing, first_of_outputs, first_stale, newest_of};
+use crate::judging::lent_by;
+use crate::reason::Reason;
+use nj_build_log::BuildLog;
+use nj_edges::{EdgeGraph, EdgeNo};
+use std::alloc::{AllocError, Global};
+
+/// The reasons for which the edges of an order are stale, by the numbers of the edges: `None` for an
+/// edge that is not. Items of other edges are unspecified.
+///
+/// `facts` has an item for each edge, and `times` one for each file: its time on the disk, 0 if it is
+/// not there. The discovered inputs have to be inputs of the graph. In the order each edge comes
+/// after those that make its explicit and implicit inputs.
+///
+/// Takes time in proportion to the edges of the order and their files. Fails only if an allocation
+/// fails.
+pub fn reasons_of(
+    alloc: Global,
+    graph: &EdgeGraph,
+    facts: &[EdgeFacts],
+    times: &[u64],
+    log: &BuildLog,
+    order: &[EdgeNo],
+) -> Result<Vec<Option<Reason>>, AllocError>
+    requires known { IsKnown graph.now facts.now times.now }
+    requires order { IsMakersFirst graph.now.edges (map (λ edge. edge.0) order.now) }
+    ensures { IfOk result (λ reasons. AreReasonsOf
+        (evidence_of graph.now facts.now times.now log.now.lines)
+        (map (λ edge. edge.0) order.now) reasons.items) }
+{
+    // no path has two files
+    let _file_count = graph.file_count();
+    let mut reasons = vec![in alloc; None; graph.edge_count()]?;
+    let mut lent = vec![in alloc; 0; graph.edge_count()]?;
+    'turns: for turn in 0..order.len() {
+        judge(
+            graph,
+            facts,
+            times,
+            log,
+            order[turn],
+            &mut reasons,
+            &mut lent,
+        );
+    }
+    Ok(reasons)
+}
+
+// Finds the reason of an edge, and the time that it lends. It is the next one of each order in which
+// the edges before it have theirs.
+fn judge(
+    graph: &EdgeGraph,
+    facts: &[EdgeFacts],
+    times: &[u64],
+    log: &BuildLog,
+    edge: EdgeNo,
+    reasons: &mut [Option<Reason>],
+    lent: &mut [u64],
+)
+    requires known { IsKnown graph.now facts.now times.now }
+    requires distinct { IsDistinct bytes_eq graph.now.files }
+    requires edge { edge.0 < length graph.now.edges }
+    requires reasons { length reasons.old ≡ length graph.now.edges }
+    requires lent { length lent.old ≡ length graph.now.edges }
+    ensures { (order : List ℕ) (turn : ℕ) → IsNext graph.now.edges order turn edge.0
+        → IsFound (evidence_of graph.now facts.now times.now log.now.lines) order turn
+        reasons.old lent.old
+        → IsFound (evidence_of graph.now facts.now times.now log.now.lines) order (turn + 1)
+        reasons.new lent.new }
+{
+    let newest = newest_of(graph, times, lent, counted_inputs(graph, edge));
+    let reason = reason_of(graph, facts, times, log, reasons, newest, edge);
+    reasons[edge.0] = reason;
+    lent[edge.0] = lent_by(graph.is_phony(edge), reason, newest);
+}
+
+// Why an edge is stale, by what is found of those that make its inputs.
+fn reason_of(
+    graph: &EdgeGraph,
+    facts: &[EdgeFacts],
+    times: &[u64],
+    log: &BuildLog,
+    reasons: &[Option<Reason>],
+    newest: Option<u64>,
+    edge: EdgeNo,
+) -> Option<Reason>
+    requires known { IsKnown graph.now facts.now times.now }
+    requires distinct { IsDistinct bytes_eq graph.now.files }
+    requires reasons { length reasons.now ≡ length graph.now.edges }
+    requires edge { edge.0 < length graph.now.edges }
+    ensures { (lent : List ℕ)
+        → newest ≡ newest_input (state_held graph.now times.now reasons.now lent)
+        (edge_at graph.now.edges edge.0)
+        → result ≡ reason_of (evidence_of graph.now facts.now times.now log.now.lines)
+        (state_held graph.now times.now reasons.now lent) edge.0 }
+{
+    let facts = facts[edge.0];
+    let by_inputs = first_stale(graph, times, reasons, counted_inputs(graph, edge));
+    let by_files = by_files(graph, times, log, facts, newest, edge);
+    by_discovery(facts).or(by_inputs.or(by_files))
+}
+
+// Why an edge is stale by what it discovers.
+fn by_discovery(facts: EdgeFacts) -> Option<Reason>
+    ensures { result ≡ by_discovery facts }
+{
+    if facts.is_unknown {
+        Some(Reason::UnknownInputs)
+    } else {
+        None
+    }
+}
+
+// Why an edge is stale by its outputs.
+fn by_files(
+    graph: &EdgeGraph,
+    times: &[u64],
+    log: &BuildLog,
+    facts: EdgeFacts,
+    newest: Option<u64>,
+    edge: EdgeNo,
+) -> Option<Reason>
+    requires times { length times.now ≡ length graph.now.files }
+    requires distinct { IsDistinct bytes_eq graph.now.files }
+    requires edge { edge.0 < length graph.now.edges }
+    ensures { result ≡ by_files (evidence_of graph.now [] times.now log.now.lines) facts newest
+        (edge_at graph.now.edges edge.0) }
+{
+    if graph.is_phony(edge) {
+        by_phony_outputs(graph, times, edge)
+    } else {
+        by_outputs(graph, times, log, facts, newest, edge)
+    }
+}
+
+// Why an edge that is not phony is.
+fn by_outputs(
+    graph: &EdgeGraph,
+    times: &[u64],
+    log: &BuildLog,
+    facts: EdgeFacts,
+    newest: Option<u64>,
+    edge: EdgeNo,
+) -> Option<Reason>
+    requires times { length times.now ≡ length graph.now.files }
+    requires distinct { IsDistinct bytes_eq graph.now.files }
+    requires edge { edge.0 < length graph.now.edges }
+    ensures { result ≡ by_outputs (evidence_of graph.now [] times.now log.now.lines) facts newest
+        (edge_at graph.now.edges edge.0) }
+{
+    first_of_outputs(graph, times, log, facts, newest, graph.outputs(edge))
+}
+
+// Why a phony edge is.
+fn by_phony_outputs(graph: &EdgeGraph, times: &[u64], edge: EdgeNo) -> Option<Reason>
+    requires times { length times.now ≡ length graph.now.files }
+    requires distinct { IsDistinct bytes_eq graph.now.files }
+    requires edge { edge.0 < length graph.now.edges }
+    ensures { result ≡ by_phony_outputs (evidence_of graph.now [] times.now [])
+        (edge_at graph.now.edges edge.0) }
+{
+    if has_no_input(graph, edge) {
+        first_missing(times, graph.outputs(edge))
+    } else {
+        None
+    }
+}
+
+// Whether an edge has no input of any kind.
+fn has_no_input(graph: &EdgeGraph, edge: EdgeNo) -> bool
+    requires { edge.0 < length graph.now.edges }
+    ensures { result ≡ (length (inputs_of (edge_at graph.now.edges edge.0)) == 0) }
+{
+    graph.inputs(edge).len() == 0
+}
