@@ -154,7 +154,8 @@ module _ (g : EdgeGraph) (facts : List EdgeFacts) (times : List ℕ) (lines : Li
     inputs_alike s of_s =
         same_inputs (evidence_of g facts times lines) (state_held g times reasons lent) s
         (slice_index order turn)
-        (λ path none. ap (λ m. time_by m (time_of g.files times path) lent) none ∙ sym (of_s.source path none))
+        (λ path none. ap (λ m. time_by m (time_of g.files times path) lent) none
+        ∙ sym (of_s.source path none))
         (λ path maker c made. let k = first.first turn maker path within c made in
         earlier_edge s of_s k.0 maker k.1 k.2)
 

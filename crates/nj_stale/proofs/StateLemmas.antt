@@ -28,7 +28,7 @@ contains_map : (f : List ℕ → Option ℕ) (xs : List (List ℕ)) (x : List �
 contains_map f xs x c =
     (c.0, omega (arith, c.1, length-map xs f), get_or-map f xs c.0 x (f x) c.1 ∙ ap f c.2)
 
-reasons_agree : (asked other : List ℕ → ℕ → Option Reason) (place : ℕ) (paths : List (List ℕ))
+pub reasons_agree : (asked other : List ℕ → ℕ → Option Reason) (place : ℕ) (paths : List (List ℕ))
     → ((path : List ℕ) (at : ℕ) → Contains paths path → asked path at ≡ other path at)
     → first_reason asked place paths ≡ first_reason other place paths
 reasons_agree asked other place [] same = refl
@@ -37,7 +37,7 @@ reasons_agree asked other place (path ∷ paths) same =
     ∙ ap (option_or (other path place)) (reasons_agree asked other (place + 1) paths
     (λ q at c. same q at (contains_tail path q paths c)))
 
-newest_agree : (time other : List ℕ → ℕ) (paths : List (List ℕ))
+pub newest_agree : (time other : List ℕ → ℕ) (paths : List (List ℕ))
     → ((path : List ℕ) → Contains paths path → time path ≡ other path)
     → newest time paths ≡ newest other paths
 newest_agree time other [] same = refl

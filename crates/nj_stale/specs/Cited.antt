@@ -6,5 +6,6 @@ pub use Rattle.nj_stale.specs.States.{by_phony_outputs, newest_input, reason_of}
 pub use Rattle.nj_stale.specs.Inside.Held.{input_held, is_stale_held, missing_held, output_held, time_held, lent_by, IsFound, IsNext}
 pub use Rattle.nj_stale.specs.Inside.Held.{state_held}
 pub use Rattle.nj_stale.specs.Laws.{SomeStateFits, OneStateFits, StaleEdgesHaveReasons}
+pub use Rattle.nj_stale.specs.Touches.{TouchesMakeDirtyEdgesStale}
 pub use Rattle.nj_stale.specs.Numbered.{AreReasonsOf, IsKnown, IsMakersFirst, evidence_of}
 pub use Rattle.std.specs.List.{IsDistinct}

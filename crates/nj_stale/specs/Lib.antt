@@ -1,6 +1,7 @@
 -- the definitions to believe
 pub mod States
 pub mod Laws
+pub mod Touches
 pub mod Numbered
 -- how the code does that
 pub mod Inside

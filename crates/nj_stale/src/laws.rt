@@ -1,6 +1,6 @@
 //! Laws of the state of a build.
 
-ghost use Rattle.nj_stale.specs.Cited.{SomeStateFits, OneStateFits, StaleEdgesHaveReasons};
+ghost use Rattle.nj_stale.specs.Cited.{SomeStateFits, OneStateFits, StaleEdgesHaveReasons, TouchesMakeDirtyEdgesStale};
 
 /// A build without dependency cycles has a state.
 pub fn some_state_fits()
@@ -15,4 +15,10 @@ pub fn one_state_fits()
 /// An edge is stale exactly if it has a chain of reasons that ends at a file or a line of the log.
 pub fn stale_edges_have_reasons()
     ensures { StaleEdgesHaveReasons }
+{}
+
+/// Where nothing is stale, a touch of source files makes exactly those edges with a command stale that
+/// are dirty by these files.
+pub fn touches_make_dirty_edges_stale()
+    ensures { TouchesMakeDirtyEdgesStale }
 {}

@@ -13,6 +13,8 @@ mod reason;
 mod reasons;
 
 pub use evidence::EdgeFacts;
-pub use laws::{one_state_fits, some_state_fits, stale_edges_have_reasons};
+pub use laws::{
+    one_state_fits, some_state_fits, stale_edges_have_reasons, touches_make_dirty_edges_stale,
+};
 pub use reason::Reason;
 pub use reasons::reasons_of;
