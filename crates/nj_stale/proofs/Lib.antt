@@ -2,5 +2,8 @@ pub mod StateLemmas
 pub mod BlameLemmas
 pub mod FileLemmas
 pub mod FoundLemmas
+pub mod PathLemmas
+pub mod TimeLemmas
+pub mod NeededLemmas
 pub mod TouchLemmas
 pub mod StaleRows

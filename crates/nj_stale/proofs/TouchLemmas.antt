@@ -1,122 +1,35 @@
 -- What becomes stale where sources are touched.
-use Rattle.std.proofs.Common.{◌≡◌, ◌≢◌, ℕ, zero, suc, ◌<◌, ◌≤◌, ◌+◌, Bool, true, false, cond, Option, Some}
+use Rattle.std.proofs.Common.{◌≡◌, ◌≢◌, ℕ, zero, suc, ◌<◌, ◌≤◌, ◌+◌, Bool, true, false, Option, Some}
 use Rattle.std.proofs.Common.{None}
 use Rattle.std.proofs.Common.{◌⊎◌, inl, inr, List, [], ◌∷◌, length, refl, sym, ap, ap₂, ◌∙◌, subst, arith}
 use Rattle.std.proofs.Common.{max}
 use Rattle.std.proofs.Common.{true≢false}
-use Rattle.std.specs.Prelude.{Contains, ℤ, pos, negsuc, option_map, unwrap_or, is_some, not, ◌&&◌, ◌||◌, ◌==◌}
-use Rattle.std.specs.Prelude.{if◌then◌else◌, bytes_eq}
-use Rattle.std.specs.List.{list_any}
+use Rattle.std.specs.Prelude.{Contains, ℤ, pos, negsuc, unwrap_or, is_some, not, ◌&&◌, ◌==◌}
+use Rattle.std.specs.Prelude.{if◌then◌else◌}
 use Rattle.std.specs.Option.{option_or}
 use Rattle.std.proofs.lemmas.Bool.{lt-ltb}
 use borrow.Author.Tests.{ltb-true}
-use Rattle.std.proofs.lemmas.List.Folds.{list_any_at}
-use Rattle.std.proofs.lemmas.Slice.Eq.{bytes_eq-Decides}
 use Rattle.nj_names.specs.NameTables.{is_among}
 use Rattle.nj_cycles.specs.Cycles.{IsRank}
 use Rattle.nj_edges.specs.Dirty.{IsDirty}
 use Rattle.nj_edges.specs.Dirty.IsDirty.{by_itself as dirty_itself, by_output as dirty_output}
 use Rattle.nj_edges.specs.Dirty.IsDirty.{by_input as dirty_input, by_edge as dirty_edge}
-use Rattle.nj_edges.specs.Edges.{EdgePaths, edge_at, inputs_of, outputs_of, counted_inputs_of, maker_of}
-use Rattle.nj_edges.specs.Edges.{first_edge}
+use Rattle.nj_edges.specs.Edges.{edge_at, outputs_of, counted_inputs_of, maker_of}
 use Rattle.nj_edges.specs.Needs.{makers_of_inputs}
 use Rattle.nj_build_log.specs.Logs.{entry_of}
 use Rattle.nj_build_log.specs.declared.entry.Entry.{Entry}
 use Rattle.nj_stale.specs.States.{Evidence, State, IsStateOf, facts_at, is_before, is_stale, is_stale_by}
 use Rattle.nj_stale.specs.States.{is_stale_file, newest, newest_input, lent_time, first_reason, by_discovery}
-use Rattle.nj_stale.specs.States.{by_missing, by_log, by_output, by_outputs, by_phony_outputs, by_files}
+use Rattle.nj_stale.specs.States.{by_log, by_output, by_outputs, by_phony_outputs, by_files}
 use Rattle.nj_stale.specs.States.{by_input}
 use Rattle.nj_stale.specs.Touches.{touched, IsUpToDate, CanBeTouched, TouchesMakeDirtyEdgesStale}
 use Rattle.nj_stale.specs.declared.evidence.EdgeFacts.{EdgeFacts}
 use Rattle.nj_stale.specs.declared.reason.Reason.{Reason}
 use Rattle.nj_stale.specs.declared.reason.Reason.TheVariants.{StaleInput, MissingOutput, OlderOutput}
 use Rattle.nj_stale.specs.declared.reason.Reason.TheVariants.{OtherCommand, EarlierBuild}
-use Rattle.nj_stale.proofs.StateLemmas.{contains_head, contains_tail, reasons_agree, newest_agree}
-use Rattle.nj_stale.proofs.StateLemmas.{maker_within, needs_maker}
-
--- ---- lists of paths
-
-two_ways : (b : Bool) → (b ≡ true) ⊎ (b ≡ false)
-two_ways true = inl refl
-two_ways false = inr refl
-
-same_path : (one two : List ℕ) → bytes_eq one two ≡ true → one ≡ two
-same_path one two e = (bytes_eq-Decides one two).0 e
-
-some_of : (test : List ℕ → Bool) (paths : List (List ℕ)) → list_any test paths ≡ true
-    → (path : List ℕ) × Contains paths path × (test path ≡ true)
-some_of test [] none = absurd (true≢false (sym none))
-some_of test (path ∷ paths) some = by (two_ways (test path)) (some_of test paths)
-  where
-    by : (test path ≡ true) ⊎ (test path ≡ false)
-        → (list_any test paths ≡ true → (p : List ℕ) × Contains paths p × (test p ≡ true))
-        → (p : List ℕ) × Contains (path ∷ paths) p × (test p ≡ true)
-    by (inl here) later = (path, contains_head path paths, here)
-    by (inr other) later =
-        let found = later (sym (ap (λ b. b || list_any test paths) other) ∙ some) in
-        (found.0, contains_tail path found.0 paths found.1, found.2)
-
-any_of : (test : List ℕ → Bool) (paths : List (List ℕ)) (path : List ℕ) → Contains paths path
-    → test path ≡ true → list_any test paths ≡ true
-any_of test paths path c is = list_any_at test paths c.0 path c.1 (ap test c.2 ∙ is)
-
-among : (paths : List (List ℕ)) (path : List ℕ) → Contains paths path → is_among paths path ≡ true
-among paths path c = any_of (bytes_eq path) paths path c ((bytes_eq-Decides path path).1 refl)
-
-contained : (paths : List (List ℕ)) (path : List ℕ) → is_among paths path ≡ true → Contains paths path
-contained paths path is =
-    let found = some_of (bytes_eq path) paths is in
-    subst (λ (p : List ℕ). Contains paths p) (sym (same_path path found.0 found.2)) found.1
-
-all_or_some : {A B : List ℕ → Type 0} (paths : List (List ℕ))
-    → ((path : List ℕ) → Contains paths path → A path ⊎ B path)
-    → ((path : List ℕ) → Contains paths path → A path) ⊎ ((path : List ℕ) × Contains paths path × B path)
-all_or_some {A} {B} [] each = inl (λ path c. absurd (omega (arith, c.1)))
-all_or_some {A} {B} (first ∷ paths) each =
-    elim (each first (contains_head first paths)) [
-      | inr b ↦ inr (first, contains_head first paths, b)
-      | inl a ↦ elim (all_or_some {A = A} {B = B} paths
-          (λ path c. each path (contains_tail first path paths c))) [
-            | inr some ↦ inr (some.0, contains_tail first some.0 paths some.1, some.2)
-            | inl all ↦ inl (λ path c. in_front first paths path a all c)
-          ]
-    ]
-  where
-    in_front : (first : List ℕ) (paths : List (List ℕ)) (path : List ℕ) → A first
-        → ((p : List ℕ) → Contains paths p → A p) → Contains (first ∷ paths) path → A path
-    in_front first paths path a all (zero, lt, is) = subst A is a
-    in_front first paths path a all (suc k, lt, is) = all path (k, omega (arith, lt), is)
-
--- ---- makers
-
-has_test : (test : EdgePaths → Bool) (edges : List EdgePaths) (edge : ℕ) → first_edge test edges ≡ Some edge
-    → test (edge_at edges edge) ≡ true
-has_test test [] edge none = absurd (cc)
-has_test test (e ∷ edges) edge is = by (two_ways (test e)) (first_edge test edges) refl (has_test test edges)
-  where
-    by : (test e ≡ true) ⊎ (test e ≡ false) → (found : Option ℕ) → first_edge test edges ≡ found
-        → ((n : ℕ) → first_edge test edges ≡ Some n → test (edge_at edges n) ≡ true)
-        → test (edge_at (e ∷ edges) edge) ≡ true
-    by (inl here) found found_is below =
-        let zero_is : 0 ≡ edge =
-        ap (λ (o : Option ℕ). unwrap_or o 0) (sym (ap (λ b. cond b (Some 0)
-        (option_map (λ n. n + 1) (first_edge test edges))) here) ∙ is) in
-        subst (λ n. test (edge_at (e ∷ edges) n) ≡ true) zero_is here
-    by (inr other) None found_is below =
-        let next : option_map (λ n. n + 1) (first_edge test edges) ≡ Some edge =
-        sym (ap (λ b. cond b (Some 0) (option_map (λ n. n + 1) (first_edge test edges))) other) ∙ is in
-        absurd (true≢false (sym (ap is_some (sym (ap (option_map (λ n. n + 1)) found_is) ∙ next))))
-    by (inr other) (Some n) found_is below =
-        let next : option_map (λ n. n + 1) (first_edge test edges) ≡ Some edge =
-        sym (ap (λ b. cond b (Some 0) (option_map (λ n. n + 1) (first_edge test edges))) other) ∙ is in
-        let plus : n + 1 ≡ edge =
-        ap (λ (o : Option ℕ). unwrap_or o 0) (sym (ap (option_map (λ n. n + 1)) found_is) ∙ next) in
-        let next_is : suc n ≡ edge = omega arith in
-        subst (λ k. test (edge_at (e ∷ edges) k) ≡ true) next_is (below n found_is)
-
-maker_has : (edges : List EdgePaths) (path : List ℕ) (edge : ℕ) → maker_of edges path ≡ Some edge
-    → is_among (outputs_of (edge_at edges edge)) path ≡ true
-maker_has edges path edge is = has_test _ edges edge is
+use Rattle.nj_stale.proofs.StateLemmas.{contains_head, maker_within, needs_maker}
+use Rattle.nj_stale.proofs.PathLemmas.{two_ways, some_of, any_of, among, contained, all_or_some, maker_has}
+use Rattle.nj_stale.proofs.TimeLemmas.{Alike, AlikeEdge, alike_source, alike_made, alike_edge}
 
 -- ---- reasons that are there
 
@@ -206,75 +119,19 @@ module _ (known : Evidence) (files : List (List ℕ)) (now : ℕ) (s t : State) 
       by (inl there) = absurd (true≢false (sym (ap is_some (sym (can.sources path there) ∙ made))))
       by (inr other) = ap (λ b. if b then now else known.disk_time path) other
 
-  -- both states say the same of a file, or of an edge and its files
-  record Alike (path : List ℕ) : Type 0 where
-    stale : is_stale_file (touched known files now) t path ≡ is_stale_file known s path
-    time : t.time path ≡ s.time path
-
-  record AlikeEdge (edge : ℕ) : Type 0 where
-    reason : t.reason edge ≡ s.reason edge
-    times : (path : List ℕ) → maker_of known.edges path ≡ Some edge → t.time path ≡ s.time path
+  -- the times after the touch
+  abbrev touch : List ℕ → ℕ
+  touch path = if is_among files path then now else known.disk_time path
 
   -- a file is touched, or made by a dirty edge
   abbrev Reached : List ℕ → Type 0
   Reached path = (is_among files path ≡ true) ⊎ ((maker : ℕ) × (maker_of known.edges path ≡ Some maker)
       × IsDirty known.edges files [] maker)
 
-  alike_reason : (edge : ℕ) → edge < length known.edges
-      → ((path : List ℕ) → Contains (counted_inputs_of (edge_at known.edges edge)) path → Alike path)
-      → t.reason edge ≡ s.reason edge
-  alike_reason edge lt same =
-      let paths = edge_at known.edges edge in
-      let facts = facts_at known edge in
-      let counted = counted_inputs_of paths in
-      let newest_is = newest_agree t.time s.time counted (λ path c. (same path c).time) in
-      of_t.edge edge lt
-      ∙ ap₂ (λ (r : Option Reason) (n : Option ℕ).
-      option_or (by_discovery facts) (option_or r (by_files (touched known files now) facts n paths)))
-      (reasons_agree (by_input (touched known files now) t) (by_input known s) 0 counted
-      (λ path place c. ap (λ b. if b then Some (StaleInput place) else None) (same path c).stale)) newest_is
-      ∙ ap (λ r. option_or (by_discovery facts) (option_or (first_reason (by_input known s) 0 counted) r))
-      (alike_files paths facts (newest_input s paths))
-      ∙ sym (of_s.edge edge lt)
-    where
-      disk : (path : List ℕ) → Contains (outputs_of (edge_at known.edges edge)) path
-          → (if is_among files path then now else known.disk_time path) ≡ known.disk_time path
-      disk path c = made_time path edge (can.own_outputs path edge
-          (among (outputs_of (edge_at known.edges edge)) path c))
-
-      alike_files : (paths : EdgePaths) (facts : EdgeFacts) (newest : Option ℕ)
-          → by_files (touched known files now) facts newest (edge_at known.edges edge)
-          ≡ by_files known facts newest (edge_at known.edges edge)
-      alike_files paths facts newest =
-          let e = edge_at known.edges edge in
-          ap₂ (λ (a b : Option Reason). if e.is_phony then a else b)
-          (ap (λ (r : Option Reason). if length (inputs_of e) == 0 then r else None)
-          (reasons_agree (by_missing (touched known files now)) (by_missing known) 0 (outputs_of e)
-          (λ path place c. ap (λ d. if d == 0 then Some (MissingOutput place) else None) (disk path c))))
-          (reasons_agree
-          (λ path place. by_output facts newest (if is_among files path then now else known.disk_time path)
-          (entry_of known.lines path) place)
-          (λ path place. by_output facts newest (known.disk_time path) (entry_of known.lines path) place) 0
-          (outputs_of e)
-          (λ path place c. ap (λ d. by_output facts newest d (entry_of known.lines path) place)
-          (disk path c)))
-
-  alike_edge : (edge : ℕ) → edge < length known.edges
-      → ((path : List ℕ) → Contains (counted_inputs_of (edge_at known.edges edge)) path → Alike path)
-      → AlikeEdge edge
-  alike_edge edge lt same =
-      let paths = edge_at known.edges edge in
-      let reason = alike_reason edge lt same in
-      let newest_is = newest_agree t.time s.time (counted_inputs_of paths) (λ path c. (same path c).time) in
-      record {
-        reason = reason;
-        times = λ path made. of_t.output path edge made
-            ∙ ap (λ d. if d == 0 then lent_time t paths edge else d) (made_time path edge made)
-            ∙ ap₂ (λ (r : Option Reason) (n : Option ℕ). if known.disk_time path == 0
-            then (if paths.is_phony && not (is_some r) then unwrap_or n 0 else 0) else known.disk_time path)
-            reason newest_is
-            ∙ sym (of_s.output path edge made);
-      }
+  outputs_stay : (edge : ℕ) (path : List ℕ) → Contains (outputs_of (edge_at known.edges edge)) path
+      → touch path ≡ known.disk_time path
+  outputs_stay edge path c =
+      made_time path edge (can.own_outputs path edge (among (outputs_of (edge_at known.edges edge)) path c))
 
   -- ---- what is stale is dirty
 
@@ -291,41 +148,35 @@ module _ (known : Evidence) (files : List (List ℕ)) (now : ℕ) (s t : State) 
       (contained outputs path (maker_has known.edges path made.0 made.1)) (among counted path c)) made.2
 
   alike_or_reached : (path : List ℕ) → ((maker : ℕ) → maker_of known.edges path ≡ Some maker
-      → AlikeEdge maker ⊎ IsDirty known.edges files [] maker) → Alike path ⊎ Reached path
+      → AlikeEdge known s t maker ⊎ IsDirty known.edges files [] maker)
+      → Alike known touch s t path ⊎ Reached path
   alike_or_reached path makers = by (maker_of known.edges path) refl
     where
       source : maker_of known.edges path ≡ None → (is_among files path ≡ true) ⊎ (is_among files path ≡ false)
-          → Alike path ⊎ Reached path
+          → Alike known touch s t path ⊎ Reached path
       source none (inl there) = inr (inl there)
-      source none (inr other) = inl (record {
-        stale = ap (λ m. is_stale_by m (touched known files now) t path) none
-            ∙ ap (λ b. (if b then now else known.disk_time path) == 0) other
-            ∙ sym (ap (λ m. is_stale_by m known s path) none);
-        time = of_t.source path none ∙ ap (λ b. if b then now else known.disk_time path) other
-            ∙ sym (of_s.source path none);
-      })
+      source none (inr other) =
+          inl (alike_source known touch s t of_s of_t path none
+          (ap (λ b. if b then now else known.disk_time path) other))
 
-      by : (m : Option ℕ) → maker_of known.edges path ≡ m → Alike path ⊎ Reached path
+      by : (m : Option ℕ) → maker_of known.edges path ≡ m → Alike known touch s t path ⊎ Reached path
       by None none = source none (two_ways (is_among files path))
       by (Some maker) made = elim (makers maker made) [
-        | inl alike ↦ inl (record {
-          stale = ap (λ m. is_stale_by m (touched known files now) t path) made ∙ ap is_some alike.reason
-              ∙ sym (ap (λ m. is_stale_by m known s path) made);
-          time = alike.times path made;
-        })
+        | inl alike ↦ inl (alike_made known touch s t of_s of_t path maker made alike)
         | inr dirty ↦ inr (inr (maker, made, dirty))
       ]
 
   alike_or_dirty : (n edge : ℕ) → edge < length known.edges → rank edge < n
-      → AlikeEdge edge ⊎ IsDirty known.edges files [] edge
+      → AlikeEdge known s t edge ⊎ IsDirty known.edges files [] edge
   alike_or_dirty zero edge lt below = absurd (omega arith)
   alike_or_dirty (suc n) edge lt below =
-      elim (all_or_some {A = Alike} {B = Reached} (counted_inputs_of (edge_at known.edges edge))
+      elim (all_or_some {A = Alike known touch s t} {B = Reached}
+      (counted_inputs_of (edge_at known.edges edge))
       (λ path c. alike_or_reached path (λ maker made.
       let needs = needs_maker known.edges edge path maker c made in
       alike_or_dirty n maker (is.within edge maker needs)
       (let falls = is.falls edge maker needs in omega arith)))) [
-        | inl all ↦ inl (alike_edge edge lt all)
+        | inl all ↦ inl (alike_edge known touch s t of_s of_t edge lt (outputs_stay edge) all)
         | inr some ↦ inr (dirty_by edge some.0 some.1 some.2)
       ]
 

@@ -7,5 +7,6 @@ pub use Rattle.nj_stale.specs.Inside.Held.{input_held, is_stale_held, missing_he
 pub use Rattle.nj_stale.specs.Inside.Held.{state_held}
 pub use Rattle.nj_stale.specs.Laws.{SomeStateFits, OneStateFits, StaleEdgesHaveReasons}
 pub use Rattle.nj_stale.specs.Touches.{TouchesMakeDirtyEdgesStale}
+pub use Rattle.nj_stale.specs.Needed.{OtherTimesSayNothing}
 pub use Rattle.nj_stale.specs.Numbered.{AreReasonsOf, IsKnown, IsMakersFirst, evidence_of}
 pub use Rattle.std.specs.List.{IsDistinct}

@@ -2,6 +2,7 @@
 pub mod States
 pub mod Laws
 pub mod Touches
+pub mod Needed
 pub mod Numbered
 -- how the code does that
 pub mod Inside

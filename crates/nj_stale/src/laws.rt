@@ -1,6 +1,6 @@
 //! Laws of the state of a build.
 
-ghost use Rattle.nj_stale.specs.Cited.{SomeStateFits, OneStateFits, StaleEdgesHaveReasons, TouchesMakeDirtyEdgesStale};
+ghost use Rattle.nj_stale.specs.Cited.{SomeStateFits, OneStateFits, StaleEdgesHaveReasons, TouchesMakeDirtyEdgesStale, OtherTimesSayNothing};
 
 /// A build without dependency cycles has a state.
 pub fn some_state_fits()
@@ -21,4 +21,10 @@ pub fn stale_edges_have_reasons()
 /// are dirty by these files.
 pub fn touches_make_dirty_edges_stale()
     ensures { TouchesMakeDirtyEdgesStale }
+{}
+
+/// Edges whose inputs that count are sources, or made by edges among them, have the same reasons
+/// whatever the times of other files are.
+pub fn other_times_say_nothing()
+    ensures { OtherTimesSayNothing }
 {}

@@ -14,7 +14,8 @@ mod reasons;
 
 pub use evidence::EdgeFacts;
 pub use laws::{
-    one_state_fits, some_state_fits, stale_edges_have_reasons, touches_make_dirty_edges_stale,
+    one_state_fits, other_times_say_nothing, some_state_fits, stale_edges_have_reasons,
+    touches_make_dirty_edges_stale,
 };
 pub use reason::Reason;
 pub use reasons::reasons_of;
