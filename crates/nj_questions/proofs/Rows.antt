@@ -20,6 +20,8 @@ asks subject = Ok (record { folder = None; graph = plain; subject = subject })
 abbrev changed : AffectedModel
 changed = record {
   source_dir = None;
+  zero_ended = false;
+  ignored = [];
   rules = [];
   prefix = [];
   no_phony = false;
@@ -75,6 +77,8 @@ affected_options_row : question_of (codes "affected" ∷ codes "--source-dir" �
     codes "cc" ∷ codes "--prefix" ∷ codes "bin/" ∷ codes "--rule=ld" ∷ codes "--no-phony" ∷ codes
     "--ignore-unknown" ∷ codes "--allow-empty" ∷ []) ≡ asks (affected (record {
       source_dir = Some (codes "..");
+      zero_ended = false;
+      ignored = [];
       rules = codes "cc" ∷ codes "ld" ∷ [];
       prefix = codes "bin/";
       no_phony = true;
@@ -83,6 +87,12 @@ affected_options_row : question_of (codes "affected" ∷ codes "--source-dir" �
     }))
 unfolding question_of command clap_on_literals
 affected_options_row = refl
+
+paths_options_row : question_of (codes "affected" ∷ codes "--ignore" ∷ codes "docs/**" ∷ codes "-z" ∷
+    codes "--ignore=*.md" ∷ []) ≡ asks (affected
+    (record changed { zero_ended = true; ignored = codes "docs/**" ∷ codes "*.md" ∷ [] }))
+unfolding question_of command clap_on_literals
+paths_options_row = refl
 
 kinds_row : question_of (codes "audit" ∷ codes "--only" ∷ codes "unused-rule" ∷ codes "--except" ∷ codes
     "unused-pool" ∷ codes "--only" ∷ codes "x" ∷ [])

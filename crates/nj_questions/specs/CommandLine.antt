@@ -11,6 +11,10 @@ use Rattle.clap.specs.declared.builder.value_parser.ValueParser.TheVariants.{Uns
 abbrev pub short_option : (name : List ℕ) (letter : ℕ) → Rule
 short_option name letter = record (new_rule name) { short = Some letter; value_names = 1 }
 
+-- `-L`
+abbrev pub short_flag : (name : List ℕ) (letter : ℕ) → Rule
+short_flag name letter = record (new_rule name) { short = Some letter; action = Some SetTrue }
+
 -- `--NAME`
 abbrev pub flag : (name : List ℕ) → Rule
 flag name = record (new_rule name) { long = Some name; action = Some SetTrue }
@@ -50,8 +54,8 @@ subcommand name options = record (new_shape name) { rules = options ++ graph_opt
 
 -- the options of `affected`; a subcommand's words that are not options are among its options
 abbrev pub affected_options : List Rule
-affected_options = long_option (codes "source-dir") ∷ repeated (codes "rule") ∷ long_option (codes "prefix")
-    ∷ flag (codes "no-phony") ∷ flag (codes "ignore-unknown") ∷ flag (codes "allow-empty") ∷ []
+affected_options = long_option (codes "source-dir") ∷ short_flag (codes "zero-ended") 122 ∷ repeated (codes "ignore")
+    ∷ repeated (codes "rule") ∷ long_option (codes "prefix") ∷ flag (codes "no-phony") ∷ flag (codes "ignore-unknown") ∷ flag (codes "allow-empty") ∷ []
 
 -- the options of `audit`
 abbrev pub audit_options : List Rule

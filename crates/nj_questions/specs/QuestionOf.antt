@@ -28,6 +28,8 @@ graph_in rows = record {
 abbrev pub affected_in : List Row → AffectedModel
 affected_in rows = record {
   source_dir = first_of (codes "source-dir") rows;
+  zero_ended = is_on (codes "zero-ended") rows;
+  ignored = values_in (codes "ignore") rows;
   rules = values_in (codes "rule") rows;
   prefix = text_or (codes "prefix") [] rows;
   no_phony = is_on (codes "no-phony") rows;

@@ -21,9 +21,12 @@ pub record AskedGraph : Type 0 where
 
 -- ---- what is asked
 
--- `affected`: without `rules`, outputs of edges with any rule
+-- `affected`: changed paths are each ended by a zero byte, or else are lines; `ignored` are patterns of globs; without `rules`, outputs
+-- of edges with any rule
 pub record AffectedModel : Type 0 where
   pub source_dir : Option (List ℕ)
+  pub zero_ended : Bool
+  pub ignored : List (List ℕ)
   pub rules : List (List ℕ)
   pub prefix : List ℕ
   pub no_phony : Bool
@@ -110,6 +113,8 @@ asked_graph graph = record {
 abbrev pub affected_model : AffectedOptions → AffectedModel
 affected_model options = record {
   source_dir = option_map string_bytes options.source_dir;
+  zero_ended = options.zero_ended;
+  ignored = map string_bytes options.ignored.items;
   rules = map string_bytes options.rules.items;
   prefix = string_bytes options.prefix;
   no_phony = options.no_phony;

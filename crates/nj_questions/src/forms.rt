@@ -1,7 +1,7 @@
 //! How options and words of the command line are written.
 
 ghost use Rattle.std.specs.Prelude.{◌≡◌, false};
-ghost use Rattle.nj_questions.specs.Cited.{rule_of, rule_in, flag, short_option, long_option, repeated, number, word, words};
+ghost use Rattle.nj_questions.specs.Cited.{rule_of, rule_in, flag, short_flag, short_option, long_option, repeated, number, word, words};
 
 use clap::{Arg, ArgAction, value_parser};
 use std::alloc::Global;
@@ -11,6 +11,8 @@ use std::alloc::Global;
 pub enum Form {
     /// `-L VALUE`
     Short(char, &'static str),
+    /// `-L`
+    Letter(char),
     /// `--NAME`
     Flag,
     /// `--NAME VALUE`
@@ -35,6 +37,7 @@ pub fn arg_of<'a>(alloc: Global, name: &'a str, form: Form, help: &'a str) -> Ar
 {
     match form {
         Form::Short(letter, value) => short_option(alloc, name, letter, value, help),
+        Form::Letter(letter) => short_flag(alloc, name, letter, help),
         Form::Flag => flag(alloc, name, help),
         Form::Long(value) => long_option(alloc, name, value, help),
         Form::Repeated(value) => repeated(alloc, name, value, help),
@@ -58,6 +61,17 @@ fn short_option<'a>(
     Arg::new(alloc, name)
         .short(letter)
         .value_name(value)
+        .help(help)
+}
+
+// `-L`
+fn short_flag<'a>(alloc: Global, name: &'a str, letter: char, help: &'a str) -> Arg<'a>
+    ensures rule { rule_of result ≡ short_flag name.entry.now letter }
+    ensures local { result.global ≡ false }
+{
+    Arg::new(alloc, name)
+        .short(letter)
+        .action(ArgAction::SetTrue)
         .help(help)
 }
 

@@ -83,6 +83,10 @@ pub enum Subject {
 pub struct AffectedOptions {
     /// `--source-dir DIR`: the directory that changed paths are in.
     pub source_dir: Option<String>,
+    /// `-z`: changed paths are each ended by a zero byte; without that option they are lines.
+    pub zero_ended: bool,
+    /// `--ignore GLOB`: the patterns of the changed paths that are ignored.
+    pub ignored: Vec<String>,
     /// `--rule NAME`: only outputs of edges with one of these rules; without any, of all edges.
     pub rules: Vec<String>,
     /// `--prefix TEXT`: only outputs whose paths begin so; without that option the empty text.

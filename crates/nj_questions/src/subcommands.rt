@@ -43,21 +43,32 @@ pub const AFFECTED: Topic = Topic {
     name: "affected",
     about: "Read changed paths, and write the outputs that the change affects",
     more: "\
-A line of standard input is a changed path. With --deps the outputs are those that Ninja would build
+A line of standard input is a changed path. Git quotes unusual paths, and quotes are not read, so let
+git diff end paths by zero bytes, as below. With --deps the outputs are those that Ninja would build
 again for the change. Status 3 means that more may be affected: standard error names each path that
 no edge names, each from which the manifest itself is made, each dyndep file and each manifest that
 may change, and what could not be read; or it says that no path was given.
 
 Where CMake wrote the manifest, sources have absolute paths, and with Meson they are relative:
-  git diff --name-only main | ninja-graph affected -C build --deps --source-dir \"$PWD\"
-  git diff --name-only main | ninja-graph affected -C build --deps --source-dir ..",
+  git diff -z --name-only main | ninja-graph affected -z -C build --deps --source-dir \"$PWD\"
+  git diff -z --name-only main | ninja-graph affected -z -C build --deps --source-dir ..",
 };
 
-pub const AFFECTED_OPTIONS: [Entry; 6] = [
+pub const AFFECTED_OPTIONS: [Entry; 8] = [
     (
         "source-dir",
         Form::Long("DIR"),
         "Take changed paths as paths in DIR",
+    ),
+    (
+        "zero-ended",
+        Form::Letter('z'),
+        "Read paths that are each ended by a zero byte, as git diff -z writes them",
+    ),
+    (
+        "ignore",
+        Form::Repeated("GLOB"),
+        "Ignore changed paths that GLOB matches, as they are given: *, ?, **, [..]",
     ),
     (
         "rule",

@@ -37,6 +37,8 @@ fn affected_in(alloc: Global, options: &ArgMatches<'_>) -> Result<AffectedOption
 {
     Ok(AffectedOptions {
         source_dir: text_in(alloc, options, "source-dir")?,
+        zero_ended: is_on(options, "zero-ended"),
+        ignored: values_in(alloc, options, "ignore")?,
         rules: values_in(alloc, options, "rule")?,
         prefix: text_or(alloc, options, "prefix", "")?,
         no_phony: is_on(options, "no-phony"),
