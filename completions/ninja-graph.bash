@@ -19,10 +19,10 @@ _ninja_graph_limited() {
 # The options of a subcommand, without those that every subcommand takes.
 _ninja_graph_options() {
     case $1 in
-        affected) echo '--source-dir --rule --prefix --no-phony --ignore-unknown --allow-empty' ;;
+        affected) echo '--source-dir -z --ignore --rule --prefix --no-phony --ignore-unknown --allow-empty' ;;
         draw) echo '--affected --fold --limit --inputs' ;;
         why) echo '--validations --no-order-only' ;;
-        audit) echo '--only --except --json --list' ;;
+        audit) echo '--all --only --except --json --list' ;;
         keys) echo '--base --take --resume' ;;
     esac
 }
@@ -62,8 +62,8 @@ _ninja_graph_words() {
         [[ $ended ]] && continue
         case $option in
             --) ended=yes ;;
-            -C | -f | --deps-log-file | --source-dir | --rule | --prefix | --only | --except | --base | \
-                --take | --resume | --limit | --inputs)
+            -C | -f | --deps-log-file | --source-dir | --ignore | --rule | --prefix | --only | --except | \
+                --base | --take | --resume | --limit | --inputs)
                 [[ ${COMP_WORDS[index + 1]} == '=' ]] && ((index++))
                 if ((++index >= COMP_CWORD)); then
                     wanted=$option

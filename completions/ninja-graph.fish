@@ -13,7 +13,7 @@ end
 function __ninja_graph_subcommands
     printf '%s\t%s\n' \
         affected 'The outputs that a change of files affects' \
-        audit 'Probable mistakes, and statements of no use' \
+        audit 'Likely mistakes and dead entries' \
         draw 'A drawing of the edges that targets need' \
         json 'Each edge as an object of JSON' \
         keys 'A key for each command that targets need' \
@@ -92,6 +92,8 @@ complete -c ninja-graph -n __ninja_graph_has_subcommand -l deps-log-file -r -F -
 
 complete -c ninja-graph -n '__ninja_graph_is affected' -l source-dir -x \
     -d 'The directory of the changed paths' -a '(__fish_complete_directories)'
+complete -c ninja-graph -n '__ninja_graph_is affected' -s z -d 'Paths are ended by zero bytes'
+complete -c ninja-graph -n '__ninja_graph_is affected' -l ignore -x -d 'Ignore paths that this glob matches'
 complete -c ninja-graph -n '__ninja_graph_is affected' -l rule -x -d 'Only edges with this rule' \
     -a '(__ninja_graph_ask rules)'
 complete -c ninja-graph -n '__ninja_graph_is affected' -l prefix -x -d 'Only paths that begin so'
@@ -108,9 +110,10 @@ complete -c ninja-graph -n '__ninja_graph_is draw' -l inputs -x -d 'How many inp
 complete -c ninja-graph -n '__ninja_graph_is why' -l validations -d 'Take validations as inputs too'
 complete -c ninja-graph -n '__ninja_graph_is why' -l no-order-only -d 'Leave out order-only inputs'
 
-complete -c ninja-graph -n '__ninja_graph_is audit' -l only -x -d 'Find this kind alone' \
+complete -c ninja-graph -n '__ninja_graph_is audit' -l all -d 'Report findings of every kind'
+complete -c ninja-graph -n '__ninja_graph_is audit' -l only -x -d 'Report this kind alone' \
     -a '(__ninja_graph_kinds)'
-complete -c ninja-graph -n '__ninja_graph_is audit' -l except -x -d 'Do not find this kind' \
+complete -c ninja-graph -n '__ninja_graph_is audit' -l except -x -d 'Do not report this kind' \
     -a '(__ninja_graph_kinds)'
 complete -c ninja-graph -n '__ninja_graph_is audit' -l json -d 'An object of JSON for each finding'
 complete -c ninja-graph -n '__ninja_graph_is audit' -l list -d 'List the kinds'

@@ -91,6 +91,7 @@ USAGE_FAULTS = {
         rb"ninja-graph: cannot read the arguments\n",
         rb"ninja-graph: bad mark '.*'\n",
         rb"ninja-graph: '' of --source-dir is no directory\n",
+        rb"ninja-graph: '.*' of --ignore has (?:an unclosed \[ at byte \d+|a \\ at the end|a reversed range at byte \d+)\n",
         rb"ninja-graph: '.*' of --base is not absolute\n",
         rb"ninja-graph: unknown kind '.*'; ninja-graph audit --list lists the kinds\n",
         rb"ninja-graph: --deps-log is now --deps, which reads depfiles and times too\n",

@@ -8,9 +8,9 @@ SOURCE = CRATES / "nj_questions/src/subcommands.rt"
 # A subcommand's name, and the name of the list of its options.
 TOPIC = re.compile(r'^pub const (\w+): Topic = Topic \{\n    name: "(\w+)",', re.M)
 ENTRIES = re.compile(r"^pub const (\w+_OPTIONS): \[Entry; (\d+)\] = \[\n(.*?)^\];", re.M | re.S)
-ENTRY = re.compile(r"\(\s*\"([\w-]+)\",\s*Form::(\w+)(?:\((?:'(\w)', )?\"(\w+)\"\))?,")
+ENTRY = re.compile(r"\(\s*\"([\w-]+)\",\s*Form::(\w+)(?:\((?:'(\w)')?(?:, )?(?:\"(\w+)\")?\))?,")
 # The forms of options; the others are those of words.
-OPTIONS = {"Short", "Flag", "Long", "Repeated", "Number"}
+OPTIONS = {"Short", "Letter", "Flag", "Long", "Repeated", "Number"}
 GRAPH_OPTIONS = "GRAPH_OPTIONS"
 
 

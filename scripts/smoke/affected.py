@@ -15,10 +15,11 @@ from lib.checks import check, expect
 from lib.programs import EXAMPLES, ROOT, Program
 from lib.projects import write_cmake, write_files
 from lib.random_builds import HEADERS, SOURCES, deps_log, random_build, some
-from smoke.graph import DONE, FAULT, LOOK, OUTPUT_FAILED, SUBCOMMANDS
+from smoke.graph import DONE, FAULT, LOOK, OUTPUT_FAILED, SUBCOMMANDS, USAGE
 
 PROJECT, CMAKE = EXAMPLES / "project", EXAMPLES / "cmake"
 NO_PATH = "ninja-graph: no changed path was given\n"
+NO_GLOB = "ninja-graph: 'a[' of --ignore has an unclosed [ at byte 1\n"
 # How many edges lead to the manifest.
 LINKS = 10_000
 FILES = {
@@ -181,6 +182,18 @@ def no_changed_path(graph):
     with open("/dev/full", "wb") as full:
         ran = graph.run(["affected"], PROJECT, error=full)
     yield from expect("full error output", ran, (OUTPUT_FAILED, b"", b""))
+
+
+@check
+def lists_of_paths(graph, folder):
+    """Lines may end in CR LF; with `-z` zero bytes end paths. What a glob matches affects nothing."""
+    write_files(folder, {"build.ninja": b"rule mk\n  command = mk\nbuild a: mk a.c\nbuild b: mk b$ \xff.c\n"})
+    both = DONE, "a\nb\n", ""
+    for words, text in ([], b"a.c\r\nb \xff.c\r\n"), (["-z"], b"a.c\0b \xff.c\0"), (["-z"], b"a.c\0\0b \xff.c"):
+        yield from expect(text, graph.run(["affected", *words], folder, text).as_text(), both)
+    words = ["--ignore", "build.*", "--ignore=?.c"]
+    yield from expect("ignored", run(graph, folder, words, ["build.ninja", "a.c"]), (DONE, "", ""))
+    yield from expect("no glob", run(graph, folder, ["--ignore", "a["], []), (USAGE, "", NO_GLOB))
 
 
 @check

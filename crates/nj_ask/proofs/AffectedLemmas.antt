@@ -6,16 +6,22 @@ use Rattle.nj_questions.specs.Questions.{AffectedModel}
 use Rattle.nj_ask.specs.declared.answer.Answer.{Answer}
 use Rattle.nj_ask.specs.declared.discovered.DiscoveredGraph.{DiscoveredGraph}
 use Rattle.nj_ask.specs.declared.failure.Failure.{Failure}
-use Rattle.nj_ask.specs.declared.status.Status.TheVariants.{Fault}
+use Rattle.nj_ask.specs.declared.status.Status.TheVariants.{Fault, Usage}
 use Rattle.nj_ask.specs.Affected.{Asked, unknown_rule}
 use Rattle.nj_ask.specs.Answers.{AnswersAffected, change_asked, outputs_asked}
 use Rattle.nj_ask.specs.Answers.AnswersAffected.{no_path, no_rule, reported}
 use Rattle.nj_ask.specs.Endings.{program_line, refused}
 use Rattle.nj_ask.specs.Inside.Failures.{Gives}
 use Rattle.nj_ask.specs.Inside.Failures.{FailsBy}
-use Rattle.nj_ask.specs.Lines.{lines_of}
+use Rattle.nj_ask.specs.Given.{given_paths, pattern_line, LeavesPaths, MisusesAffected, folder_misuse}
+use Rattle.nj_ask.specs.Given.MisusesAffected.{no_folder, no_glob}
+use Rattle.nj_ask.specs.Inside.AnswerParts.{SaysPattern}
+use Rattle.nj_changes.specs.Ignored.{IsPatternFault}
+use Rattle.nj_changes.specs.declared.ignored.PatternFault.{PatternFault}
+use Rattle.nj_changes.specs.declared.ignored.PatternFault.TheVariants as pattern
 use Rattle.nj_ask.specs.Reports.{ChangeModel, IsReport, no_path_line}
 use Rattle.nj_ask.proofs.EndingLemmas.{gives-refused}
+use Rattle.nj_ask.proofs.FailureLemmas.{fails-as}
 
 module _ (known : DiscoveredGraph) (entries : List ReadStatement) (options : AffectedModel)
     (input : List ℕ) where
@@ -31,18 +37,48 @@ module _ (known : DiscoveredGraph) (entries : List ReadStatement) (options : Aff
 
   module _ (answer : Answer) (all : unknown_rule known.graph options.rules ≡ None)
       (quiet : answer.looks ≡ false) where
-    pub gives-no-path : lines_of input ≡ [] → options.allow_empty ≡ false → answer.output.items ≡ []
+    pub gives-no-path : given_paths options input ≡ [] → options.allow_empty ≡ false
+        → answer.output.items ≡ []
         → answer.warnings.items ≡ no_path_line
         → Gives (AnswersAffected known entries options input) (Ok answer)
     gives-no-path none asks output warnings = rw (output, warnings, quiet) (no_path all none asks)
 
-    pub gives-report : (q : ChangeModel) (asked : Asked)
-        → (lines_of input ≢ []) ⊎ (options.allow_empty ≡ true)
-        → q ≡ change_asked options (lines_of input) → asked ≡ outputs_asked options
+    pub gives-report : (q : ChangeModel) (asked : Asked) (paths : List (List ℕ))
+        → (given_paths options input ≢ []) ⊎ (options.allow_empty ≡ true)
+        → LeavesPaths options (given_paths options input) paths
+        → q ≡ change_asked options paths → asked ≡ outputs_asked options
         → IsReport known entries q asked answer.output.items answer.warnings.items
         → Gives (AnswersAffected known entries options input) (Ok answer)
-    gives-report q asked some change listed report = rw quiet (reported all some
+    gives-report q asked paths some leaves change listed report = rw quiet (reported all some leaves
         (subst (λ x. IsReport known entries x (outputs_asked options) answer.output.items
         answer.warnings.items)
         change (subst (λ x. IsReport known entries q x answer.output.items answer.warnings.items) listed
         report)))
+
+-- ---- options that are refused
+
+-- the line about a pattern is the one of the options
+pattern-misuse : (options : AffectedModel) → folder_misuse options.source_dir ≡ None → (fault : PatternFault)
+    → IsPatternFault options.ignored fault → (line : List ℕ) → SaysPattern fault line
+    → MisusesAffected options line
+pattern-misuse options folder (pattern.Wrong text fault) wrong line says =
+    subst (MisusesAffected options) (sym says) (no_glob folder wrong)
+pattern-misuse options folder pattern.OutOfMemory wrong line says = absurd says
+
+-- options with it are refused
+pub fails-by-pattern : (options : AffectedModel) → folder_misuse options.source_dir ≡ None
+    → (fault : PatternFault)
+    → IsPatternFault options.ignored fault → (failure : Failure) → FailsBy Usage (SaysPattern fault) failure
+    → FailsBy Usage (MisusesAffected options) failure
+fails-by-pattern options folder fault wrong failure fails =
+    fails-as Usage (SaysPattern fault) (MisusesAffected options) failure
+    (pattern-misuse options folder fault wrong)
+    fails
+
+-- and so are those with a directory without a name
+pub fails-by-folder : (options : AffectedModel) (failure : Failure)
+    → FailsBy Usage (λ line. folder_misuse options.source_dir ≡ Some line) failure
+    → FailsBy Usage (MisusesAffected options) failure
+fails-by-folder options failure fails =
+    fails-as Usage (λ line. folder_misuse options.source_dir ≡ Some line) (MisusesAffected options) failure
+    (λ line is. no_folder is) fails

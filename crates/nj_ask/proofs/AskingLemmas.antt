@@ -24,9 +24,11 @@ use Rattle.nj_ask.specs.declared.keys.PageAsked.{PageAsked}
 use Rattle.nj_ask.specs.declared.status.Status.{Status}
 use Rattle.nj_ask.specs.declared.status.Status.TheVariants.{Done, Fault, OutputFailed, Usage}
 use Rattle.nj_ask.specs.Answers.{AnswersAffected, AnswersDraw, AnswersKeys, AnswersWhy}
+use Rattle.std.specs.Global.{Vec}
+use Rattle.nj_globs.specs.Globs.{GlobPart}
 use Rattle.nj_audit.specs.declared.kinds.Kinds.{Kinds}
 use Rattle.nj_ask.specs.Audits.{AnswersAudit, kind_lines}
-use Rattle.nj_ask.specs.Asks.{Answers, Around, Asks, IsRefusal, listed, misuse}
+use Rattle.nj_ask.specs.Asks.{Answers, Around, Asks, IsRefusal, IsTaken, Misuses, listed}
 use Rattle.nj_ask.specs.Asks.Asks.{by_graph, lacks_graph, lacks_memory, misused}
 use Rattle.nj_ask.specs.Endings.{Ends, Reported, Sinks, answered}
 use Rattle.nj_ask.specs.Endings.Ends.{ended, output_fails}
@@ -62,17 +64,18 @@ ends-unshown text taken same fails error = output_fails {ending = answered false
 -- ---- tasks
 
 -- the options of a task are not refused
-pub task-taken : (subject : SubjectModel) (asked : Task) → IsTask subject asked → misuse subject ≡ None
-task-taken subject (task.Affected options) is = rw is.0 is.1
+pub task-taken : (subject : SubjectModel) (asked : Task) → IsTask subject asked → IsTaken subject
+task-taken subject (task.Affected options globs) is =
+    rw is.0 (record { folder = is.1.allowed; globs = globs.items; are_globs = is.1.are })
 task-taken subject (task.Audit options kinds) is = rw is.0 is.1.allowed
-task-taken subject (task.Draw options) is = rw is refl
-task-taken subject task.Json is = rw is refl
+task-taken subject (task.Draw options) is = rw is tt
+task-taken subject task.Json is = rw is tt
 task-taken subject (task.Keys options page) is = rw is.0 is.1.allowed
-task-taken subject (task.Why options) is = rw is refl
+task-taken subject (task.Why options) is = rw is tt
 
 -- and nothing is answered before files are read
 pub task-unlisted : (subject : SubjectModel) (asked : Task) → IsTask subject asked → listed subject ≡ None
-task-unlisted subject (task.Affected options) is = rw is.0 refl
+task-unlisted subject (task.Affected options globs) is = rw is.0 refl
 task-unlisted subject (task.Audit options kinds) is = rw is.0 is.1.unlisted
 task-unlisted subject (task.Draw options) is = rw is refl
 task-unlisted subject task.Json is = rw is refl
@@ -101,11 +104,12 @@ none-listed (why options) is = refl
 module _ (known : DiscoveredGraph) (entries : List ReadStatement) (times : DeclaredTimes) (folder : List ℕ)
     (input : List ℕ) (old new : SinkState) (reported : Result Told Failure) (subject : SubjectModel)
     (asked : Task) where
-  pub affected-returns : (options : Bor AffectedOptions) → asked ≡ task.Affected options
+  pub affected-returns : (options : Bor AffectedOptions) (globs : Vec (List GlobPart))
+      → asked ≡ task.Affected options globs
       → IsTask subject asked
       → Returns (AnswersAffected known entries (affected_model options.now) input) old new reported
       → Returns (Answers known entries times folder subject input) old new reported
-  affected-returns options same is returns = rw (subst (IsTask subject) same is).0 returns
+  affected-returns options globs same is returns = rw (subst (IsTask subject) same is).0 returns
 
   pub audit-returns : (options : Bor AuditOptions) (kinds : Kinds) → asked ≡ task.Audit options kinds
       → IsTask subject asked
@@ -139,7 +143,7 @@ module _ (known : DiscoveredGraph) (entries : List ReadStatement) (times : Decla
 module _ (question : QuestionModel) (times : DeclaredTimes) (folder input : List ℕ) (old new : Around) where
   -- options that are refused
   pub asks-misused : (failure : Failure) (status : Status)
-      → FailsBy Usage (λ line. misuse question.subject ≡ Some line) failure
+      → FailsBy Usage (Misuses question.subject) failure
       → new.sources ≡ old.sources → new.sinks.output ≡ old.sinks.output
       → ConcludesTold (Err failure) old.sinks.error new.sinks.error status
       → Asks question times folder input old new status
@@ -152,7 +156,7 @@ module _ (question : QuestionModel) (times : DeclaredTimes) (folder input : List
       subst (Asks question times folder input old new) (sym concludes.1) (lacks_memory output concludes.0)
 
   -- what is left to report of the others
-  pub asks-told : (reported : Result Told Failure) (status : Status) → misuse question.subject ≡ None
+  pub asks-told : (reported : Result Told Failure) (status : Status) → IsTaken question.subject
       → listed question.subject ≡ None
       → LeavesTold question times folder input old.sources new.sources old.sinks.output new.sinks.output
       reported

@@ -1,23 +1,14 @@
--- Lines that are not empty, and texts without a line.
-use Rattle.std.proofs.Common.{◌≡◌, ◌≢◌, ℕ, ◌==◌, true, false, not, List, [], ◌∷◌, length, map, refl, sym, ap}
+-- Texts with and without a line.
+use Rattle.std.proofs.Common.{◌≡◌, ◌≢◌, ℕ, ◌==◌, true, false, List, [], ◌∷◌, length, map, sym}
 use Rattle.std.proofs.Common.{◌∙◌}
 use Rattle.std.proofs.Common.{arith, inl, inr, true≢false}
 use Rattle.std.proofs.lemmas.Bool.Decides.{eqb_tells}
-use Rattle.nj_text.specs.Calls.{is_empty}
 
 pub not-none : {X : Type 0} (x : X) (xs : List X) → (length (x ∷ xs) == 0) ≡ false
 not-none x xs = elim (eqb_tells (length (x ∷ xs)) 0) [
   | inl same ↦ let none = same.1 in absurd (omega (arith, none))
   | inr other ↦ other.0
 ]
-
--- by its length
-is-empty : (line : List ℕ) → (length line == 0) ≡ is_empty line
-is-empty [] = refl
-is-empty (byte ∷ line) = not-none byte line
-
-pub not-empty : (line : List ℕ) → not (length line == 0) ≡ not (is_empty line)
-not-empty line = ap not (is-empty line)
 
 -- lines that things stand for
 module _ {X : Type 0} (bytes : X → List ℕ) (lines : List (List ℕ)) where

@@ -25,7 +25,7 @@ use Rattle.nj_ask.specs.Answers.AnswersAffected.{no_path, no_rule, reported}
 use Rattle.nj_ask.specs.Endings.{Concludes, Ending, Ends, Sinks, answered_status}
 use Rattle.nj_ask.specs.Endings.Ends.{ended, memory_fails, output_fails}
 use Rattle.nj_ask.specs.Laws.{DoneMissesNothing, IsIgnored, KeepsManifest, MissesNothing, WarningsAreUnique}
-use Rattle.nj_ask.specs.Lines.{lines_of}
+use Rattle.nj_ask.specs.Given.{given_paths, LeavesPaths}
 use Rattle.nj_ask.specs.Reports.{changed_files, changed_numbers, made_from_line, ChangeModel}
 use Rattle.nj_ask.specs.Reports.{HasWarnings, IsReport, IsUnnamed, IsWarning}
 use Rattle.nj_ask.proofs.LineLemmas.{filter-map-map, map-map}
@@ -208,21 +208,24 @@ no-warnings (b ∷ warnings) is = absurd cc
 
 module _ (known : DiscoveredGraph) (entries : List ReadStatement) (options : AffectedModel) (input : List ℕ)
     (old new : Sinks) where
-  abbrev change : ChangeModel
-  change = change_asked options (lines_of input)
+  abbrev change : (paths : List (List ℕ)) → ChangeModel
+  change paths = change_asked options paths
+
+  abbrev MissesOf : (paths : List (List ℕ)) → Type 0
+  MissesOf paths = MissesNothing known entries (change paths) (outputs_asked options) old.output new.output
 
   abbrev Misses : Type 0
-  Misses = MissesNothing known entries change (outputs_asked options) old.output new.output
+  Misses = (paths : List (List ℕ)) × LeavesPaths options (given_paths options input) paths × MissesOf paths
 
-  without-warnings : (outputs warnings : List ℕ) → warnings ≡ []
-      → IsReport known entries change (outputs_asked options) outputs warnings
-      → Takes old.output new.output outputs → Misses
-  without-warnings outputs warnings empty report took =
+  without-warnings : (paths : List (List ℕ)) (outputs warnings : List ℕ) → warnings ≡ []
+      → IsReport known entries (change paths) (outputs_asked options) outputs warnings
+      → Takes old.output new.output outputs → MissesOf paths
+  without-warnings paths outputs warnings empty report took =
       let texts = three-empty known.caveats.items report.about
-      (shape_text known entries (changed_numbers known.graph change) report.lists.edges)
+      (shape_text known entries (changed_numbers known.graph (change paths)) report.lists.edges)
       (sym empty ∙ report.all) in
       record {
-        keeps = λ path has. none-warned known.graph entries change change.paths report.about texts.1
+        keeps = λ path has. none-warned known.graph entries (change paths) paths report.about texts.1
             report.warns path has;
         clear = sym texts.0;
         outputs = outputs;
@@ -237,9 +240,12 @@ module _ (known : DiscoveredGraph) (entries : List ReadStatement) (options : Aff
   answer-misses (no_rule is) took concludes = let is-fault = concludes.1 in absurd cc
   answer-misses (no_path known_rules empty asks) took (inl told) = let looks = told.1 in absurd cc
   answer-misses (no_path known_rules empty asks) took (inr fails) = let is-failed = fails.1 in absurd cc
-  answer-misses (reported {outputs = outputs} {warnings = warnings} known_rules some report) took (inl told) =
-      without-warnings outputs warnings (no-warnings warnings told.1) report took
-  answer-misses (reported known_rules some report) took (inr fails) = let is-failed = fails.1 in absurd cc
+  answer-misses (reported {paths = paths} {outputs = outputs} {warnings = warnings} known_rules some leaves
+      report)
+      took (inl told) =
+      (paths, leaves, without-warnings paths outputs warnings (no-warnings warnings told.1) report took)
+  answer-misses (reported known_rules some leaves report) took (inr fails) = let is-failed = fails.1
+      in absurd cc
 
   done-misses : (status : Status) → status ≡ Done
       → Ends (AnswersAffected known entries options input) old new status → Misses

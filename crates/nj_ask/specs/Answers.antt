@@ -25,7 +25,7 @@ use Rattle.nj_ask.specs.Affected.{Asked, unknown_rule}
 use Rattle.nj_ask.specs.Chains.{HasChain, LacksChain}
 use Rattle.nj_ask.specs.Drawings.{IsDrawing}
 use Rattle.nj_ask.specs.Endings.{Ending, answered, fault_line, program_line, refused}
-use Rattle.nj_ask.specs.Lines.{lines_of}
+use Rattle.nj_ask.specs.Given.{given_paths, LeavesPaths}
 use Rattle.nj_ask.specs.NeededFaults.{IsFirstFault}
 use Rattle.nj_ask.specs.Pages.{mark_line}
 use Rattle.nj_ask.specs.Reports.{ChangeModel, IsReport, no_path_line}
@@ -50,28 +50,23 @@ abbrev pub change_asked : AffectedModel → (paths : List (List ℕ)) → Change
 change_asked options paths =
     record { folder = options.source_dir; paths = paths; ignores_unknown = options.ignore_unknown }
 
--- Why the options are refused before anything is read: below a directory without a name every path would be an absolute one.
-abbrev pub folder_misuse : (folder : Option (List ℕ)) → Option (List ℕ)
-folder_misuse None = None
-folder_misuse (Some []) = Some (program_line (codes "'' of --source-dir is no directory"))
-folder_misuse (Some (byte ∷ folder)) = None
-
 -- the outputs that are listed
 abbrev pub outputs_asked : AffectedModel → Asked
 outputs_asked options = record { rules = options.rules; prefix = options.prefix; no_phony = options.no_phony }
 
 -- `affected`: a rule's name that no rule has would list nothing, as if nothing were affected, so it is refused; so it is something to
--- look at that no path is given, unless none need be.
+-- look at that no path is given, unless none need be. The report is about the paths that are not ignored.
 pub data AnswersAffected (known : DiscoveredGraph) (entries : List ReadStatement) (options : AffectedModel) (input : List ℕ) :
     (output : List ℕ) → Ending → Type 0 where
   no_rule : {name : List ℕ} → unknown_rule known.graph options.rules ≡ Some name
       → AnswersAffected known entries options input []
       (refused (program_line (codes "unknown rule '" ++ name ++ codes "'")) Fault)
-  no_path : unknown_rule known.graph options.rules ≡ None → lines_of input ≡ [] → options.allow_empty ≡ false
+  no_path : unknown_rule known.graph options.rules ≡ None → given_paths options input ≡ [] → options.allow_empty ≡ false
       → AnswersAffected known entries options input [] (answered false no_path_line)
-  reported : {outputs warnings : List ℕ} → unknown_rule known.graph options.rules ≡ None
-      → (lines_of input ≢ []) ⊎ (options.allow_empty ≡ true)
-      → IsReport known entries (change_asked options (lines_of input)) (outputs_asked options) outputs warnings
+  reported : {paths : List (List ℕ)} {outputs warnings : List ℕ} → unknown_rule known.graph options.rules ≡ None
+      → (given_paths options input ≢ []) ⊎ (options.allow_empty ≡ true)
+      → LeavesPaths options (given_paths options input) paths
+      → IsReport known entries (change_asked options paths) (outputs_asked options) outputs warnings
       → AnswersAffected known entries options input outputs (answered false warnings)
 
 -- ---- `why`

@@ -12,9 +12,10 @@ use Rattle.nj_questions.specs.declared.refusals.Refusal.TheVariants as refusal
 use Rattle.nj_ask.specs.declared.discovered.DiscoveredGraph.{DiscoveredGraph}
 use Rattle.nj_ask.specs.declared.status.Status.{Status}
 use Rattle.nj_ask.specs.declared.status.Status.TheVariants.{Fault, Usage}
-use Rattle.nj_ask.specs.Answers.{AnswersAffected, AnswersDraw, AnswersJson, AnswersKeys, AnswersWhy, asked_mark, folder_misuse, keys_misuse}
+use Rattle.nj_ask.specs.Answers.{AnswersAffected, AnswersDraw, AnswersJson, AnswersKeys, AnswersWhy, asked_mark, keys_misuse}
 use Rattle.nj_ask.specs.Audits.{AnswersAudit, asks_for, audit_misuse, kinds_listed}
 use Rattle.nj_ask.specs.Endings.{Ending, Ends, Reported, Sinks, answered, memory_line, program_line, refused}
+use Rattle.nj_ask.specs.Given.{MisusesAffected, TakesAffected}
 use Rattle.nj_ask.specs.KnownGraphs.{KnowsGraph, LacksGraph, Sources, sources_of}
 
 -- ---- by its graph
@@ -31,12 +32,23 @@ Answers known entries times folder (keys options) input output ending =
     AnswersKeys known entries options (unwrap_or (asked_mark options) []) output ending
 Answers known entries times folder (why options) input output ending = AnswersWhy known entries options output ending
 
--- why its options are refused before anything is read
-abbrev pub misuse : SubjectModel → Option (List ℕ)
-misuse (affected options) = folder_misuse options.source_dir
-misuse (audit options) = audit_misuse options
-misuse (keys options) = keys_misuse options
-misuse other = None
+-- its options are refused before anything is read, and a line says why
+abbrev pub Misuses : SubjectModel → (line : List ℕ) → Type 0
+Misuses (affected options) line = MisusesAffected options line
+Misuses (audit options) line = audit_misuse options ≡ Some line
+Misuses (draw options) line = ⊥
+Misuses json line = ⊥
+Misuses (keys options) line = keys_misuse options ≡ Some line
+Misuses (why options) line = ⊥
+
+-- its options are not refused
+abbrev pub IsTaken : SubjectModel → Type 0
+IsTaken (affected options) = TakesAffected options
+IsTaken (audit options) = audit_misuse options ≡ None
+IsTaken (draw options) = Unit {0}
+IsTaken json = Unit {0}
+IsTaken (keys options) = keys_misuse options ≡ None
+IsTaken (why options) = Unit {0}
 
 -- what is answered before anything is read
 abbrev pub listed : SubjectModel → Option (List ℕ)
@@ -75,17 +87,17 @@ IsText text output ending = (output ≡ text) × (ending ≡ answered false [])
 -- memory for it. Absolute paths below the working directory are the build's.
 pub data Asks (question : QuestionModel) (times : DeclaredTimes) (folder : List ℕ) (input : List ℕ) (old new : Around)
     : Status → Type 0 where
-  misused : {line : List ℕ} {status : Status} → misuse question.subject ≡ Some line → new.sources ≡ old.sources
+  misused : {line : List ℕ} {status : Status} → Misuses question.subject line → new.sources ≡ old.sources
       → Ends (IsRefusal line Usage) old.sinks new.sinks status → Asks question times folder input old new status
   lists : {text : List ℕ} {status : Status} → listed question.subject ≡ Some text → new.sources ≡ old.sources
       → Ends (IsText text) old.sinks new.sinks status → Asks question times folder input old new status
-  by_graph : {known : DiscoveredGraph} {entries : List ReadStatement} {status : Status} → misuse question.subject ≡ None
+  by_graph : {known : DiscoveredGraph} {entries : List ReadStatement} {status : Status} → IsTaken question.subject
       → listed question.subject ≡ None
       → KnowsGraph question.graph (seeks_undeclared question.subject) times old.sources new.sources known
       → IsGraphOf known.graph entries
       → Ends (Answers known entries times folder question.subject input) old.sinks new.sinks status
       → Asks question times folder input old new status
-  lacks_graph : {line : List ℕ} {status : Status} → misuse question.subject ≡ None → listed question.subject ≡ None
+  lacks_graph : {line : List ℕ} {status : Status} → IsTaken question.subject → listed question.subject ≡ None
       → LacksGraph question.graph times old.sources new.sources line → Ends (IsRefusal line Fault) old.sinks new.sinks status
       → Asks question times folder input old new status
   lacks_memory : new.sinks.output ≡ old.sinks.output → Reported old.sinks.error new.sinks.error memory_line

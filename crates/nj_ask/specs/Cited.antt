@@ -1,14 +1,15 @@
 -- What the contracts of this crate cite: each name comes from the module in its line.
-pub use Rattle.nj_ask.specs.Answers.{AnswersAffected, folder_misuse, change_asked, outputs_asked, HasDepfileFault, IsClear, AnswersDraw}
-pub use Rattle.nj_ask.specs.Answers.{AnswersJson, AnswersKeys, asked_mark, asked_targets, keys_misuse, mark_misuse, AnswersWhy, needed_from}
-pub use Rattle.nj_ask.specs.Inside.Failures.{Gives, FailsBy, Delivers, WritesAnswer, ConcludesTold, SaysFault, Returns, Stops}
+pub use Rattle.nj_ask.specs.Answers.{AnswersAffected, change_asked, outputs_asked, HasDepfileFault, IsClear, AnswersDraw, AnswersJson}
+pub use Rattle.nj_ask.specs.Answers.{AnswersKeys, asked_mark, asked_targets, keys_misuse, mark_misuse, AnswersWhy, needed_from}
+pub use Rattle.nj_ask.specs.Inside.Asking.{AreGlobsAsked, AnswersTask, IsGiven, IsTask}
+pub use Rattle.nj_ask.specs.Inside.Failures.{Gives, Delivers, WritesAnswer, ConcludesTold, FailsBy, SaysFault, Returns, Stops}
 pub use Rattle.nj_ask.specs.Inside.Findings.{HasEdges, AreFindingsOf, text_if_faulty, if_doubtful, if_faulty}
 pub use Rattle.nj_graph.specs.Graph.{OfStatements, files_of, IsGraphOf, edges_of, rule_name}
 pub use Rattle.nj_questions.specs.Questions.{affected_model, SubjectModel, question_model, subject_model, audit_model, draw_model}
 pub use Rattle.nj_questions.specs.Questions.{asked_graph, keys_model, why_model}
 pub use Rattle.nj_ask.specs.Inside.Lent.{asked_of, change_model, texts}
-pub use Rattle.nj_ask.specs.declared.status.Status.TheVariants.{Usage, Fault}
 pub use Rattle.nj_ask.specs.Reports.{no_path_line, made_from_line, HasWarnings, IsReport}
+pub use Rattle.nj_ask.specs.declared.status.Status.TheVariants.{Fault, Usage}
 pub use Rattle.nj_ask.specs.Endings.{Concludes, Reported, answered, memory_line, program_line, Ends, ReportsError}
 pub use Rattle.std.specs.List.{flat_map, list_any, filter_map, filter, fold, range_with_len}
 pub use Rattle.nj_graph.specs.Handles.{edge_of, file_of, GraphEdge, paths_of, OfEdge, edges_in, files_in, detail_of_edge}
@@ -17,11 +18,10 @@ pub use Rattle.nj_ask.specs.Drawings.{ends_before, node_arrows, stated_count, co
 pub use Rattle.nj_ask.specs.Drawings.{edge_look, ellipse_look, left_out, more_text, node_look, node_name, point_look}
 pub use Rattle.nj_ask.specs.Inside.NodeLists.{node_model, is_full, AreFlagsWithin, SameFlags, SetsFlag, UnsetsFlag}
 pub use Rattle.nj_ask.specs.DrawnNodes.{of_edge, drawn_nodes, has_node, mention, mention_edge, node_of, is_folded}
-pub use Rattle.nj_ask.specs.Asks.{listed, seeks_undeclared, IsText, around, misuse, sinks_of, Refuses}
-pub use Rattle.nj_ask.specs.Audits.{kind_lines, AnswersAudit, WouldBeMissing, unknown_kind_line, finding_line, finding_lines}
+pub use Rattle.nj_ask.specs.Asks.{listed, seeks_undeclared, IsText, around, Misuses, sinks_of, Refuses}
+pub use Rattle.nj_ask.specs.Audits.{kind_lines, selection_in, AnswersAudit, WouldBeMissing, unknown_kind_line, finding_line, finding_lines}
 pub use Rattle.nj_ask.specs.Audits.{finding_object, kind_line, line_about, lookup_lines, LookUp, LookUpIf, LooksUp}
 pub use Rattle.nj_ask.specs.AskedWords.{AsksWith, ended_status, AsksWords}
-pub use Rattle.nj_ask.specs.Inside.Asking.{AnswersTask, IsGiven, IsTask}
 pub use Rattle.nj_audit.specs.Kinds.{AskFor, first_unknown, contains}
 pub use Rattle.nj_ask.specs.AuditLaws.{AuditListsFindings, DoneFindsNothing}
 pub use Rattle.nj_ask.specs.Inside.AuditParts.{AreWarnings, HasServing, SaysUnknown}
@@ -46,6 +46,8 @@ pub use Rattle.serde_json.specs.Data.{string}
 pub use Rattle.serde_json.specs.Written.{compact_text}
 pub use Rattle.std.specs.Str.Lossy.{utf8_lossy}
 pub use Rattle.nj_audit.specs.Findings.{finding_model}
+pub use Rattle.nj_ask.specs.Given.{folder_misuse, given_paths, pattern_line, MisusesAffected}
+pub use Rattle.nj_ask.specs.Inside.AnswerParts.{SaysPattern, IsPageOf, SaysErr, base_misuse}
 pub use Rattle.nj_ask.specs.KnownGraphs.{FindsUndeclared, undeclared_in, IsDeclared, IsDiscovered, KnowsGraph, LacksGraph, ReadsManifest}
 pub use Rattle.nj_ask.specs.KnownGraphs.{asks_discovered, discovered_line, sources_of}
 pub use Rattle.nj_ask.specs.Inside.GraphSteps.{AreInputsIn, KnowsByLog, LacksByLog, Discovers, LacksDiscovered, LacksMain, LacksManifest}
@@ -58,11 +60,9 @@ pub use Rattle.nj_text.specs.Paths.{clean_path_of, is_absolute}
 pub use Rattle.nj_needs.specs.MarkTexts.{given_mark}
 pub use Rattle.nj_keys.specs.Pages.{leads}
 pub use Rattle.nj_ask.specs.Pages.{mark_line}
-pub use Rattle.nj_ask.specs.Inside.AnswerParts.{IsPageOf, SaysErr, base_misuse}
-pub use Rattle.nj_ask.specs.Lines.{lines_of}
 pub use Rattle.nj_ask.specs.Inside.FileLines.{output_lines, path_lines}
 pub use Rattle.nj_ask.specs.MadeFrom.{TellMadeFrom}
-pub use Rattle.nj_ask.specs.Manifest.{has_generator, is_named_in, makers_of_opened, makes_manifest, opened_files, IsMadeFrom}
+pub use Rattle.nj_ask.specs.Manifest.{is_named_in, makers_of_opened, makes_manifest, opened_files, IsMadeFrom}
 pub use Rattle.nj_ask.specs.Inside.Flags.{AreFeeds, AreFlags, is_made_flag, AreMarks}
 pub use Rattle.nj_ask.specs.NeededFaults.{IsFirstFault}
 pub use Rattle.std.specs.Fmt.{decimal}

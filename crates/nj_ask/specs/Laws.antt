@@ -12,7 +12,7 @@ use Rattle.nj_ask.specs.declared.status.Status.TheVariants.{Done}
 use Rattle.nj_ask.specs.Affected.{Asked, changed_file, path_in, ListsOutputs}
 use Rattle.nj_ask.specs.Answers.{AnswersAffected, change_asked, outputs_asked}
 use Rattle.nj_ask.specs.Endings.{Ends, Sinks}
-use Rattle.nj_ask.specs.Lines.{lines_of}
+use Rattle.nj_ask.specs.Given.{given_paths, LeavesPaths}
 use Rattle.nj_ask.specs.Manifest.{is_one_of, is_opened, makes_manifest, opened_files, path_of}
 use Rattle.nj_ask.specs.Reports.{ChangeModel, changed_numbers, changed_paths, HasWarnings, IsReport, IsTouchedBy, IsUnnamed}
 use Rattle.nj_ask.specs.Shape.{shape_text}
@@ -44,11 +44,12 @@ pub record MissesNothing (known : DiscoveredGraph) (entries : List ReadStatement
   pub shape : shape_text known entries (changed_numbers known.graph q) lists.edges ≡ []
   pub took : Takes old new outputs
 
--- Where `affected` ends with status 0, nothing is missed.
+-- Where `affected` ends with status 0, nothing is missed of the paths that are not ignored.
 abbrev pub DoneMissesNothing : Type 0
 DoneMissesNothing = (known : DiscoveredGraph) (entries : List ReadStatement) (options : AffectedModel) (input : List ℕ)
     (old new : Sinks) → Ends (AnswersAffected known entries options input) old new Done
-    → MissesNothing known entries (change_asked options (lines_of input)) (outputs_asked options) old.output new.output
+    → (paths : List (List ℕ)) × LeavesPaths options (given_paths options input) paths
+    × MissesNothing known entries (change_asked options paths) (outputs_asked options) old.output new.output
 
 -- Some paths have one text of warnings only.
 abbrev pub WarningsAreUnique : Type 0

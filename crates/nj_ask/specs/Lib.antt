@@ -11,10 +11,10 @@ pub mod Drawings
 pub mod DrawingLaws
 pub mod DrawnNodes
 pub mod Endings
+pub mod Given
 pub mod Joined
 pub mod KnownGraphs
 pub mod Laws
-pub mod Lines
 pub mod LogsRead
 pub mod MadeFrom
 pub mod Manifest

@@ -1,23 +1,26 @@
 //! The answer to `affected`.
 
-ghost use Rattle.std.specs.Prelude.{◌≡◌, [], None, Some, IfErr, IfOk, false, option_map, string_bytes};
-ghost use Rattle.nj_ask.specs.Cited.{AnswersAffected, Gives, HasEdges, OfStatements, affected_model, asked_of, folder_misuse, FailsBy, Usage, change_asked, change_model, no_path_line, outputs_asked, texts};
+ghost use Rattle.std.specs.Prelude.{◌≡◌, [], IfOk, false};
+ghost use Rattle.nj_ask.specs.Cited.{AnswersAffected, AreGlobsAsked, Gives, HasEdges, OfStatements, affected_model, asked_of, change_asked, change_model, no_path_line, outputs_asked, texts};
 
 use crate::answer::Answer;
 use crate::discovered::DiscoveredGraph;
 use crate::failure::Failure;
-use crate::lines::lines_of;
+use crate::given::given_paths;
 use crate::listing::{Listed, unknown_rule};
 use crate::report::{Change, report_of};
 use crate::status::Status;
+use nj_changes::without_ignored;
+use nj_globs::Glob;
 use nj_questions::AffectedOptions;
 use std::alloc::{AllocError, Global};
 
 /// What is said where no path was given.
 const NO_PATH: &[u8] = b"ninja-graph: no changed path was given\n";
 
-/// The answer about a change of the files at the lines of a text. Without such a line that is what
-/// it says, unless no path need be given: what should have listed the paths may have failed.
+/// The answer about a change of the files at the paths that a text lists, without those that the
+/// globs match. Where it lists none, that is what is said, unless no path need be given: what should
+/// have listed the paths may have failed.
 ///
 /// # Errors
 ///
@@ -27,9 +30,11 @@ pub(crate) fn answer_affected(
     alloc: Global,
     known: &DiscoveredGraph,
     options: &AffectedOptions,
+    globs: &mut [Glob],
     input: &[u8],
 ) -> Result<Answer, Failure>
-    requires { HasEdges known.now }
+    requires edges { HasEdges known.now }
+    requires globs { AreGlobsAsked (affected_model options.now) globs.now }
     ensures { OfStatements known.now.graph (λ entries.
         Gives (AnswersAffected known.now entries (affected_model options.now) input.now) result) }
 {
@@ -37,32 +42,14 @@ pub(crate) fn answer_affected(
         let name = name.as_bytes();
         return Err(Failure::in_words(alloc, b"unknown rule '", name, b"'", Status::Fault));
     }
-    let paths = lines_of(alloc, input)?;
-    if paths.is_empty() && !options.allow_empty {
+    let given = given_paths(alloc, options, input)?;
+    if given.is_empty() && !options.allow_empty {
         return Ok(without_paths(alloc)?);
     }
+    let paths = without_ignored(alloc, globs, &given)?;
     let change = change_of(options, &paths);
     let listed = listed_by(options);
     Ok(report_of(alloc, known, change, listed)?)
-}
-
-/// Refuses options whose directory has no name.
-pub(crate) fn check_folder(alloc: Global, options: &AffectedOptions) -> Result<(), Failure>
-    ensures allowed { IfOk result (λ _.
-        folder_misuse (affected_model options.now).source_dir ≡ None) }
-    ensures refused { IfErr result (FailsBy Usage (λ line.
-        folder_misuse (affected_model options.now).source_dir ≡ Some line)) }
-{
-    match &options.source_dir {
-        Some(folder) if folder.is_empty() => Err(Failure::in_words(
-            alloc,
-            b"'",
-            folder.as_bytes(),
-            b"' of --source-dir is no directory",
-            Status::Usage,
-        )),
-        _ => Ok(()),
-    }
 }
 
 /// The answer where no path was given.

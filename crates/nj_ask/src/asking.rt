@@ -1,20 +1,22 @@
 //! Questions about a graph, asked of its files.
 
 ghost use Rattle.std.specs.Prelude.{◌≡◌, Ok, IfOk, IfErr, None, Some};
-ghost use Rattle.nj_ask.specs.Cited.{SubjectModel, Ends, listed, seeks_undeclared, IsText, kind_lines, around, AsksWith, AnswersTask, IsGiven, IsTask, OfStatements, HasEdges, question_model, subject_model, FailsBy, Usage, misuse, ended_status, sinks_of};
+ghost use Rattle.nj_ask.specs.Cited.{SubjectModel, Ends, listed, seeks_undeclared, IsText, kind_lines, around, AsksWith, AnswersTask, IsGiven, IsTask, OfStatements, HasEdges, question_model, subject_model, FailsBy, Usage, Misuses, ended_status, sinks_of};
 
-use crate::affected::{answer_affected, check_folder};
+use crate::affected::answer_affected;
 use crate::answer::{Told, conclude, deliver};
 use crate::audit::{answer_audit, kinds_asked, list_kinds};
 use crate::discovered::DiscoveredGraph;
 use crate::draw::answer_draw;
 use crate::failure::Failure;
+use crate::given::globs_asked;
 use crate::graph_reading::known_graph;
 use crate::json::answer_json;
 use crate::keys::{PageAsked, answer_keys, page_asked};
 use crate::status::Status;
 use crate::why::answer_why;
 use nj_audit::{Kind, Kinds};
+use nj_globs::Glob;
 use nj_graph::{FileSource, FileTimes};
 use nj_questions::{
     AffectedOptions, AuditOptions, DrawOptions, KeysOptions, Question, Subject, WhyOptions,
@@ -33,7 +35,7 @@ pub struct Ended {
 /// What is asked of a graph, with options that are taken.
 #[derive(Drop)]
 enum Task<'q> {
-    Affected(&'q AffectedOptions),
+    Affected(&'q AffectedOptions, Vec<Glob>),
     Audit(&'q AuditOptions, Kinds),
     Draw(&'q DrawOptions),
     Json,
@@ -69,7 +71,7 @@ pub(crate) fn ask<S: FileSource, B: FileSource, T: FileTimes, O: Sink, E: Sink>(
     let seeks = seeks_undeclared(&task);
     match known_graph(alloc, files, built, times, &question.graph, seeks) {
         Ok(known) => {
-            let told = perform(alloc, &known, times, folder, &task, input, out);
+            let told = perform(alloc, &known, times, folder, task, input, out);
             Ended {
                 status: conclude(err, &told),
                 known: Some(known),
@@ -103,11 +105,11 @@ fn task_of<'q>(alloc: Global, subject: &'q Subject) -> Result<Task<'q>, Failure>
     requires { listed (subject_model subject.now) ≡ None }
     ensures taken { IfOk result (IsTask (subject_model subject.entry.now)) }
     ensures refused { IfErr result (FailsBy Usage
-        (λ line. misuse (subject_model subject.entry.now) ≡ Some line)) }
+        (Misuses (subject_model subject.entry.now))) }
 {
     match subject {
-        Subject::Affected(options) => match check_folder(alloc, options) {
-            Ok(()) => Ok(Task::Affected(options)),
+        Subject::Affected(options) => match globs_asked(alloc, options) {
+            Ok(globs) => Ok(Task::Affected(options, globs)),
             Err(failure) => Err(failure),
         },
         Subject::Audit(options) => match kinds_asked(alloc, options) {
@@ -141,27 +143,30 @@ fn perform<T: FileTimes, O: Sink>(
     known: &DiscoveredGraph,
     times: &T,
     folder: &[u8],
-    task: &Task<'_>,
+    task: Task<'_>,
     input: &[u8],
     out: &mut O,
 ) -> Result<Told, Failure>
     requires edges { HasEdges known.now }
-    requires given { IsGiven task.now }
+    requires given { IsGiven task }
     ensures { OfStatements known.now.graph (λ entries. AnswersTask known.now entries
-        (T.times times.now) folder.now task.now input.now (O.state out.old) (O.state out.new)
+        (T.times times.now) folder.now task.entry input.now (O.state out.old) (O.state out.new)
         result) }
 {
     match task {
-        Task::Affected(options) => deliver(out, answer_affected(alloc, known, options, input)),
+        Task::Affected(options, mut globs) => {
+            let globs = globs.as_mut_slice();
+            deliver(out, answer_affected(alloc, known, options, globs, input))
+        }
         Task::Audit(options, kinds) => {
             deliver(
                 out,
-                answer_audit(alloc, known, times, folder, options, *kinds),
+                answer_audit(alloc, known, times, folder, options, kinds),
             )
         }
         Task::Draw(options) => deliver(out, answer_draw(alloc, known, options)),
         Task::Json => answer_json(alloc, known, out),
-        Task::Keys(options, page) => deliver(out, answer_keys(alloc, known, options, page)),
+        Task::Keys(options, page) => deliver(out, answer_keys(alloc, known, options, &page)),
         Task::Why(options) => deliver(out, answer_why(alloc, known, options)),
     }
 }

@@ -16,12 +16,13 @@ use Rattle.nj_ask.specs.declared.discovered.DiscoveredGraph.{DiscoveredGraph}
 use Rattle.nj_ask.specs.declared.status.Status.{Status}
 use Rattle.nj_ask.specs.declared.status.Status.TheVariants.{Fault, Usage}
 use Rattle.nj_ask.specs.AskedWords.{AsksWith, AsksWords, IsRead}
-use Rattle.nj_ask.specs.Asks.{Answers, Around, Asks, IsRefusal, IsText, Refuses, listed, misuse}
+use Rattle.nj_ask.specs.Asks.{Answers, Around, Asks, IsRefusal, IsText, Misuses, Refuses, listed}
 use Rattle.nj_ask.specs.Asks.Asks.{by_graph, lacks_graph, lacks_memory, lists, misused}
-use Rattle.nj_ask.specs.Audits.{kind_lines, unknown_kind_line}
+use Rattle.nj_ask.specs.Audits.{kind_lines, selection_in, unknown_kind_line}
 use Rattle.nj_ask.specs.Endings.{Ending, Ends, Sinks, answered}
 use Rattle.nj_ask.specs.Endings.Ends.{ended, memory_fails, output_fails}
-use Rattle.nj_one_answer.specs.Answers.{OneAnswer, SameKnownHaveSameAnswers, SameOutput, TellTimes}
+use Rattle.nj_one_answer.specs.Answers.{MisusedIsNotTaken, OneAnswer, OneMisuse, SameKnownHaveSameAnswers}
+use Rattle.nj_one_answer.specs.Answers.{SameOutput, TellTimes}
 use Rattle.nj_one_answer.specs.Answers.SameDrawing.{same as same_drawing}
 use Rattle.nj_one_answer.specs.Runs.{AskAlike, AskWordsAlike, ComeTo, EndAlike, FilesRead, LacksMemory}
 use Rattle.nj_one_answer.specs.Runs.{ReadAlike}
@@ -32,7 +33,7 @@ use Rattle.nj_one_answer.specs.Runs.AskWordsAlike.{asked as words_asked, refused
 use Rattle.nj_one_answer.specs.Runs.AskWordsAlike.{lacked_memory as words_lacked}
 use Rattle.nj_one_answer.specs.Runs.RefuseAlike.{ended as refuse_ended, lacked_memory as refuse_lacked}
 use Rattle.nj_one_answer.proofs.KnownAnswers.{same-back}
-use Rattle.nj_one_answer.proofs.ReportAnswers.{some-or-none}
+use Rattle.nj_one_answer.proofs.GivenAnswers.{some-or-none}
 use Rattle.nj_one_answer.proofs.RunAnswers.{ends-alike}
 use Rattle.nj_one_answer.proofs.WhyAnswers.{ok-or-err, same-err, same-ok}
 
@@ -72,11 +73,11 @@ apart : (list : Bool) (bad : Option (List ℕ)) (kinds line text : List ℕ) →
 apart true bad kinds line text is also = absurd cc
 apart false bad kinds line text is also = absurd cc
 
-exclusive : (subject : SubjectModel) (line text : List ℕ) → misuse subject ≡ Some line
+exclusive : (subject : SubjectModel) (line text : List ℕ) → Misuses subject line
     → listed subject ≡ Some text → ⊥
 exclusive (affected options) line text is also = absurd cc
 exclusive (audit options) line text is also =
-    apart options.list (option_map unknown_kind_line (first_unknown options.only options.except)) kind_lines
+    apart options.list (option_map unknown_kind_line (first_unknown (selection_in options))) kind_lines
     line
     text is also
 exclusive (draw options) line text is also = absurd cc
@@ -96,7 +97,8 @@ ends-weaker Is More old new _ weaker (memory_fails (inl none) took told) = memor
 ends-weaker Is More old new _ weaker (memory_fails (inr (o, e, is, front)) took told) =
     memory_fails (inr (o, e, weaker o e is, front)) took told
 
-module _ (law : OneAnswer) (values : SameKnownHaveSameAnswers) (question : QuestionModel)
+module _ (law : OneAnswer) (values : SameKnownHaveSameAnswers) (line : OneMisuse) (apart : MisusedIsNotTaken)
+    (question : QuestionModel)
     (times : DeclaredTimes)
     (folder input : List ℕ) (old one other : Around)
   where
@@ -148,7 +150,8 @@ module _ (law : OneAnswer) (values : SameKnownHaveSameAnswers) (question : Quest
     asks-alike _ _ (misused {line = l1} {status = s1} is1 same1 ends1)
         (misused {line = l2} {status = s2} is2 same2 ends2) =
         both_unread same1 same2 (refusals-alike l2 Usage old.sinks one.sinks other.sinks s1 s2
-        (subst (λ line. Ends (IsRefusal line Usage) old.sinks one.sinks s1) (same_Some l1 l2 (sym is1 ∙ is2))
+        (subst (λ line. Ends (IsRefusal line Usage) old.sinks one.sinks s1)
+        (line question.subject l1 l2 is1 is2)
         ends1)
         ends2)
     asks-alike _ _ (misused {line = l1} {status = s1} is1 same1 ends1)
@@ -156,10 +159,10 @@ module _ (law : OneAnswer) (values : SameKnownHaveSameAnswers) (question : Quest
         absurd (exclusive question.subject l1 t2 is1 is2)
     asks-alike _ _ (misused {line = l1} {status = s1} is1 same1 ends1)
         (by_graph {known = k2} {entries = n2} {status = s2} no2 none2 knows2 of2 ends2) =
-        absurd (some-or-none l1 (misuse question.subject) is1 no2)
+        absurd (apart question.subject l1 is1 no2)
     asks-alike _ _ (misused {line = l1} {status = s1} is1 same1 ends1)
         (lacks_graph {line = l2} {status = s2} no2 none2 lacks2 ends2) =
-        absurd (some-or-none l1 (misuse question.subject) is1 no2)
+        absurd (apart question.subject l1 is1 no2)
     asks-alike _ _ (misused {line = l1} {status = s1} is1 same1 ends1)
         (lacks_memory kept2 told2) =
         lacked_memory (inr (record { output = kept2; error = told2; status_is = refl }))
@@ -182,7 +185,7 @@ module _ (law : OneAnswer) (values : SameKnownHaveSameAnswers) (question : Quest
         lacked_memory (inr (record { output = kept2; error = told2; status_is = refl }))
     asks-alike _ _ (by_graph {known = k1} {entries = n1} {status = s1} no1 none1 knows1 of1 ends1)
         (misused {line = l2} {status = s2} is2 same2 ends2) =
-        absurd (some-or-none l2 (misuse question.subject) is2 no1)
+        absurd (apart question.subject l2 is2 no1)
     asks-alike _ _ (by_graph {known = k1} {entries = n1} {status = s1} no1 none1 knows1 of1 ends1)
         (lists {text = t2} {status = s2} is2 same2 ends2) =
         absurd (some-or-none t2 (listed question.subject) is2 none1)
@@ -197,7 +200,7 @@ module _ (law : OneAnswer) (values : SameKnownHaveSameAnswers) (question : Quest
         lacked_memory (inr (record { output = kept2; error = told2; status_is = refl }))
     asks-alike _ _ (lacks_graph {line = l1} {status = s1} no1 none1 lacks1 ends1)
         (misused {line = l2} {status = s2} is2 same2 ends2) =
-        absurd (some-or-none l2 (misuse question.subject) is2 no1)
+        absurd (apart question.subject l2 is2 no1)
     asks-alike _ _ (lacks_graph {line = l1} {status = s1} no1 none1 lacks1 ends1)
         (lists {text = t2} {status = s2} is2 same2 ends2) =
         absurd (some-or-none t2 (listed question.subject) is2 none1)
@@ -294,13 +297,14 @@ both-refuse refusal.OutOfMemory refusal.OldOption old one other status end same 
 both-refuse refusal.OutOfMemory refusal.OutOfMemory old one other status end same is also =
     (lacks old one status is, lacks old other end also)
 
-module _ (law : OneAnswer) (values : SameKnownHaveSameAnswers) (times : DeclaredTimes) (folder input : List ℕ)
-    (old one other : Around) where
+module _ (law : OneAnswer) (values : SameKnownHaveSameAnswers) (line : OneMisuse) (apart : MisusedIsNotTaken)
+    (times : DeclaredTimes) (folder input : List ℕ) (old one other : Around) where
   pub reads-alike : (read : Result Question Refusal) (status end : Status)
       → AsksWith read times folder input old one status → AsksWith read times folder input old other end
       → ReadAlike read times old one other status end
   reads-alike (Ok question) status end is also =
-      asks-alike law values (question_model question) times folder input old one other status end is also
+      asks-alike law values line apart (question_model question) times folder input old one other status end
+      is also
   reads-alike (Err refused) status end is also =
       (is.0, also.0, refuses-alike refused old.sinks one.sinks other.sinks status end is.1 also.1)
 
@@ -327,7 +331,8 @@ module _ (law : OneAnswer) (values : SameKnownHaveSameAnswers) (times : Declared
         → Asks (question_model p) times folder input old other end → Words
     both-asked q p is also asks asks2 =
         let same = same-ok (question_of given) (question_model q) (question_model p) is also in
-        words_asked also (asks-alike law values (question_model p) times folder input old one other status end
+        words_asked also (asks-alike law values line apart (question_model p) times folder input old one other
+        status end
         (subst (λ m. Asks m times folder input old one status) same asks) asks2)
 
     both-refused : (r s : Refusal) → Why r → Why s → one.sources ≡ old.sources → other.sources ≡ old.sources

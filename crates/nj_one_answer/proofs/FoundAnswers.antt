@@ -23,7 +23,7 @@ use Rattle.nj_one_answer.specs.Sources.{TellAll}
 use Rattle.nj_one_answer.proofs.AuditAnswers.{findings-agree, last-apart, last-same, serving-agree}
 use Rattle.nj_one_answer.proofs.AuditAnswers.{sources-agree}
 use Rattle.nj_one_answer.proofs.DeclaredAnswers.{answer-is}
-use Rattle.nj_one_answer.proofs.ReportAnswers.{some-or-none}
+use Rattle.nj_one_answer.proofs.GivenAnswers.{some-or-none}
 
 module _ (g : GraphModel) (times : DeclaredTimes) (all : TellAll times) where
   abbrev Same : (missing unknown missing2 unknown2 : Bool) → Type 0

@@ -10,7 +10,7 @@ use Rattle.nj_ask.specs.Answers.{AnswersJson}
 use Rattle.nj_ask.specs.Answers.AnswersJson.{all, not_text}
 use Rattle.nj_ask.specs.Endings.{Ending, fault_line, refused}
 use Rattle.nj_one_answer.specs.Answers.{OneJsonAnswer}
-use Rattle.nj_one_answer.proofs.ReportAnswers.{some-or-none}
+use Rattle.nj_one_answer.proofs.GivenAnswers.{some-or-none}
 
 answers-agree : (known : DiscoveredGraph) (entries : List ReadStatement) (output other : List ℕ)
     (ending end : Ending) → AnswersJson known entries output ending → AnswersJson known entries other end

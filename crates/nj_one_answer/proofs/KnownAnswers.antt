@@ -174,8 +174,8 @@ module _ (one other : DiscoveredGraph) (same : SameKnown one other) where
       → AnswersAffected mid entries options input output ending
   affected-moves entries options input _ _ (no_rule is) = no_rule is
   affected-moves entries options input _ _ (no_path none empty asks) = no_path none empty asks
-  affected-moves entries options input _ _ (reported {outputs = o} {warnings = w} none some is) =
-      reported none some (report entries _ _ o w is)
+  affected-moves entries options input _ _ (reported {outputs = o} {warnings = w} none some leaves is) =
+      reported none some leaves (report entries _ _ o w is)
 
   why-moves : (entries : List ReadStatement) (options : WhyModel) (output : List ℕ) (ending : Ending)
       → AnswersWhy one entries options output ending → AnswersWhy mid entries options output ending

@@ -6,6 +6,7 @@ mod DiscoverAnswers
 mod DrawAnswers
 mod FileNumbers
 mod FoundAnswers
+mod GivenAnswers
 mod GraphAnswers
 mod JoinedAnswers
 mod JsonAnswers

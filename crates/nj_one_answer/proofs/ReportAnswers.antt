@@ -1,7 +1,7 @@
 -- Two answers of `affected`.
-use Rattle.std.proofs.Common.{◌≡◌, ◌≢◌, ◌⊎◌, inl, inr, ℕ, true, false, Option, Some, None, List, []}
+use Rattle.std.proofs.Common.{◌≡◌, ◌≢◌, ◌⊎◌, inl, inr, ℕ, true, false, List, []}
 use Rattle.std.proofs.Common.{◌++◌}
-use Rattle.std.proofs.Common.{refl, sym, ap, ◌∙◌}
+use Rattle.std.proofs.Common.{refl, sym, ap, subst, ◌∙◌}
 use Rattle.std.specs.Prelude.{codes}
 use Rattle.std.specs.List.{flat_map}
 use Rattle.std.proofs.lemmas.Bool.{both_ways}
@@ -11,19 +11,20 @@ use Rattle.nj_questions.specs.Questions.{AffectedModel}
 use Rattle.nj_ask.specs.declared.discovered.DiscoveredGraph.{DiscoveredGraph}
 use Rattle.nj_ask.specs.declared.status.Status.TheVariants.{Fault}
 use Rattle.nj_ask.specs.Affected.{Asked, lines_of_outputs, unknown_rule}
-use Rattle.nj_ask.specs.Answers.{AnswersAffected}
+use Rattle.nj_ask.specs.Answers.{AnswersAffected, change_asked, outputs_asked}
 use Rattle.nj_ask.specs.Answers.AnswersAffected.{no_path, no_rule, reported}
 use Rattle.nj_ask.specs.Endings.{Ending, answered, program_line, refused}
+use Rattle.nj_ask.specs.Given.{given_paths}
 use Rattle.nj_ask.specs.Laws.{WarningsAreUnique}
+use Rattle.nj_globs.specs.Laws.{OneReading}
 use Rattle.nj_ask.specs.Reports.{ChangeModel, IsReport, IsTouchedBy, changed_numbers}
 use Rattle.nj_ask.specs.Shape.{shape_text}
 use Rattle.nj_one_answer.specs.Answers.{OneAffectedAnswer}
+use Rattle.nj_one_answer.proofs.GivenAnswers.{leaves-agree, some-or-none}
 use Rattle.nj_one_answer.proofs.ReachedAnswers.{rising-agree}
 
-pub some-or-none : {X : Type 0} (x : X) (o : Option X) → o ≡ Some x → o ≡ None → ⊥
-some-or-none x o is none = let both : Some x ≡ None = sym is ∙ none in absurd cc
-
-module _ (unique : WarningsAreUnique) (known : DiscoveredGraph) (entries : List ReadStatement) where
+module _ (reading : OneReading) (unique : WarningsAreUnique) (known : DiscoveredGraph)
+    (entries : List ReadStatement) where
   reports-agree : (q : ChangeModel) (asked : Asked) (output other warnings more : List ℕ)
       → IsReport known entries q asked output warnings → IsReport known entries q asked other more
       → (output ≡ other) × (warnings ≡ more)
@@ -53,20 +54,26 @@ module _ (unique : WarningsAreUnique) (known : DiscoveredGraph) (entries : List 
     )
     answers-agree _ _ _ _ (no_rule {name = a} is) (no_path none empty asks) =
         absurd (some-or-none a (unknown_rule known.graph options.rules) is none)
-    answers-agree _ _ _ _ (no_rule {name = a} is) (reported none some report) =
+    answers-agree _ _ _ _ (no_rule {name = a} is) (reported none some leaves report) =
         absurd (some-or-none a (unknown_rule known.graph options.rules) is none)
     answers-agree _ _ _ _ (no_path none empty asks) (no_rule {name = a} is) =
         absurd (some-or-none a (unknown_rule known.graph options.rules) is none)
     answers-agree _ _ _ _ (no_path none empty asks) (no_path none2 empty2 asks2) = (refl, refl)
-    answers-agree _ _ _ _ (no_path none empty asks) (reported none2 some report) =
+    answers-agree _ _ _ _ (no_path none empty asks) (reported none2 some leaves report) =
         absurd (unmade _ empty asks some)
-    answers-agree _ _ _ _ (reported none some report) (no_rule {name = a} is) =
+    answers-agree _ _ _ _ (reported none some leaves report) (no_rule {name = a} is) =
         absurd (some-or-none a (unknown_rule known.graph options.rules) is none)
-    answers-agree _ _ _ _ (reported none some report) (no_path none2 empty asks) =
+    answers-agree _ _ _ _ (reported none some leaves report) (no_path none2 empty asks) =
         absurd (unmade _ empty asks some)
-    answers-agree _ _ _ _ (reported {outputs = o} {warnings = w} none some report)
-        (reported {outputs = p} {warnings = v} none2 some2 report2) =
-        let both = reports-agree _ _ o p w v report report2 in (both.0, ap (answered false) both.1)
+    answers-agree _ _ _ _ (reported {paths = ps} {outputs = o} {warnings = w} none some leaves report)
+        (reported {paths = qs} {outputs = p} {warnings = v} none2 some2 leaves2 report2) =
+        let same = leaves-agree reading options (given_paths options input) ps qs leaves leaves2 in
+        let both = reports-agree (change_asked options qs) (outputs_asked options) o p w v
+        (subst (λ paths. IsReport known entries (change_asked options paths) (outputs_asked options) o w) same
+        report)
+        report2 in
+        (both.0, ap (answered false) both.1)
 
-pub one-affected-answer : WarningsAreUnique → OneAffectedAnswer
-one-affected-answer unique known entries options input = answers-agree unique known entries options input
+pub one-affected-answer : OneReading → WarningsAreUnique → OneAffectedAnswer
+one-affected-answer reading unique known entries options input =
+    answers-agree reading unique known entries options input

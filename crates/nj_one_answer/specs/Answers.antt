@@ -7,7 +7,7 @@ use Rattle.nj_graph.specs.Handles.{GraphEdge, files_in}
 use Rattle.nj_questions.specs.Questions.{AffectedModel, AuditModel, DrawModel, KeysModel, WhyModel, SubjectModel, audit, draw}
 use Rattle.nj_ask.specs.declared.discovered.DiscoveredGraph.{DiscoveredGraph}
 use Rattle.nj_ask.specs.Answers.{AnswersAffected, AnswersDraw, AnswersJson, AnswersKeys, AnswersWhy, asked_targets}
-use Rattle.nj_ask.specs.Asks.{Answers}
+use Rattle.nj_ask.specs.Asks.{Answers, IsTaken, Misuses}
 use Rattle.nj_ask.specs.Audits.{AnswersAudit}
 use Rattle.nj_ask.specs.Drawings.{drawing_text}
 use Rattle.nj_ask.specs.DrawnNodes.{drawn_nodes}
@@ -109,3 +109,13 @@ OneAnswer = (known : DiscoveredGraph) (entries : List ReadStatement) (times : De
     (input : List ℕ) (output other : List ℕ) (ending end : Ending) → IsGraphOf known.graph entries → TellTimes subject times
     → Answers known entries times folder subject input output ending → Answers known entries times folder subject input other end
     → SameOutput known subject output other × (ending ≡ end)
+
+-- ---- options that are refused
+
+-- options are refused with one line
+abbrev pub OneMisuse : Type 0
+OneMisuse = (subject : SubjectModel) (line other : List ℕ) → Misuses subject line → Misuses subject other → line ≡ other
+
+-- and then they are not taken
+abbrev pub MisusedIsNotTaken : Type 0
+MisusedIsNotTaken = (subject : SubjectModel) (line : List ℕ) → Misuses subject line → ¬ IsTaken subject

@@ -1,6 +1,6 @@
 -- What the contracts of this crate cite: each name comes from the module in its line.
-pub use Rattle.nj_one_answer.specs.Answers.{OneAffectedAnswer, OneAffectedDrawing, OneAnswer, OneAuditAnswer, OneDrawAnswer, OneJsonAnswer}
-pub use Rattle.nj_one_answer.specs.Answers.{OneKeysAnswer, OneWhyAnswer, SameKnownHaveSameAnswers}
+pub use Rattle.nj_one_answer.specs.Answers.{MisusedIsNotTaken, OneAffectedAnswer, OneAffectedDrawing, OneAnswer, OneAuditAnswer}
+pub use Rattle.nj_one_answer.specs.Answers.{OneDrawAnswer, OneJsonAnswer, OneKeysAnswer, OneMisuse, OneWhyAnswer, SameKnownHaveSameAnswers}
 pub use Rattle.nj_ask.specs.Asks.{around}
 pub use Rattle.nj_ask.specs.AskedWords.{ended_status}
 pub use Rattle.std.specs.IoError.{error_kind}

@@ -1,12 +1,22 @@
 //! What the definitions of `nj_ask` leave open about the answer to a question.
 
-ghost use Rattle.nj_one_answer.specs.Cited.{OneAffectedAnswer, OneAffectedDrawing, OneAnswer, OneAuditAnswer, OneDrawAnswer, OneJsonAnswer, OneKeysAnswer, OneWhyAnswer, SameKnownHaveSameAnswers};
+ghost use Rattle.nj_one_answer.specs.Cited.{MisusedIsNotTaken, OneAffectedAnswer, OneAffectedDrawing, OneAnswer, OneAuditAnswer, OneDrawAnswer, OneJsonAnswer, OneKeysAnswer, OneMisuse, OneWhyAnswer, SameKnownHaveSameAnswers};
 
 /// A graph, its statements, the options and the changed paths have one report.
 pub fn affected_answer_law()
     ensures { OneAffectedAnswer }
 {
     nj_ask::report_law();
+    nj_globs::one_reading();
+}
+
+/// Options are refused with one line, or taken.
+pub fn misuse_law()
+    ensures line { OneMisuse }
+    ensures apart { MisusedIsNotTaken }
+{
+    nj_globs::good_patterns_are_read();
+    nj_globs::one_fault();
 }
 
 /// A graph, its statements and the options have one list of findings, by times that are declared.

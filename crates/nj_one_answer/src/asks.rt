@@ -3,7 +3,7 @@
 ghost use Rattle.std.specs.Prelude.{◌≡◌, ◌<◌, ◌++◌, codes, length, map, All, string_bytes};
 ghost use Rattle.nj_one_answer.specs.Cited.{around, ended_status, error_kind, files_of, AgreeIfOk, AgreeUpTo, AskWordsAlike, DeclareSame, IsGraphOutOfMemory, OfStatements, ReadAlike, SameDiscovered, SameErrors, SameUnlessFailed, TellAll, UnlessFails};
 
-use crate::answers::{answer_law, known_answer_law};
+use crate::answers::{answer_law, known_answer_law, misuse_law};
 use nj_ask::{Discovered, Ended, Status};
 use nj_deps::DepsLog;
 use nj_graph::{FileNo, FileSource, FileTimes, Graph, GraphFault, HashKeys};
@@ -155,6 +155,7 @@ pub fn ask_read_words<S: FileSource, B: FileSource, T: FileTimes, O: Sink, E: Si
 {
     answer_law();
     known_answer_law();
+    misuse_law();
     (
         nj_ask::ask_read_words(alloc, read, files, built, times, folder, input, out, err),
         nj_ask::ask_read_words(
@@ -202,6 +203,7 @@ pub fn ask_words<S: FileSource, B: FileSource, T: FileTimes, O: Sink, E: Sink>(
 {
     answer_law();
     known_answer_law();
+    misuse_law();
     (
         nj_ask::ask_words(alloc, words, files, built, times, folder, input, out, err),
         nj_ask::ask_words(

@@ -17,7 +17,7 @@ mod tools;
 
 pub use answers::{
     affected_answer_law, answer_law, audit_answer_law, draw_answer_law, json_answer_law,
-    keys_answer_law, known_answer_law, why_answer_law,
+    keys_answer_law, known_answer_law, misuse_law, why_answer_law,
 };
 pub use asks::{
     ask_read_words, ask_words, made_from, refuse_folder, refuse_input, refuse_words,

@@ -61,6 +61,7 @@ impl Given {
             "repeat" => self.repeat(alloc, block)?,
             "log" => self.add_log(alloc, block)?,
             "input" => self.input.extend_from_slice(text)?,
+            "unended-input" => self.input.extend_from_slice(without_end(text))?,
             "folder" => self.folder = Some(String::from_str(alloc, block.rest)?),
             "reading-fails" => self.failing = block.rest.parse().unwrap_or(0),
             "built-reading-fails" => self.failing_built = block.rest.parse().unwrap_or(0),

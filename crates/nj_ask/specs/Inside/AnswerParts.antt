@@ -9,8 +9,11 @@ use Rattle.nj_needs.specs.Walks.{WalkState}
 use Rattle.nj_keys.specs.Keys.{ListsKeys}
 use Rattle.nj_keys.specs.Pages.{leads, left_at, BeginsAfter}
 use Rattle.nj_keys.specs.declared.pages.Page.{Page}
+use Rattle.nj_changes.specs.declared.ignored.PatternFault.{PatternFault}
+use Rattle.nj_changes.specs.declared.ignored.PatternFault.TheVariants as pattern
 use Rattle.nj_ask.specs.Answers.{relative_base}
 use Rattle.nj_ask.specs.Endings.{fault_line, program_line}
+use Rattle.nj_ask.specs.Given.{pattern_line}
 
 -- the line of the fault that there is in place of a value
 abbrev pub SaysErr : {A : Type 0} → Result A GraphFault → (line : List ℕ) → Type 0
@@ -20,6 +23,11 @@ SaysErr expected line = (fault : GraphFault) × (expected ≡ Err fault) × (lin
 abbrev pub base_misuse : (bases : List (List ℕ)) → Option (List ℕ)
 base_misuse bases =
     option_map (λ base. program_line (codes "'" ++ base ++ codes "' of --base is not absolute")) (relative_base bases)
+
+-- the line about a pattern that is no glob
+abbrev pub SaysPattern : PatternFault → (line : List ℕ) → Type 0
+SaysPattern (pattern.Wrong text fault) line = line ≡ pattern_line text.now fault
+SaysPattern pattern.OutOfMemory line = ⊥
 
 -- the lines of the commands that files need and that are left at a mark, up to a limit, and the mark after them
 pub record IsPageOf (files : GraphFiles) (entries : List ReadStatement) (folders : List (List ℕ)) (mark : List ℕ)

@@ -6,8 +6,10 @@ use Rattle.nj_discovered.specs.Times.{DeclaredTimes}
 use Rattle.nj_graph.specs.ReadingList.{ReadStatement}
 use Rattle.nj_graph.specs.Graph.{IsGraphOf}
 use Rattle.nj_tools.specs.Sinks.{SinkState}
-use Rattle.nj_questions.specs.Questions.{AuditModel, KeysModel, QuestionModel, SubjectModel, affected, audit, draw, json, keys, why}
+use Rattle.nj_questions.specs.Questions.{AffectedModel, AuditModel, KeysModel, QuestionModel, SubjectModel, affected, audit, draw, json, keys, why}
 use Rattle.nj_questions.specs.Questions.{affected_model, audit_model, draw_model, keys_model, why_model}
+use Rattle.nj_globs.specs.Globs.{GlobPart}
+use Rattle.nj_changes.specs.Ignored.{AreGlobsOf}
 use Rattle.nj_audit.specs.Kinds.{AskFor}
 use Rattle.nj_audit.specs.declared.kinds.Kinds.{Kinds}
 use Rattle.nj_ask.specs.declared.answer.Told.{Told}
@@ -18,13 +20,19 @@ use Rattle.nj_ask.specs.declared.keys.PageAsked.{PageAsked}
 use Rattle.nj_ask.specs.declared.failure.Failure.{Failure}
 use Rattle.nj_ask.specs.declared.failure.Failure.TheVariants.{Refused, OutOfMemory}
 use Rattle.nj_ask.specs.declared.status.Status.TheVariants.{Fault}
-use Rattle.nj_ask.specs.Answers.{asked_mark, folder_misuse, keys_misuse}
+use Rattle.nj_ask.specs.Answers.{asked_mark, keys_misuse}
 use Rattle.nj_ask.specs.Asks.{Answers, seeks_undeclared}
-use Rattle.nj_ask.specs.Audits.{audit_misuse, kinds_listed}
+use Rattle.nj_ask.specs.Audits.{audit_misuse, kinds_listed, selection_in}
+use Rattle.nj_ask.specs.Given.{folder_misuse}
 use Rattle.nj_ask.specs.Inside.Failures.{Returns}
 use Rattle.nj_ask.specs.KnownGraphs.{KnowsGraph, LacksGraph, Sources}
 
 -- ---- what is asked
+
+-- the globs of `--ignore`, as options that are taken give them
+pub record AreGlobsAsked (options : AffectedModel) (globs : List (List GlobPart)) : Type 0 where
+  pub allowed : folder_misuse options.source_dir ≡ None
+  pub are : AreGlobsOf options.ignored globs
 
 -- the bases and the mark of a page, as options that are taken give them
 pub record IsPageAsked (options : KeysModel) (page : PageAsked) : Type 0 where
@@ -34,14 +42,14 @@ pub record IsPageAsked (options : KeysModel) (page : PageAsked) : Type 0 where
 
 -- the kinds, as options that are taken ask for them
 pub record IsAuditAsked (options : AuditModel) (kinds : Kinds) : Type 0 where
-  pub asked : AskFor kinds options.only options.except
+  pub asked : AskFor kinds (selection_in options)
   pub allowed : audit_misuse options ≡ None
   pub unlisted : kinds_listed options ≡ None
 
 -- a task asks this, and its options are taken
 abbrev pub IsTask : SubjectModel → Task → Type 0
-IsTask subject (task.Affected options) =
-    (subject ≡ affected (affected_model options.now)) × (folder_misuse (affected_model options.now).source_dir ≡ None)
+IsTask subject (task.Affected options globs) =
+    (subject ≡ affected (affected_model options.now)) × AreGlobsAsked (affected_model options.now) globs.items
 IsTask subject (task.Audit options kinds) = (subject ≡ audit (audit_model options.now)) × IsAuditAsked (audit_model options.now) kinds
 IsTask subject (task.Draw options) = subject ≡ draw (draw_model options.now)
 IsTask subject task.Json = subject ≡ json

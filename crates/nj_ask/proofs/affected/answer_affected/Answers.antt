@@ -1,9 +1,10 @@
-use Rattle.std.proofs.Common.{◌==◌, Some, inl, inr, map, option_map, string_bytes, sym, ap, ◌∙◌}
+use Rattle.std.proofs.Common.{◌==◌, Some, inl, inr, map, option_map, string_bytes, sym, ap, subst, ◌∙◌}
+use Rattle.nj_changes.specs.Ignored.{AreLeft}
 use Rattle.nj_questions.specs.Questions.{affected_model}
 use Rattle.nj_ask.specs.Affected.{unknown_rule}
 use Rattle.nj_ask.specs.Inside.Lent.{asked_of, texts}
 use Rattle.nj_ask.specs.Answers.{change_asked}
-use Rattle.nj_ask.specs.Lines.{lines_of}
+use Rattle.nj_ask.specs.Given.{given_paths}
 use Rattle.nj_ask.specs.Inside.Lent.{change_model}
 use Rattle.nj_ask.proofs.AffectedLemmas.{gives-no-path, gives-no-rule, gives-report}
 use Rattle.nj_ask.proofs.InputLemmas.{no-lines, some-lines}
@@ -29,8 +30,9 @@ returns-then-not-options c entries graph =
     ∙ sym c.unknown_rule.ensures
     ∙ ap (option_map (λ name. name.now)) (none-is c.unknown_rule.result c.in_default.not-Some))
     c.in_ok-without_paths.ensures.looks
-    (no-lines (λ line. line.now) (lines_of c.args.input.now) c.in_ok-paths.paths.items c.in_ok-paths.ensures
-    (ap (λ n. n == 0) (sym c.in_ok-paths.paths.ok.0) ∙ sym c.is_empty.ensures ∙ c.if-is_empty.true))
+    (no-lines (λ line. line.now) (given_paths (affected_model c.args.options.now) c.args.input.now)
+    c.in_ok-given.given.items c.in_ok-given.ensures
+    (ap (λ n. n == 0) (sym c.in_ok-given.given.ok.0) ∙ sym c.is_empty.ensures ∙ c.if-is_empty.true))
     c.if-not-options.true c.in_ok-without_paths.ensures.output c.in_ok-without_paths.ensures.warnings
 
 pub returns : goal.returns
@@ -42,13 +44,21 @@ returns c entries graph =
     ∙ ap (option_map (λ name. name.now)) (none-is c.unknown_rule.result c.in_default.not-Some))
     c.in_ok-report_of.ensures.looks
     (change_model c.change_of-change.result) (asked_of c.listed_by-listed.result)
+    (texts c.in_ok-paths.paths.items)
     (elim c.else-is_empty.branch [
       | else-is_empty-via-then-is_empty+else-not-options w ↦ inr w.if-not-options.false
-      | else-is_empty-via-else-is_empty w ↦ inl (some-lines (λ line. line.now) (lines_of c.args.input.now)
-          c.in_ok-paths.paths.items c.in_ok-paths.ensures
-          (ap (λ n. n == 0) (sym c.in_ok-paths.paths.ok.0) ∙ sym c.is_empty.ensures ∙ w.if-is_empty.false))
+      | else-is_empty-via-else-is_empty w ↦
+          inl (some-lines (λ line. line.now) (given_paths (affected_model c.args.options.now)
+          c.args.input.now)
+          c.in_ok-given.given.items c.in_ok-given.ensures
+          (ap (λ n. n == 0) (sym c.in_ok-given.given.ok.0) ∙ sym c.is_empty.ensures ∙ w.if-is_empty.false))
     ])
+    (record {
+      globs = c.args.globs.now;
+      are_globs = c.requires.globs.are;
+      are_left = subst (λ given. AreLeft c.args.globs.now given (texts c.in_ok-paths.paths.items))
+          (ap texts c.deref-2.ensures.value ∙ c.in_ok-given.ensures) c.in_ok-paths.ensures.left;
+    })
     (c.change_of-change.ensures
-    ∙ ap (change_asked (affected_model c.args.options.now)) (ap texts c.deref-2.ensures.value
-    ∙ c.in_ok-paths.ensures))
+    ∙ ap (change_asked (affected_model c.args.options.now)) (ap texts c.deref-3.ensures.value))
     c.listed_by-listed.ensures (c.in_ok-report_of.ensures.report entries graph)

@@ -36,8 +36,8 @@ returns-in-Ok-known_graph g c =
     (c.perform-told.ensures stated.0 stated.1 _ asks))
     c.conclude-in-Ok-known_graph.ensures
 
-pub returns : goal.returns
-returns g c =
+pub returns-in-Err-known_graph : goal.returns-in-Err-known_graph
+returns-in-Err-known_graph g c =
     let task = c.in-Ok.task in
     let asks = c.in-Ok.ensures.taken in
     let failure = c.in-Err-known_graph.failure in

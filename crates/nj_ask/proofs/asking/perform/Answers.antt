@@ -12,8 +12,8 @@ pub returns-in-Affected : goal.returns-in-Affected
 returns-in-Affected g c entries is subject asks =
     let known = c.args.known.now in
     let options = c.in-Affected.options in
-    affected-returns known entries _ _ c.args.input.now _ _ _ subject c.args.task.now options c.in-Affected.is
-    asks
+    affected-returns known entries _ _ c.args.input.now _ _ _ subject c.args.task options c.in-Affected.globs
+    c.in-Affected.is asks
     (returns-delivered (AnswersAffected known entries (affected_model options.now) c.args.input.now)
     c.answer_affected.result _ _ _ (c.answer_affected.ensures entries is) c.deliver.ensures)
 
@@ -21,7 +21,7 @@ pub returns-in-Audit : goal.returns-in-Audit
 returns-in-Audit g c entries is subject asks =
     let known = c.args.known.now in
     let options = c.in-Audit.options in
-    audit-returns known entries _ _ c.args.input.now _ _ _ subject c.args.task.now options c.in-Audit.kinds
+    audit-returns known entries _ _ c.args.input.now _ _ _ subject c.args.task options c.in-Audit.kinds
     c.in-Audit.is asks
     (returns-delivered (AnswersAudit known entries _ _ (audit_model options.now))
     c.answer_audit.result _ _ _ (c.answer_audit.ensures entries is) c.deliver-in-Audit.ensures)
@@ -35,7 +35,7 @@ pub returns-in-Draw : goal.returns-in-Draw
 returns-in-Draw g c entries is subject asks =
     let known = c.args.known.now in
     let options = c.in-Draw.options in
-    draw-returns known entries _ _ c.args.input.now _ _ _ subject c.args.task.now options c.in-Draw.is asks
+    draw-returns known entries _ _ c.args.input.now _ _ _ subject c.args.task options c.in-Draw.is asks
     (returns-delivered (AnswersDraw known entries (draw_model options.now))
     c.answer_draw.result _ _ _ (c.answer_draw.ensures entries is) c.deliver-in-Draw.ensures)
 
@@ -43,7 +43,7 @@ pub returns-in-Why : goal.returns-in-Why
 returns-in-Why g c entries is subject asks =
     let known = c.args.known.now in
     let options = c.in-Why.options in
-    why-returns known entries _ _ c.args.input.now _ _ _ subject c.args.task.now options c.in-Why.is asks
+    why-returns known entries _ _ c.args.input.now _ _ _ subject c.args.task options c.in-Why.is asks
     (returns-delivered (AnswersWhy known entries (why_model options.now))
     c.answer_why.result _ _ _ (c.answer_why.ensures entries is) c.deliver-in-Why.ensures)
 
@@ -52,7 +52,7 @@ returns-in-Keys g c entries is subject asks =
     let known = c.args.known.now in
     let options = c.in-Keys.options in
     let page = c.in-Keys.page in
-    keys-returns known entries _ _ c.args.input.now _ _ _ subject c.args.task.now options page c.in-Keys.is
+    keys-returns known entries _ _ c.args.input.now _ _ _ subject c.args.task options page c.in-Keys.is
     asks
     (returns-delivered (AnswersKeys known entries (keys_model options.now) page.mark)
     c.answer_keys.result _ _ _ (c.answer_keys.ensures entries is) c.deliver-in-Keys.ensures)

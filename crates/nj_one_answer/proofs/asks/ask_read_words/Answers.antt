@@ -15,7 +15,8 @@ returns g c =
     let new : Around = around (source c.ask_read_words-2.new.files) (built c.ask_read_words-2.new.built)
     (output c.ask_read_words-2.new.out)
     (error c.ask_read_words-2.new.err) in
-    reads-alike c.answer_law.ensures c.known_answer_law.ensures told c.args.folder.now c.args.input.now
+    reads-alike c.answer_law.ensures c.known_answer_law.ensures c.misuse_law.ensures.line
+    c.misuse_law.ensures.apart told c.args.folder.now c.args.input.now
     (around (source c.args.files.now) (built c.args.built.now) (output c.args.out.now) (error c.args.err.now))
     (around (source c.ask_read_words.new.files) (built c.ask_read_words.new.built)
     (output c.ask_read_words.new.out) (error c.ask_read_words.new.err))
