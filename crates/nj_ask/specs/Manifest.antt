@@ -1,10 +1,11 @@
 -- From which files the manifest itself is made.
-use Rattle.std.specs.Prelude.{◌≡◌, ℕ, ◌==◌, Bool, true, false, ◌||◌, not, unwrap_or, Option, Some, None, List, [], ◌∷◌, codes, length, slice_get}
+use Rattle.std.specs.Prelude.{◌≡◌, ℕ, ◌==◌, Bool, true, false, ◌||◌, unwrap_or, Option, Some, None, List, [], ◌∷◌, slice_get}
 use Rattle.std.specs.List.{filter_map, list_any}
 use Rattle.nj_graph.specs.ReadingList.{ReadStatement}
 use Rattle.nj_graph.specs.Changes.{has_input_of, IsOrNeeds}
 use Rattle.nj_graph.specs.Edges.{edge_at, is_among, maker_of}
-use Rattle.nj_graph.specs.Graph.{GraphModel, edges_of, files_of, late_text_of}
+use Rattle.nj_graph.specs.Graph.{GraphModel, edges_of, files_of}
+use Rattle.nj_audit.specs.Audit.{has_generator}
 use Rattle.nj_ask.specs.Affected.{clean_name, number_at}
 
 -- whether a number is one of these
@@ -36,10 +37,6 @@ is_opened g path = is_named_in (opened_paths g) (clean_name path)
 -- the edges that make them
 abbrev pub makers_of_opened : GraphModel → List ℕ
 makers_of_opened g = filter_map (λ file. maker_of (edges_of g) (path_of g file)) (opened_files g)
-
--- the value of `generator` for an edge, after all statements, is not empty
-abbrev pub has_generator : List ReadStatement → (edge : ℕ) → Bool
-has_generator entries edge = not (length (late_text_of entries edge (codes "generator")) == 0)
 
 -- an edge makes the manifest
 abbrev pub makes_manifest : GraphModel → List ReadStatement → (edge : ℕ) → Bool

@@ -1,10 +1,11 @@
 //! From which changed files the manifest itself is made.
 
 ghost use Rattle.std.specs.Prelude.{◌≡◌, ◌↔◌, ◌<◌, All, IfOk, IfSome, false, length, map, true, option_copied, option_map, option_and_then, slice_get, slice_index_or};
-ghost use Rattle.nj_ask.specs.Cited.{OfEdge, edge_of, OfStatements, filter, filter_map, flat_map, list_any, edge_at, inputs_of, maker_of, path_at, edges_of, files_of, clean_name, number_at, path_in, has_generator, is_named_in, makers_of_opened, makes_manifest, opened_files, IsMadeFrom, AreFeeds, AreFlags};
+ghost use Rattle.nj_ask.specs.Cited.{OfEdge, edge_of, OfStatements, filter, filter_map, flat_map, list_any, edge_at, inputs_of, maker_of, path_at, edges_of, files_of, clean_name, number_at, path_in, is_named_in, makers_of_opened, makes_manifest, opened_files, IsMadeFrom, AreFeeds, AreFlags};
 
 use crate::changes::{clean_in, find_file};
 use crate::opened::opened_paths;
+use nj_audit::has_generator;
 use nj_graph::{Edge, EdgeNo, FileNo, Graph, HashKeys};
 use nj_names::Files;
 use std::alloc::{AllocError, Global};
@@ -177,15 +178,6 @@ fn makes_manifest(alloc: Global, flags: &[bool], edge: Edge<'_>) -> Result<bool,
         return Ok(true);
     }
     has_generator(alloc, edge)
-}
-
-/// Whether the `generator` of an edge is not empty.
-fn has_generator(alloc: Global, edge: Edge<'_>) -> Result<bool, AllocError>
-    ensures { OfEdge (edge_of edge.entry) (λ entries number.
-        IfOk result (λ has. has ≡ has_generator entries number)) }
-{
-    let generator = edge.variable(alloc, b"generator")?;
-    Ok(!generator.is_empty())
 }
 
 /// Of each edge whether one of these makers is it or needs it, through any chain of inputs.

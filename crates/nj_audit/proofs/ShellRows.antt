@@ -1,7 +1,7 @@
 -- Words and paths of small commands, worked out on the definitions.
-use Rattle.std.proofs.Common.{◌≡◌, Some, [], ◌∷◌, ◌++◌, codes, refl}
+use Rattle.std.proofs.Common.{◌≡◌, true, false, Some, [], ◌∷◌, ◌++◌, codes, refl}
 use Rattle.nj_text.specs.Paths.{clean_path_of, without_leftmost_pair}
-use Rattle.nj_audit.specs.NamedPaths.{path_named, paths_in}
+use Rattle.nj_audit.specs.NamedPaths.{is_bare, path_named, word_names}
 use Rattle.nj_audit.specs.ShellWords.{read_text, words_after, words_of}
 
 blanks : words_of (codes "  cc -c  a.c  -o a.o ")
@@ -32,13 +32,26 @@ long_line = refl
 
 -- ---- paths
 
-of_option : paths_in [] (codes "--out=./a//b") ≡ codes "--out=./a/b" ∷ codes "a/b" ∷ codes "out=./a/b" ∷ []
-unfolding clean_path_of without_leftmost_pair
+of_option : word_names (codes "--out=./a//b")
+    ≡ codes "--out=./a//b" ∷ codes "./a//b" ∷ codes "out=./a//b" ∷ []
 of_option = refl
 
-of_letter : paths_in [] (codes "-Lb") ≡ codes "-Lb" ∷ codes "b" ∷ []
-unfolding clean_path_of without_leftmost_pair
+of_letter : word_names (codes "-Lb") ≡ codes "-Lb" ∷ codes "b" ∷ []
 of_letter = refl
+
+-- names that may be words of another meaning
+bare : is_bare (codes "clean") ≡ true
+bare = refl
+
+below : is_bare (codes "out/clean") ≡ false
+below = refl
+
+dotted : is_bare (codes "a.o") ≡ false
+dotted = refl
+
+a_name : path_named [] (codes "./a//b") ≡ Some (codes "a/b")
+unfolding clean_path_of without_leftmost_pair
+a_name = refl
 
 in_folder : path_named (codes "/home/a") (codes "/home/a/x/../b") ≡ Some (codes "b")
 unfolding clean_path_of without_leftmost_pair

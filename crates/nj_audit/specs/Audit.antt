@@ -190,6 +190,10 @@ command_of entries edge = late_text_of entries edge (codes "command")
 abbrev pub has_command : GraphModel → (edge : ℕ) → Bool
 has_command g edge = not (paths_at g edge).is_phony
 
+-- the value of `generator` for an edge, after all statements, is not empty
+abbrev pub has_generator : List ReadStatement → (edge : ℕ) → Bool
+has_generator entries edge = not (length (late_text_of entries edge (codes "generator")) == 0)
+
 -- its command, if it has one
 abbrev pub commands_at : GraphModel → List ReadStatement → (edge : ℕ) → List (List ℕ)
 commands_at g entries edge = if has_command g edge then command_of entries edge ∷ [] else []

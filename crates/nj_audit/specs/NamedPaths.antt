@@ -1,6 +1,6 @@
--- The paths that a command may name.
-use Rattle.std.specs.Prelude.{ℕ, ◌+◌, ◌==◌, nat_eq, ◌||◌, not, if◌then◌else◌, Option, Some, None, option_map, unwrap_or, List, [], ◌∷◌, codes, drop, length, position, bytes_eq}
-use Rattle.std.specs.List.{cons_option, filter_map, flat_map, starts_with}
+-- The names in a command, and the paths that they may mean.
+use Rattle.std.specs.Prelude.{ℕ, ◌+◌, ◌==◌, Bool, nat_eq, ◌||◌, not, if◌then◌else◌, Option, Some, None, option_map, unwrap_or, List, [], ◌∷◌, codes, drop, length, position, bytes_eq}
+use Rattle.std.specs.List.{cons_option, flat_map, list_any, starts_with}
 use Rattle.nj_text.specs.Paths.{clean_path_of}
 use Rattle.nj_audit.specs.ShellWords.{words_of}
 
@@ -13,8 +13,8 @@ abbrev pub after_letter : (word : List ℕ) → Option (List ℕ)
 after_letter word = if starts_with nat_eq word (codes "-") then Some (drop 2 word) else None
 
 -- the names in a word: itself, and the texts after these signs
-abbrev pub names_in : (word : List ℕ) → List (List ℕ)
-names_in word = word ∷ cons_option (after_sign word) (cons_option (after_letter word) [])
+abbrev pub word_names : (word : List ℕ) → List (List ℕ)
+word_names word = word ∷ cons_option (after_sign word) (cons_option (after_letter word) [])
 
 -- the text after the slash with which a text begins
 abbrev pub after_slash : (text : List ℕ) → Option (List ℕ)
@@ -32,13 +32,13 @@ abbrev pub path_named : (folder name : List ℕ) → Option (List ℕ)
 path_named folder [] = None
 path_named folder (b ∷ name) = Some (without_folder folder (clean_path_of (b ∷ name)))
 
--- the paths that a word may name
-abbrev pub paths_in : (folder word : List ℕ) → List (List ℕ)
-paths_in folder word = filter_map (path_named folder) (names_in word)
+-- the names in the words of a command
+abbrev pub command_names : (command : List ℕ) → List (List ℕ)
+command_names command = flat_map word_names (words_of command)
 
--- the paths that the words of a command may name
-abbrev pub paths_named : (folder command : List ℕ) → List (List ℕ)
-paths_named folder command = flat_map (paths_in folder) (words_of command)
+-- a name without `/` and `.`, as `clean` in `ninja clean`
+abbrev pub is_bare : (name : List ℕ) → Bool
+is_bare name = not (list_any (λ b. b == 47 || b == 46) name)
 
 -- the number of the file at a path, if there is one
 abbrev pub number_at : (files : List (List ℕ)) → (path : List ℕ) → Option ℕ

@@ -1,13 +1,13 @@
 -- Files that the commands of edges name, and that other edges make, unordered with them.
-use Rattle.std.specs.Prelude.{◌≡◌, ℕ, ◌==◌, true, false, if◌then◌else◌, Some, List, [], ◌∷◌, ◌++◌, codes, length, map}
+use Rattle.std.specs.Prelude.{◌≡◌, ℕ, ◌==◌, Bool, true, false, ◌&&◌, ◌||◌, not, if◌then◌else◌, Option, None, Some, option_and_then, List, [], ◌∷◌, ◌++◌, codes, length, map}
 use Rattle.std.specs.List.{filter_map}
 use Rattle.nj_scope.specs.ReadingList.{ReadStatement}
 use Rattle.nj_edges.specs.Changes.{IsOrNeeds}
-use Rattle.nj_graph.specs.Edges.{inputs_of, is_among, maker_of}
+use Rattle.nj_graph.specs.Edges.{inputs_of, is_among, maker_of, users_of}
 use Rattle.nj_graph.specs.Graph.{GraphModel, edges_of, files_of, late_text_of}
-use Rattle.nj_audit.specs.Audit.{command_of, has_command, path_of, paths_at, rule_number}
+use Rattle.nj_audit.specs.Audit.{command_of, has_command, has_generator, path_of, paths_at, rule_number}
 use Rattle.nj_audit.specs.Findings.{FindingModel, edge_finding}
-use Rattle.nj_audit.specs.NamedPaths.{number_at, paths_named}
+use Rattle.nj_audit.specs.NamedPaths.{command_names, is_bare, number_at, path_named}
 use Rattle.nj_audit.specs.declared.kinds.Kind.TheVariants.{UndeclaredInput}
 
 -- ---- files that an edge names
@@ -17,12 +17,35 @@ abbrev pub response_of : List ReadStatement → (edge : ℕ) → List ℕ
 response_of entries edge =
     if length (late_text_of entries edge (codes "rspfile")) == 0 then [] else late_text_of entries edge (codes "rspfile_content")
 
+-- the names in the command of an edge and in its response file
+abbrev pub names_at : List ReadStatement → (edge : ℕ) → List (List ℕ)
+names_at entries edge = command_names (command_of entries edge) ++ command_names (response_of entries edge)
+
+-- some edge has the path as an input
+abbrev pub is_input : GraphModel → (path : List ℕ) → Bool
+is_input g path = not (length (users_of (edges_of g) path) == 0)
+
+-- a name means the file at a path: a bare one does so only if some edge has that as an input
+abbrev pub is_meant : GraphModel → (name path : List ℕ) → Bool
+is_meant g name path = not (is_bare name) || is_input g path
+
+-- the file, if the name means it
+abbrev pub file_if_meant : GraphModel → (name : List ℕ) → (file : ℕ) → Option ℕ
+file_if_meant g name file = if is_meant g name (path_of g file) then Some file else None
+
+-- the file that a name means, as seen from the directory: the one at its path
+abbrev pub file_named : GraphModel → (folder name : List ℕ) → Option ℕ
+file_named g folder name =
+    option_and_then (file_if_meant g name) (option_and_then (number_at (files_of g)) (path_named folder name))
+
+-- an edge runs a command, which does not regenerate the build: that reads and writes what it likes
+abbrev pub is_looked_at : GraphModel → List ReadStatement → (edge : ℕ) → Bool
+is_looked_at g entries edge = has_command g edge && not (has_generator entries edge)
+
 -- the files that the command of an edge and its response file may name, as seen from the directory
 abbrev pub files_named : GraphModel → List ReadStatement → (folder : List ℕ) → (edge : ℕ) → List ℕ
 files_named g entries folder edge =
-    if has_command g edge
-    then filter_map (number_at (files_of g)) (paths_named folder (command_of entries edge) ++ paths_named folder (response_of entries edge))
-    else []
+    if is_looked_at g entries edge then filter_map (file_named g folder) (names_at entries edge) else []
 
 -- ---- which of them are unordered
 

@@ -26,3 +26,4 @@ pub use auditing::audit;
 pub use findings::{Finding, Findings};
 pub use kinds::{Kind, Kinds};
 pub use laws::words_law;
+pub use unordered_files::has_generator;

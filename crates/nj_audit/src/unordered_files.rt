@@ -1,7 +1,7 @@
 //! Files that the commands of edges name, and that other edges make, unordered with them.
 
 ghost use Rattle.std.specs.Prelude.{◌≡◌, ◌↔◌, ℕ, List, [], Some, IfOk, IfSome, IsTrue, OnOk, map, option_map};
-ghost use Rattle.nj_audit.specs.Cited.{OfEdge, OfStatements, edge_of, file_of, inputs_of, maker_of, paths_of, edges_of, edge_numbers, AreNamedUnordered, IsOther, IsTwin, IsUnordered, files_named, response_of, with_name, AreIn, AddsUnordered, AddsOnce, HaveNumbers};
+ghost use Rattle.nj_audit.specs.Cited.{OfEdge, OfStatements, edge_of, file_of, inputs_of, maker_of, paths_of, edges_of, edge_numbers, AreNamedUnordered, IsOther, IsTwin, IsUnordered, files_named, has_generator, is_looked_at, response_of, with_name, AreIn, AddsUnordered, AddsOnce, HaveNumbers};
 
 use crate::file_set::FileSet;
 use crate::findings::Findings;
@@ -45,7 +45,7 @@ pub fn named_files<'g>(
         (λ files. AreIn (edge_of edge.entry).graph (map file_of files.items)) }
 {
     let mut files = Vec::new(alloc);
-    if edge.is_phony() {
+    if !is_looked_at(alloc, edge)? {
         return Ok(files);
     }
     let graph = edge.graph();
@@ -54,6 +54,27 @@ pub fn named_files<'g>(
     let response = response(alloc, edge)?;
     add_named_files(&mut files, graph, folder, &response)?;
     Ok(files)
+}
+
+/// Whether an edge runs a command that does not regenerate the build.
+fn is_looked_at(alloc: Global, edge: Edge<'_>) -> Result<bool, AllocError>
+    ensures { OfEdge (edge_of edge.entry) (λ entries number.
+        IfOk result (λ is. is ≡ is_looked_at (edge_of edge.entry).graph entries number)) }
+{
+    if edge.is_phony() {
+        return Ok(false);
+    }
+    let has_generator = has_generator(alloc, edge)?;
+    Ok(!has_generator)
+}
+
+/// Whether the value of `generator` for an edge is not empty.
+pub fn has_generator(alloc: Global, edge: Edge<'_>) -> Result<bool, AllocError>
+    ensures { OfEdge (edge_of edge.entry) (λ entries number.
+        IfOk result (λ has. has ≡ has_generator entries number)) }
+{
+    let generator = edge.variable(alloc, b"generator")?;
+    Ok(!generator.is_empty())
 }
 
 /// The contents of an edge's response file, if it has a name.

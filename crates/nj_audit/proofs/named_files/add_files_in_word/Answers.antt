@@ -1,7 +1,8 @@
-use Rattle.std.proofs.Common.{Some, ◌++◌, map, sym, subst}
+use Rattle.std.proofs.Common.{[], ◌∷◌, ◌++◌, map, sym, subst}
+use Rattle.std.specs.List.{cons_option}
 use Rattle.nj_graph.specs.Handles.{file_of}
 use Rattle.nj_audit.specs.NamedPaths.{after_letter, after_sign}
-use Rattle.nj_audit.specs.Inside.FilesNamed.{AddsFiles, paths_of_name}
+use Rattle.nj_audit.specs.Inside.FilesNamed.{AddsFiles}
 use Rattle.nj_audit.proofs.FileLemmas.{adds-then, names-are}
 use Rattle.nj_audit.proofs.named_files.add_files_in_word.Goals as goal
 
@@ -14,12 +15,12 @@ returns c =
     let second = map file_of c.add_file.new.files.items in
     let third = map file_of c.add_file-2.new.files.items in
     let last = map file_of c.add_file-3.new.files.items in
-    subst (λ ps. AddsFiles g ps first last) (sym (names-are folder word))
-    (adds-then g (paths_of_name folder (Some word) ++ paths_of_name folder (after_sign word))
-    (paths_of_name folder (after_letter word)) first third last
-    (adds-then g (paths_of_name folder (Some word)) (paths_of_name folder (after_sign word)) first second
+    subst (λ ns. AddsFiles g folder ns first last) (sym (names-are word))
+    (adds-then g folder ((word ∷ []) ++ cons_option (after_sign word) [])
+    (cons_option (after_letter word) []) first third last
+    (adds-then g folder (word ∷ []) (cons_option (after_sign word) []) first second
     third c.in_ok-add_file.ensures
-    (subst (λ o. AddsFiles g (paths_of_name folder o) second third) c.after_sign.ensures
+    (subst (λ o. AddsFiles g folder (cons_option o []) second third) c.after_sign.ensures
     c.in_ok-add_file-2.ensures))
-    (subst (λ o. AddsFiles g (paths_of_name folder o) third last) c.after_letter.ensures
+    (subst (λ o. AddsFiles g folder (cons_option o []) third last) c.after_letter.ensures
     c.in_ok-add_file-3.ensures))
