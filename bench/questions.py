@@ -40,8 +40,8 @@ def questions(shape, count):
         "draw": (["draw", "--limit", "40"], DONE, ""),
         "json": (["json"], DONE, ""),
         "keys": (["keys"], DONE, ""),
-        "audit": (["audit"], LOOK, ""),
-        "audit, without missing sources": (["audit", "--except", "missing-source"], None, ""),
+        "audit, every kind": (["audit", "--all"], LOOK, ""),
+        "audit": (["audit"], None, ""),
     }
 
 

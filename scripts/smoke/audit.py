@@ -25,8 +25,8 @@ PROJECT = EXAMPLES / "project"
 EDGES = 20_000
 # The kinds in their order, and whether they are on by default.
 KINDS = {
-    "unused-output": False, "missing-source": True, "unused-rule": False, "unused-pool": False,
-    "unused-variable": False, "repeated-command": True, "depfile-without-deps": True,
+    "unused-output": False, "missing-source": False, "unused-rule": False, "unused-pool": False,
+    "unused-variable": False, "repeated-command": False, "depfile-without-deps": False,
     "repeated-input": False, "undeclared-input": True,
 }
 # The requested kinds: the values of `--only`, and those of `--except`.
@@ -182,6 +182,7 @@ def audit_differs(graph, folder, wanted):
             yield f"there is no statement for '{kind}' at line {line}"
     for only, without in ASKED:
         yield from asked_differs(graph, folder, output.splitlines(), only, without)
+    yield from expect("--all", run(graph, folder, ["--all"]), (status, output, error))
 
 
 # The findings in examples/project, by hand: the test is no input, and there are no sources.
@@ -234,7 +235,7 @@ def sources_of_phony_edges(graph, folder):
     """A source counts if an edge with a command needs it, by whatever chain of phony edges."""
     write_files(folder, {"build.ninja": PHONY})
     found = LOOK, "build.ninja:5:1: missing source 'kept'\n", ""
-    yield from expect("phony edges", run(graph, folder, []), found)
+    yield from expect("phony edges", run(graph, folder, ["--only=missing-source"]), found)
 
 
 # The sources of a command, in places where they cannot be looked up, and one that is not there; and
@@ -260,9 +261,9 @@ def sources_that_cannot_be_looked_up(graph, folder):
     ran = graph.run(only, folder)
     yield from expect("plain", ran, (LOOK, b"build.ninja:5:1: missing source 'lost.c'\n", told))
     (folder / "lost.c").touch()
-    for words in only, [*only, "--json"], ["audit", "--except", "repeated-command"]:
+    for words in only, [*only, "--json"], ["audit", "--all", "--except", "repeated-command"]:
         yield from expect(f"{words}, no finding", graph.run(words, folder), (LOOK, b"", told))
-    ran = graph.run(["audit", "--except", "missing-source"], folder)
+    ran = graph.run(["audit", "--all", "--except", "missing-source"], folder)
     yield from expect("not requested", ran, (DONE, b"", b""))
     with open("/dev/full", "wb") as full:
         ran = graph.run(only, folder, error=full)
@@ -279,7 +280,7 @@ def folders_that_may_not_be_searched(graph, folder):
     folder.chmod(0o755)
     program = shutil.copy(graph.path, folder / "program")
     (folder / "shut").chmod(0)
-    first, *words = [*(NOBODY if os.geteuid() == 0 else []), program, "audit"]
+    first, *words = [*(NOBODY if os.geteuid() == 0 else []), program, "audit", "--only=missing-source"]
     ran = Program(first).run(words, folder).as_text()
     (folder / "shut").chmod(0o700)
     told = "build.ninja:3:1: cannot look up source 'shut/a.c'\n"
@@ -357,12 +358,14 @@ def words_of(command):
     return list(lexer)
 
 
-def paths_named(command, folder):
-    """The paths that the words of a command name."""
+def paths_named(command, folder, inputs):
+    """The paths that the words of a command name. One without a slash or a dot counts as an input alone."""
     for word in words_of(command):
         names = [word, word.partition("=")[2], word[2:] if word.startswith("-") else ""]
         for name in filter(None, names):
-            yield posixpath.normpath(name).removeprefix(f"{folder}/")
+            path = posixpath.normpath(name).removeprefix(f"{folder}/")
+            if "/" in name or "." in name or path in inputs:
+                yield path
 
 
 def reached(build, edge):
@@ -378,9 +381,11 @@ def reached(build, edge):
 
 
 def undeclared(build, edge, folder):
-    makers = build.makers()
+    if build.value(edge, "generator"):
+        return
+    makers, inputs = build.makers(), {path for it in build.edges for path in it.paths()}
     content = build.value(edge, "rspfile_content") if build.value(edge, "rspfile") else ""
-    for path in dict.fromkeys(paths_named(f"{build.value(edge, 'command')}\n{content}", folder)):
+    for path in dict.fromkeys(paths_named(f"{build.value(edge, 'command')}\n{content}", folder, inputs)):
         maker = makers.get(path, edge)
         is_twin = (maker.rule, maker.paths()) == (edge.rule, edge.paths())
         needs = maker.outputs[0] in reached(build, edge), edge.outputs[0] in reached(build, maker)

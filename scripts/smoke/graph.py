@@ -168,7 +168,7 @@ ON_NESTED = [
     ["affected"],
     ["affected", "--rule", "deep", "--no-phony"],
     ["audit"],
-    ["audit", *(f"--only={kind}" for kind in ("missing-source", "unused-variable", "undeclared-input"))],
+    ["audit", "--all"],
     ["draw"],
     ["draw", "--affected", "--fold", "d"],
     ["json"],

@@ -163,9 +163,10 @@ def configured_anew(graph, program, folder):
     yield from expect("its lists", found.status, LOOK)
     found = why(graph, build, "--deps", "count", "../include/text/words.h")
     yield from expect("why", (found.status, found.error, found.output.count("\n")), (DONE, "", 2))
-    found = graph.run(["audit", "--deps"], build).as_text()
+    yield from expect("audit", graph.run(["audit", "--deps"], build).as_text(), (DONE, "", ""))
+    found = graph.run(["audit", "--deps", "--only", "repeated-command"], build).as_text()
     wanted = f"build.ninja:{line_of('reconfigure', build)}:1: repeated command 'reconfigure'\n"
-    yield from expect("audit", found, (LOOK, wanted, ""))
+    yield from expect("repeated commands", found, (LOOK, wanted, ""))
     yield from drawing_differs("anew", graph, build, ["words_test"], DRAWN)
     found = keys(graph, build, ["words_test", "count"]).output
     wanted = keys_by_objects(graph, build)

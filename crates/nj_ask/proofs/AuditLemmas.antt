@@ -20,7 +20,7 @@ use Rattle.nj_audit.specs.declared.kinds.Kinds.{Kinds}
 use Rattle.nj_audit.proofs.KindLemmas.{asked-law, of-none}
 use Rattle.nj_questions.specs.Questions.{AuditModel}
 use Rattle.nj_ask.specs.Audits.{LooksUp, WouldBeMissing, audit_misuse, is_absent, is_unanswered}
-use Rattle.nj_ask.specs.Audits.{kind_lines, kinds_listed}
+use Rattle.nj_ask.specs.Audits.{kind_lines, kinds_listed, selection_in}
 use Rattle.nj_ask.specs.Audits.{unknown_kind_line}
 use Rattle.nj_ask.specs.Audits.LooksUp.{made, source}
 use Rattle.nj_ask.specs.Inside.AuditParts.{HasServing, SaysUnknown}
@@ -29,22 +29,22 @@ use Rattle.nj_ask.proofs.InputLemmas.{not-none}
 -- ---- the options
 
 -- words that name kinds are taken
-pub kinds-allowed : (options : AuditModel) → first_unknown options.only options.except ≡ None
+pub kinds-allowed : (options : AuditModel) → first_unknown (selection_in options) ≡ None
     → audit_misuse options ≡ None
 kinds-allowed options known = by options.list
   where
-    by : (b : Bool) → cond b None (option_map unknown_kind_line (first_unknown options.only options.except))
+    by : (b : Bool) → cond b None (option_map unknown_kind_line (first_unknown (selection_in options)))
         ≡ None
     by true = refl
     by false = ap (option_map unknown_kind_line) known
 
 -- others are not, unless the kinds are listed
 pub kinds-refused : (options : AuditModel) (line : List ℕ) → kinds_listed options ≡ None
-    → SaysUnknown (first_unknown options.only options.except) line → audit_misuse options ≡ Some line
+    → SaysUnknown (first_unknown (selection_in options)) line → audit_misuse options ≡ Some line
 kinds-refused options line unlisted says = by options.list unlisted
   where
     by : (b : Bool) → cond b (Some kind_lines) None ≡ None
-        → cond b None (option_map unknown_kind_line (first_unknown options.only options.except)) ≡ Some line
+        → cond b None (option_map unknown_kind_line (first_unknown (selection_in options))) ≡ Some line
     by true none = absurd (none-some kind_lines (sym none))
     by false none = says
 

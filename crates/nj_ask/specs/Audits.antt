@@ -15,7 +15,7 @@ use Rattle.nj_graph.specs.Graph.{GraphModel, edges_of, files_of}
 use Rattle.nj_audit.specs.Audit.{missing_sources}
 use Rattle.nj_audit.specs.Audits.{IsAudit}
 use Rattle.nj_audit.specs.Findings.{FindingModel}
-use Rattle.nj_audit.specs.Kinds.{AskFor, all_kinds, first_unknown, is_asked_for, is_on_by_default, meaning_of, name_of, phrase_of}
+use Rattle.nj_audit.specs.Kinds.{AskFor, Selection, all_kinds, first_unknown, is_asked_for, is_on_by_default, meaning_of, name_of, phrase_of}
 use Rattle.nj_audit.specs.Serving.{AreServing}
 use Rattle.nj_audit.specs.declared.kinds.Kind.{Kind}
 use Rattle.nj_audit.specs.declared.kinds.Kind.TheVariants.{MissingSource}
@@ -78,14 +78,18 @@ kinds_listed options = if options.list then Some kind_lines else None
 abbrev pub unknown_kind_line : (word : List ℕ) → List ℕ
 unknown_kind_line word = program_line (codes "unknown kind '" ++ word ++ codes "'; ninja-graph audit --list lists the kinds")
 
+-- the options that select kinds
+abbrev pub selection_in : AuditModel → Selection
+selection_in options = record { all = options.all; only = options.only; except = options.except }
+
 -- why the options are refused before anything is read
 abbrev pub audit_misuse : AuditModel → Option (List ℕ)
 audit_misuse options =
-    if options.list then None else option_map unknown_kind_line (first_unknown options.only options.except)
+    if options.list then None else option_map unknown_kind_line (first_unknown (selection_in options))
 
 -- the kind is requested
 abbrev pub asks_for : AuditModel → Kind → Bool
-asks_for options kind = is_asked_for options.only options.except kind
+asks_for options kind = is_asked_for (selection_in options) kind
 
 -- ---- sources, by the times of files
 
@@ -131,7 +135,7 @@ pub record WouldBeMissing (g : GraphModel) (unknown : List Bool) (found : List F
 pub record AnswersAudit (known : DiscoveredGraph) (entries : List ReadStatement) (times : DeclaredTimes) (folder : List ℕ)
     (options : AuditModel) (output : List ℕ) (ending : Ending) : Type 0 where
   pub kinds : Kinds
-  pub asked : AskFor kinds options.only options.except
+  pub asked : AskFor kinds (selection_in options)
   pub missing : List Bool
   pub unknown : List Bool
   pub look_up : LookUpIf (asks_for options MissingSource) known.graph times missing unknown

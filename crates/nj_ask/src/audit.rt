@@ -1,7 +1,7 @@
 //! The answer to `audit`.
 
 ghost use Rattle.std.specs.Prelude.{◌≡◌, [], None, IfErr, IfOk, false};
-ghost use Rattle.nj_ask.specs.Cited.{AskFor, first_unknown, audit_model, AnswersAudit, WouldBeMissing, kind_lines, unknown_kind_line, IsText, AuditListsFindings, DoneFindsNothing, list_any, AreWarnings, HasServing, SaysUnknown, Usage, OfStatements, FailsBy, Gives};
+ghost use Rattle.nj_ask.specs.Cited.{AskFor, first_unknown, selection_in, audit_model, AnswersAudit, WouldBeMissing, kind_lines, unknown_kind_line, IsText, AuditListsFindings, DoneFindsNothing, list_any, AreWarnings, HasServing, SaysUnknown, Usage, OfStatements, FailsBy, Gives};
 
 use crate::answer::Answer;
 use crate::discovered::DiscoveredGraph;
@@ -51,19 +51,18 @@ fn kinds_answer(alloc: Global) -> Result<Answer, AllocError>
     })
 }
 
-/// The kinds that `--only` and `--except` select.
+/// The kinds that `--all`, `--only` and `--except` select.
 pub(crate) fn kinds_asked(alloc: Global, options: &AuditOptions) -> Result<Kinds, Failure>
     ensures asked { IfOk result (λ kinds.
-        AskFor kinds (audit_model options.now).only (audit_model options.now).except) }
-    ensures known { IfOk result (λ _. first_unknown (audit_model options.now).only
-        (audit_model options.now).except ≡ None) }
+        AskFor kinds (selection_in (audit_model options.now))) }
+    ensures known { IfOk result (λ _.
+        first_unknown (selection_in (audit_model options.now)) ≡ None) }
     ensures refused { IfErr result (FailsBy Usage
-        (SaysUnknown (first_unknown (audit_model options.now).only
-        (audit_model options.now).except))) }
+        (SaysUnknown (first_unknown (selection_in (audit_model options.now))))) }
 {
     let only = texts_of(alloc, &options.only)?;
     let except = texts_of(alloc, &options.except)?;
-    match Kinds::from_words(&only, &except) {
+    match Kinds::from_words(options.all, &only, &except) {
         Ok(kinds) => Ok(kinds),
         Err(word) => Err(unknown_kind(alloc, word)),
     }
@@ -94,7 +93,7 @@ pub(crate) fn answer_audit<T: FileTimes>(
     options: &AuditOptions,
     kinds: Kinds,
 ) -> Result<Answer, Failure>
-    requires { AskFor kinds (audit_model options.now).only (audit_model options.now).except }
+    requires { AskFor kinds (selection_in (audit_model options.now)) }
     ensures { OfStatements known.now.graph (λ entries. Gives (AnswersAudit known.now entries
         (T.times times.now) folder.now (audit_model options.now)) result) }
 {

@@ -17,7 +17,7 @@ use Rattle.nj_audit.specs.declared.kinds.Kind.TheVariants.{UnusedPool, UnusedVar
 use Rattle.nj_audit.specs.declared.kinds.Kind.TheVariants.{DepfileWithoutDeps, RepeatedInput, UndeclaredInput}
 use Rattle.nj_audit.specs.declared.kinds.Kinds.{Kinds}
 use Rattle.nj_audit.specs.Findings.{FindingModel, edge_finding}
-use Rattle.nj_audit.specs.Kinds.{AskFor, all_kinds, contains, is_asked_for}
+use Rattle.nj_audit.specs.Kinds.{AskFor, Selection, all_kinds, contains, is_asked_for}
 use Rattle.nj_audit.specs.Inside.ByKind.{asked_of, findings_of}
 use Rattle.nj_audit.specs.LoggedInputs.{AreUndeclaredFindings, finding_of_input}
 use Rattle.nj_audit.specs.UnorderedFiles.{AreNamedUnordered}
@@ -305,24 +305,24 @@ find-in-both f p o xs ys is =
     ap (option_map f) (sym (plain-option o) ∙ is) ∙ find-mapped f p (xs ++ ys)
     ∙ ap (find p) (map-append f xs ys)
 
--- flags that each match the selection of the values
-pub ask-for : (kinds : Kinds) (only except : List (List ℕ))
-    → kinds.unused_output ≡ is_asked_for only except UnusedOutput
-    → kinds.missing_source ≡ is_asked_for only except MissingSource
-    → kinds.unused_rule ≡ is_asked_for only except UnusedRule
-    → kinds.unused_pool ≡ is_asked_for only except UnusedPool
-    → kinds.unused_variable ≡ is_asked_for only except UnusedVariable
-    → kinds.repeated_command ≡ is_asked_for only except RepeatedCommand
-    → kinds.depfile_without_deps ≡ is_asked_for only except DepfileWithoutDeps
-    → kinds.repeated_input ≡ is_asked_for only except RepeatedInput
-    → kinds.undeclared_input ≡ is_asked_for only except UndeclaredInput
-    → AskFor kinds only except
-ask-for kinds only except a b c d e f g h i UnusedOutput = a
-ask-for kinds only except a b c d e f g h i MissingSource = b
-ask-for kinds only except a b c d e f g h i UnusedRule = c
-ask-for kinds only except a b c d e f g h i UnusedPool = d
-ask-for kinds only except a b c d e f g h i UnusedVariable = e
-ask-for kinds only except a b c d e f g h i RepeatedCommand = f
-ask-for kinds only except a b c d e f g h i DepfileWithoutDeps = g
-ask-for kinds only except a b c d e f g h i RepeatedInput = h
-ask-for kinds only except a b c d e f g h i UndeclaredInput = i
+-- flags that each match the selection
+pub ask-for : (kinds : Kinds) (selection : Selection)
+    → kinds.unused_output ≡ is_asked_for selection UnusedOutput
+    → kinds.missing_source ≡ is_asked_for selection MissingSource
+    → kinds.unused_rule ≡ is_asked_for selection UnusedRule
+    → kinds.unused_pool ≡ is_asked_for selection UnusedPool
+    → kinds.unused_variable ≡ is_asked_for selection UnusedVariable
+    → kinds.repeated_command ≡ is_asked_for selection RepeatedCommand
+    → kinds.depfile_without_deps ≡ is_asked_for selection DepfileWithoutDeps
+    → kinds.repeated_input ≡ is_asked_for selection RepeatedInput
+    → kinds.undeclared_input ≡ is_asked_for selection UndeclaredInput
+    → AskFor kinds selection
+ask-for kinds selection a b c d e f g h i UnusedOutput = a
+ask-for kinds selection a b c d e f g h i MissingSource = b
+ask-for kinds selection a b c d e f g h i UnusedRule = c
+ask-for kinds selection a b c d e f g h i UnusedPool = d
+ask-for kinds selection a b c d e f g h i UnusedVariable = e
+ask-for kinds selection a b c d e f g h i RepeatedCommand = f
+ask-for kinds selection a b c d e f g h i DepfileWithoutDeps = g
+ask-for kinds selection a b c d e f g h i RepeatedInput = h
+ask-for kinds selection a b c d e f g h i UndeclaredInput = i

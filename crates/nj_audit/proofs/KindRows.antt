@@ -4,19 +4,33 @@ use Rattle.std.specs.List.{filter}
 use Rattle.nj_faults.specs.declared.fault.Place.{Place}
 use Rattle.nj_audit.specs.declared.kinds.Kind.{Kind}
 use Rattle.nj_audit.specs.declared.kinds.Kind.TheVariants.{UnusedOutput, MissingSource, UnusedRule}
-use Rattle.nj_audit.specs.declared.kinds.Kind.TheVariants.{UnusedPool, RepeatedCommand, DepfileWithoutDeps}
-use Rattle.nj_audit.specs.declared.kinds.Kind.TheVariants.{RepeatedInput, UndeclaredInput}
+use Rattle.nj_audit.specs.declared.kinds.Kind.TheVariants.{UnusedPool, UnusedVariable, RepeatedCommand}
+use Rattle.nj_audit.specs.declared.kinds.Kind.TheVariants.{DepfileWithoutDeps, RepeatedInput, UndeclaredInput}
 use Rattle.nj_audit.specs.declared.kinds.Kinds.{Kinds}
 use Rattle.nj_audit.specs.Audit.{findings_asked_for}
 use Rattle.nj_audit.specs.Findings.{FindingModel}
-use Rattle.nj_audit.specs.Kinds.{all_kinds, first_unknown, is_asked_for}
+use Rattle.nj_audit.specs.Kinds.{Selection, all_kinds, first_unknown, is_asked_for}
+
+-- the options with these values, without `--all`
+abbrev values : (only except : List (List ℕ)) → Selection
+values only except = record { all = false; only = only; except = except }
 
 -- the kinds that these values select
 abbrev asked : (only except : List (List ℕ)) → List Kind
-asked only except = filter (is_asked_for only except) all_kinds
+asked only except = filter (is_asked_for (values only except)) all_kinds
 
-no_options : asked [] [] ≡ MissingSource ∷ RepeatedCommand ∷ DepfileWithoutDeps ∷ UndeclaredInput ∷ []
+no_options : asked [] [] ≡ UndeclaredInput ∷ []
 no_options = refl
+
+all : filter (is_asked_for (record { all = true; only = codes "unused-rule" ∷ []; except = [] })) all_kinds
+    ≡ all_kinds
+all = refl
+
+all_but_one : filter (is_asked_for (record { all = true; only = []; except = codes "undeclared-input" ∷ [] }))
+    all_kinds
+    ≡ UnusedOutput ∷ MissingSource ∷ UnusedRule ∷ UnusedPool ∷ UnusedVariable ∷ RepeatedCommand
+    ∷ DepfileWithoutDeps ∷ RepeatedInput ∷ []
+all_but_one = refl
 
 only_one : asked (codes "unused-rule" ∷ []) [] ≡ UnusedRule ∷ []
 only_one = refl
@@ -30,8 +44,7 @@ only_three = refl
 only_except_itself : asked (codes "unused-rule" ∷ []) (codes "unused-rule" ∷ []) ≡ []
 only_except_itself = refl
 
-except_one : asked [] (codes "repeated-command" ∷ [])
-    ≡ MissingSource ∷ DepfileWithoutDeps ∷ UndeclaredInput ∷ []
+except_one : asked [] (codes "undeclared-input" ∷ []) ≡ []
 except_one = refl
 
 -- a kind that is not taken need not be excepted
@@ -44,15 +57,15 @@ only_and_except = refl
 
 -- ---- words that name no kind
 
-known : first_unknown (codes "unused-output" ∷ codes "unused-variable" ∷ [])
-    (codes "depfile-without-deps" ∷ []) ≡ None
+known : first_unknown (values (codes "unused-output" ∷ codes "unused-variable" ∷ [])
+    (codes "depfile-without-deps" ∷ [])) ≡ None
 known = refl
 
-first_of_two : first_unknown (codes "unused-rule" ∷ []) (codes "unused rule" ∷ codes "unused" ∷ [])
+first_of_two : first_unknown (values (codes "unused-rule" ∷ []) (codes "unused rule" ∷ codes "unused" ∷ []))
     ≡ Some (codes "unused rule")
 first_of_two = refl
 
-only_before_except : first_unknown ([] ∷ []) (codes "unused" ∷ []) ≡ Some []
+only_before_except : first_unknown (values ([] ∷ []) (codes "unused" ∷ [])) ≡ Some []
 only_before_except = refl
 
 -- ---- findings

@@ -1,5 +1,5 @@
 -- The kinds of findings, and which of them the values of `--only` and of `--except` select.
-use Rattle.std.specs.Prelude.{◌≡◌, ℕ, ◌==◌, ◌&&◌, Bool, true, false, not, if◌then◌else◌}
+use Rattle.std.specs.Prelude.{◌≡◌, ℕ, ◌==◌, ◌&&◌, ◌||◌, Bool, true, false, not, if◌then◌else◌}
 use Rattle.std.specs.Prelude.{Option, List, [], ◌∷◌, ◌++◌, codes, find, length, map}
 use Rattle.std.specs.Borrow.{Bor}
 use Rattle.nj_graph.specs.Edges.{is_among}
@@ -36,32 +36,36 @@ phrase_of UndeclaredInput = codes "undeclared input"
 
 -- what a finding of the kind means, as `--list` says it
 abbrev pub meaning_of : Kind → List ℕ
-meaning_of UnusedOutput = codes "an output that is no default, no input and no validation"
-meaning_of MissingSource = codes "a source that a command needs and that is not on the disk"
+meaning_of UnusedOutput = codes "an output that is neither a default, an input nor a validation"
+meaning_of MissingSource = codes "a source that a command needs and that is not on disk"
 meaning_of UnusedRule = codes "a rule that no edge uses"
 meaning_of UnusedPool = codes "a pool that no edge uses"
 meaning_of UnusedVariable = codes "a variable of an edge that neither its rule nor Ninja reads"
 meaning_of RepeatedCommand = codes "an edge with the command of an earlier edge"
 meaning_of DepfileWithoutDeps = codes "an edge with a depfile and no deps"
 meaning_of RepeatedInput = codes "an input that is given to its edge again"
-meaning_of UndeclaredInput = codes "a file that a command or a deps log names and that an edge makes it does not need"
+meaning_of UndeclaredInput = codes "a generated file that a command or the deps log uses, with no dependency on the edge that makes it"
 
 -- findings of the kind are reported without any option
 abbrev pub is_on_by_default : Kind → Bool
-is_on_by_default MissingSource = true
-is_on_by_default RepeatedCommand = true
-is_on_by_default DepfileWithoutDeps = true
 is_on_by_default UndeclaredInput = true
 is_on_by_default kind = false
 
--- `--only` takes the kinds that it names; without it, those are taken that are on by default
-abbrev pub is_taken : (only : List (List ℕ)) → Kind → Bool
-is_taken only kind =
-    if length only == 0 then is_on_by_default kind else is_among only (name_of kind)
+-- the options that select kinds: the flag `--all`, and the values of `--only` and of `--except`
+pub record Selection : Type 0 where
+  pub all : Bool
+  pub only : List (List ℕ)
+  pub except : List (List ℕ)
+
+-- `--all` takes each kind, and `--only` those that it names; without them, those are taken that are on by default
+abbrev pub is_taken : (all : Bool) → (only : List (List ℕ)) → Kind → Bool
+is_taken all only kind =
+    all || (if length only == 0 then is_on_by_default kind else is_among only (name_of kind))
 
 -- a kind is selected if it is taken and `--except` does not name it
-abbrev pub is_asked_for : (only except : List (List ℕ)) → Kind → Bool
-is_asked_for only except kind = is_taken only kind && not (is_among except (name_of kind))
+abbrev pub is_asked_for : Selection → Kind → Bool
+is_asked_for selection kind =
+    is_taken selection.all selection.only kind && not (is_among selection.except (name_of kind))
 
 -- all kinds, in the order in which they are reported
 abbrev pub all_kinds : List Kind
@@ -74,12 +78,16 @@ abbrev pub is_unknown : (word : List ℕ) → Bool
 is_unknown word = not (is_among (map name_of all_kinds) word)
 
 -- the first such word, those of `--only` before those of `--except`
-abbrev pub first_unknown : (only except : List (List ℕ)) → Option (List ℕ)
-first_unknown only except = find is_unknown (only ++ except)
+abbrev pub first_unknown : Selection → Option (List ℕ)
+first_unknown selection = find is_unknown (selection.only ++ selection.except)
 
 -- words that are lent
 abbrev pub texts : List (Bor (List ℕ)) → List (List ℕ)
 texts words = map (λ word. word.now) words
+
+-- a selection whose words are lent
+abbrev pub selection_of : (all : Bool) → (only except : List (Bor (List ℕ))) → Selection
+selection_of all only except = record { all = all; only = texts only; except = texts except }
 
 -- ---- kinds as flags
 
@@ -95,6 +103,6 @@ contains kinds DepfileWithoutDeps = kinds.depfile_without_deps
 contains kinds RepeatedInput = kinds.repeated_input
 contains kinds UndeclaredInput = kinds.undeclared_input
 
--- the kinds are those that the values select
-abbrev pub AskFor : Kinds → (only except : List (List ℕ)) → Type 0
-AskFor kinds only except = (kind : Kind) → contains kinds kind ≡ is_asked_for only except kind
+-- the kinds are those that the options select
+abbrev pub AskFor : Kinds → Selection → Type 0
+AskFor kinds selection = (kind : Kind) → contains kinds kind ≡ is_asked_for selection kind

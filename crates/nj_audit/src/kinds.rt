@@ -1,7 +1,7 @@
 //! The kinds of findings, and which of them are requested.
 
-ghost use Rattle.std.specs.Prelude.{◌≡◌, None, Some, IfErr, IfOk, OnOk, option_map};
-ghost use Rattle.nj_audit.specs.Cited.{is_among, AskFor, contains, first_unknown, is_asked_for, is_on_by_default, is_taken, is_unknown, name_of, texts, meaning_of, phrase_of};
+ghost use Rattle.std.specs.Prelude.{◌≡◌, ◌++◌, None, Some, IfErr, IfOk, OnOk, find, option_map};
+ghost use Rattle.nj_audit.specs.Cited.{is_among, AskFor, contains, first_unknown, is_asked_for, is_on_by_default, is_taken, is_unknown, name_of, selection_of, texts, meaning_of, phrase_of};
 
 /// A kind of finding.
 #[derive(Clone, Copy)]
@@ -70,8 +70,8 @@ impl Kind {
         ensures { result.now ≡ meaning_of self }
     {
         match self {
-            Kind::UnusedOutput => "an output that is no default, no input and no validation",
-            Kind::MissingSource => "a source that a command needs and that is not on the disk",
+            Kind::UnusedOutput => "an output that is neither a default, an input nor a validation",
+            Kind::MissingSource => "a source that a command needs and that is not on disk",
             Kind::UnusedRule => "a rule that no edge uses",
             Kind::UnusedPool => "a pool that no edge uses",
             Kind::UnusedVariable => "a variable of an edge that neither its rule nor Ninja reads",
@@ -79,21 +79,15 @@ impl Kind {
             Kind::DepfileWithoutDeps => "an edge with a depfile and no deps",
             Kind::RepeatedInput => "an input that is given to its edge again",
             Kind::UndeclaredInput =>
-                "a file that a command or a deps log names and that an edge makes it does not need",
+                "a generated file that a command or the deps log uses, with no dependency on the edge that makes it",
         }
     }
 
-    /// Whether it is reported where `--only` names no kinds.
+    /// Whether it is reported without any option.
     pub fn is_on_by_default(self) -> bool
         ensures { result ≡ is_on_by_default self }
     {
-        matches!(
-            self,
-            Kind::MissingSource
-                | Kind::RepeatedCommand
-                | Kind::DepfileWithoutDeps
-                | Kind::UndeclaredInput
-        )
+        matches!(self, Kind::UndeclaredInput)
     }
 }
 
@@ -112,37 +106,38 @@ pub struct Kinds {
 }
 
 impl Kinds {
-    /// The kinds that the values of `--only` and of `--except` select.
+    /// The kinds that the flag `--all` and the values of `--only` and of `--except` select.
     ///
     /// # Errors
     ///
     /// The first value that names no kind.
-    pub fn from_words<'a>(only: &[&'a str], except: &[&'a str]) -> Result<Kinds, &'a str>
-        ensures asked { IfOk result (λ kinds. AskFor kinds (texts only.now) (texts except.now)) }
-        ensures known { OnOk result (first_unknown (texts only.now) (texts except.now) ≡ None) }
+    pub fn from_words<'a>(all: bool, only: &[&'a str], except: &[&'a str]) -> Result<Kinds, &'a str>
+        ensures asked { IfOk result (λ kinds.
+            AskFor kinds (selection_of all only.now except.now)) }
+        ensures known { OnOk result (first_unknown (selection_of all only.now except.now) ≡ None) }
         ensures unknown { IfErr result
-            (λ word. first_unknown (texts only.now) (texts except.now) ≡ Some word.now) }
+            (λ word. first_unknown (selection_of all only.now except.now) ≡ Some word.now) }
     {
         match first_unknown(only, except) {
             Some(word) => Err(word),
-            None => Ok(Kinds::known_from_words(only, except)),
+            None => Ok(Kinds::known_from_words(all, only, except)),
         }
     }
 
-    /// The kinds that values select, each naming a kind.
-    fn known_from_words(only: &[&str], except: &[&str]) -> Kinds
-        ensures { AskFor result (texts only.now) (texts except.now) }
+    /// The kinds that options select, where each value names a kind.
+    fn known_from_words(all: bool, only: &[&str], except: &[&str]) -> Kinds
+        ensures { AskFor result (selection_of all only.now except.now) }
     {
         Kinds {
-            unused_output: is_asked_for(only, except, Kind::UnusedOutput),
-            missing_source: is_asked_for(only, except, Kind::MissingSource),
-            unused_rule: is_asked_for(only, except, Kind::UnusedRule),
-            unused_pool: is_asked_for(only, except, Kind::UnusedPool),
-            unused_variable: is_asked_for(only, except, Kind::UnusedVariable),
-            repeated_command: is_asked_for(only, except, Kind::RepeatedCommand),
-            depfile_without_deps: is_asked_for(only, except, Kind::DepfileWithoutDeps),
-            repeated_input: is_asked_for(only, except, Kind::RepeatedInput),
-            undeclared_input: is_asked_for(only, except, Kind::UndeclaredInput),
+            unused_output: is_asked_for(all, only, except, Kind::UnusedOutput),
+            missing_source: is_asked_for(all, only, except, Kind::MissingSource),
+            unused_rule: is_asked_for(all, only, except, Kind::UnusedRule),
+            unused_pool: is_asked_for(all, only, except, Kind::UnusedPool),
+            unused_variable: is_asked_for(all, only, except, Kind::UnusedVariable),
+            repeated_command: is_asked_for(all, only, except, Kind::RepeatedCommand),
+            depfile_without_deps: is_asked_for(all, only, except, Kind::DepfileWithoutDeps),
+            repeated_input: is_asked_for(all, only, except, Kind::RepeatedInput),
+            undeclared_input: is_asked_for(all, only, except, Kind::UndeclaredInput),
         }
     }
 
@@ -167,7 +162,7 @@ impl Kinds {
 /// The first value that names no kind.
 fn first_unknown<'a>(only: &[&'a str], except: &[&'a str]) -> Option<&'a str>
     ensures { option_map (λ word. word.now) result
-        ≡ first_unknown (texts only.now) (texts except.now) }
+        ≡ find is_unknown (texts only.now ++ texts except.now) }
 {
     only.iter()
         .chain(except.iter())
@@ -182,18 +177,20 @@ fn is_unknown(word: &str) -> bool
     !Kind::ALL.iter().any(|kind| word == kind.name())
 }
 
-/// Whether values select a kind.
-fn is_asked_for(only: &[&str], except: &[&str], kind: Kind) -> bool
-    ensures { result ≡ is_asked_for (texts only.now) (texts except.now) kind }
+/// Whether options select a kind.
+fn is_asked_for(all: bool, only: &[&str], except: &[&str], kind: Kind) -> bool
+    ensures { result ≡ is_asked_for (selection_of all only.now except.now) kind }
 {
-    is_taken(only, kind) && !is_named(except, kind)
+    is_taken(all, only, kind) && !is_named(except, kind)
 }
 
-/// Whether `--only` takes a kind. Without words it takes the kinds that are on by default.
-fn is_taken(only: &[&str], kind: Kind) -> bool
-    ensures { result ≡ is_taken (texts only.now) kind }
+/// Whether `--all` or `--only` takes a kind. Without them the kinds that are on by default are taken.
+fn is_taken(all: bool, only: &[&str], kind: Kind) -> bool
+    ensures { result ≡ is_taken all (texts only.now) kind }
 {
-    if only.is_empty() {
+    if all {
+        true
+    } else if only.is_empty() {
         kind.is_on_by_default()
     } else {
         is_named(only, kind)

@@ -17,7 +17,7 @@ use Rattle.nj_audit.specs.Audit.{repeated_commands, repeated_inputs, unused_outp
 use Rattle.nj_audit.specs.Audit.{unused_rules, unused_variables}
 use Rattle.nj_audit.specs.Audits.{IsAudit}
 use Rattle.nj_audit.specs.Findings.{FindingModel, edge_finding}
-use Rattle.nj_audit.specs.Kinds.{AskFor, contains}
+use Rattle.nj_audit.specs.Kinds.{AskFor, Selection, contains}
 use Rattle.nj_audit.specs.LoggedInputs.{AreFoundIf, finding_of_input}
 use Rattle.nj_audit.specs.Serving.{AreServing}
 use Rattle.nj_audit.specs.UnorderedFiles.{AreUnordered, AreNamedUnordered, IsUnordered, files_named}
@@ -32,17 +32,17 @@ use Rattle.nj_one_answer.proofs.UndeclaredAnswers.{those-agree}
 
 -- ---- kinds
 
-pub kinds-agree : (only except : List (List ℕ)) (unknown : Option (List ℕ))
+pub kinds-agree : (selection : Selection) (unknown : Option (List ℕ))
     (a b : Result Kinds (Bor (List ℕ)))
-    → IfOk a (λ kinds. AskFor kinds only except) → OnOk a (unknown ≡ None)
+    → IfOk a (λ kinds. AskFor kinds selection) → OnOk a (unknown ≡ None)
     → IfErr a (λ word. unknown ≡ Some word.now)
-    → IfOk b (λ kinds. AskFor kinds only except) → OnOk b (unknown ≡ None)
+    → IfOk b (λ kinds. AskFor kinds selection) → OnOk b (unknown ≡ None)
     → IfErr b (λ word. unknown ≡ Some word.now)
     → AgreeBoth SameKinds (λ one other. one.now ≡ other.now) a b
-kinds-agree only except unknown (Ok a) (Ok b) is _ _ also _ _ = λ kind. is kind ∙ sym (also kind)
-kinds-agree only except unknown (Ok a) (Err f) _ known _ _ _ bad = absurd (let e = sym known ∙ bad in cc)
-kinds-agree only except unknown (Err e) (Ok b) _ _ bad _ known _ = absurd (let f = sym known ∙ bad in cc)
-kinds-agree only except unknown (Err e) (Err f) _ _ bad _ _ bad2 =
+kinds-agree selection unknown (Ok a) (Ok b) is _ _ also _ _ = λ kind. is kind ∙ sym (also kind)
+kinds-agree selection unknown (Ok a) (Err f) _ known _ _ _ bad = absurd (let e = sym known ∙ bad in cc)
+kinds-agree selection unknown (Err e) (Ok b) _ _ bad _ known _ = absurd (let f = sym known ∙ bad in cc)
+kinds-agree selection unknown (Err e) (Err f) _ _ bad _ _ bad2 =
     let words : Some e.now ≡ Some f.now = sym bad ∙ bad2 in let same : e.now ≡ f.now = cc in same
 
 -- ---- edges that serve a command

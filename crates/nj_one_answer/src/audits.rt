@@ -73,13 +73,14 @@ pub fn findings_extend<'a>(
 
 /// Nothing is free.
 pub fn kinds_from_words<'a>(
+    all: bool,
     only: &[&'a str],
     except: &[&'a str],
 ) -> (Result<Kinds, &'a str>, Result<Kinds, &'a str>)
     ensures { AgreeBoth SameKinds (λ one other. one.now ≡ other.now) result.0 result.1 }
 {
     (
-        Kinds::from_words(only, except),
-        Kinds::from_words(only, except),
+        Kinds::from_words(all, only, except),
+        Kinds::from_words(all, only, except),
     )
 }

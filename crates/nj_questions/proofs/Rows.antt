@@ -30,7 +30,8 @@ changed = record {
 }
 
 abbrev findings : (only except : List (List ℕ)) (as_json lists : Bool) → AuditModel
-findings only except as_json lists = record { only = only; except = except; json = as_json; list = lists }
+findings only except as_json lists =
+    record { all = false; only = only; except = except; json = as_json; list = lists }
 
 abbrev drawn : (targets : List (List ℕ)) (of_affected folds : Bool) (limit inputs : Option ℕ) → DrawModel
 drawn targets of_affected folds limit inputs =
@@ -99,6 +100,11 @@ kinds_row : question_of (codes "audit" ∷ codes "--only" ∷ codes "unused-rule
     ≡ asks (audit (findings (codes "unused-rule" ∷ codes "x" ∷ []) (codes "unused-pool" ∷ []) false false))
 unfolding question_of command clap_on_literals
 kinds_row = refl
+
+audit_all_row : question_of (codes "audit" ∷ codes "--all" ∷ [])
+    ≡ asks (audit (record { all = true; only = []; except = []; json = false; list = false }))
+unfolding question_of command clap_on_literals
+audit_all_row = refl
 
 audit_flags_row : question_of (codes "audit" ∷ codes "--json" ∷ codes "--list" ∷ [])
     ≡ asks (audit (findings [] [] true true))

@@ -59,7 +59,8 @@ affected_options = long_option (codes "source-dir") ∷ short_flag (codes "zero-
 
 -- the options of `audit`
 abbrev pub audit_options : List Rule
-audit_options = repeated (codes "only") ∷ repeated (codes "except") ∷ flag (codes "json") ∷ flag (codes "list") ∷ []
+audit_options =
+    flag (codes "all") ∷ repeated (codes "only") ∷ repeated (codes "except") ∷ flag (codes "json") ∷ flag (codes "list") ∷ []
 
 -- the options of `draw`
 abbrev pub draw_options : List Rule

@@ -40,6 +40,7 @@ affected_in rows = record {
 -- the options of `audit`
 abbrev pub audit_in : List Row → AuditModel
 audit_in rows = record {
+  all = is_on (codes "all") rows;
   only = values_in (codes "only") rows;
   except = values_in (codes "except") rows;
   json = is_on (codes "json") rows;

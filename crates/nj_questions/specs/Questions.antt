@@ -35,6 +35,7 @@ pub record AffectedModel : Type 0 where
 
 -- `audit`: `only` and `except` are words of kinds of findings
 pub record AuditModel : Type 0 where
+  pub all : Bool
   pub only : List (List ℕ)
   pub except : List (List ℕ)
   pub json : Bool
@@ -125,6 +126,7 @@ affected_model options = record {
 -- the options of `audit`
 abbrev pub audit_model : AuditOptions → AuditModel
 audit_model options = record {
+  all = options.all;
   only = map string_bytes options.only.items;
   except = map string_bytes options.except.items;
   json = options.json;

@@ -102,6 +102,8 @@ pub struct AffectedOptions {
 /// The options of `audit`.
 #[derive(Drop)]
 pub struct AuditOptions {
+    /// `--all`: each kind is found.
+    pub all: bool,
     /// `--only KIND`: the words of the kinds to find; without any, those on by default.
     pub only: Vec<String>,
     /// `--except KIND`: the words of kinds not to find.

@@ -95,19 +95,20 @@ pub const AFFECTED_OPTIONS: [Entry; 8] = [
 
 pub const AUDIT: Topic = Topic {
     name: "audit",
-    about: "Write what is probably a mistake in the manifest, or of no use",
+    about: "Report likely mistakes and dead entries",
     more: "\
 A line is a finding: the place of its statement, its kind and a name. Status 3 means that there is
 one, or that standard error names a source that could not be looked up.",
 };
 
-pub const AUDIT_OPTIONS: [Entry; 4] = [
+pub const AUDIT_OPTIONS: [Entry; 5] = [
+    ("all", Form::Flag, "Report findings of every kind"),
     (
         "only",
         Form::Repeated("KIND"),
-        "Find this kind, in place of those on by default",
+        "Report this kind instead of undeclared-input",
     ),
-    ("except", Form::Repeated("KIND"), "Do not find this kind"),
+    ("except", Form::Repeated("KIND"), "Do not report this kind"),
     (
         "json",
         Form::Flag,

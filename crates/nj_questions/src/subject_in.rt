@@ -52,6 +52,7 @@ fn audit_in(alloc: Global, options: &ArgMatches<'_>) -> Result<AuditOptions, All
     ensures { IfOk result (λ read. audit_model read ≡ audit_in (rows_in options.now)) }
 {
     Ok(AuditOptions {
+        all: is_on(options, "all"),
         only: values_in(alloc, options, "only")?,
         except: values_in(alloc, options, "except")?,
         json: is_on(options, "json"),
