@@ -26,9 +26,10 @@ use Rattle.nj_audit.specs.UnorderedFiles.AreNamedUnordered.{no_edges, one_more}
 use Rattle.nj_audit.specs.declared.kinds.Kind.{Kind}
 use Rattle.nj_audit.specs.declared.kinds.Kind.TheVariants.{MissingSource, UndeclaredInput}
 use Rattle.nj_audit.specs.declared.kinds.Kinds.{Kinds}
-use Rattle.nj_one_answer.specs.Agreement.{AgreeBoth, AgreeIfOk}
+use Rattle.nj_agreement.proofs.FlagAnswers.{same-flag}
+use Rattle.nj_agreement.specs.Agreement.{AgreeBoth, AgreeIfOk}
 use Rattle.nj_one_answer.specs.AuditKinds.{SameKinds}
-use Rattle.nj_one_answer.proofs.UndeclaredAnswers.{those-agree}
+use Rattle.nj_agreement.proofs.UndeclaredAnswers.{those-agree}
 
 -- ---- kinds
 
@@ -46,11 +47,6 @@ kinds-agree selection unknown (Err e) (Err f) _ _ bad _ _ bad2 =
     let words : Some e.now ≡ Some f.now = sym bad ∙ bad2 in let same : e.now ≡ f.now = cc in same
 
 -- ---- edges that serve a command
-
-same-flag : (a b : Bool) → (a ≡ true → b ≡ true) → (b ≡ true → a ≡ true) → a ≡ b
-same-flag true b to from = sym (to refl)
-same-flag false true to from = from refl
-same-flag false false to from = refl
 
 abbrev flags : List Bool → ℕ → Bool
 flags given e = slice_index_or given e false

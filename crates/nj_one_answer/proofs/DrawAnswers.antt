@@ -17,7 +17,7 @@ use Rattle.nj_ask.specs.Endings.{Ending, fault_line, refused}
 use Rattle.nj_one_answer.specs.Answers.{OneAffectedDrawing, OneDrawAnswer, SameDrawing, drawing_of}
 use Rattle.nj_one_answer.specs.Answers.SameDrawing.{same, but_ties}
 use Rattle.nj_one_answer.proofs.NeededFaults.{clear-or-fault, fault-lines-agree}
-use Rattle.nj_one_answer.proofs.ReachedAnswers.{nearest-agree, rising-agree}
+use Rattle.nj_agreement.proofs.ReachedAnswers.{nearest-agree, rising-agree}
 use Rattle.nj_one_answer.proofs.WhyAnswers.{ok-or-err, same-err, same-ok}
 
 module _ (known : DiscoveredGraph) (entries : List ReadStatement) (options : DrawModel) where

@@ -19,10 +19,10 @@ use Rattle.nj_ask.specs.Endings.{answered}
 use Rattle.nj_ask.specs.KnownGraphs.{undeclared_in}
 use Rattle.nj_ask.specs.Shape.{caveat_text}
 use Rattle.nj_one_answer.specs.Answers.{OneAuditAnswer}
-use Rattle.nj_one_answer.specs.Sources.{TellAll}
+use Rattle.nj_agreement.specs.Sources.{TellAll}
 use Rattle.nj_one_answer.proofs.AuditAnswers.{findings-agree, last-apart, last-same, serving-agree}
 use Rattle.nj_one_answer.proofs.AuditAnswers.{sources-agree}
-use Rattle.nj_one_answer.proofs.DeclaredAnswers.{answer-is}
+use Rattle.nj_agreement.proofs.DeclaredAnswers.{answer-is}
 use Rattle.nj_one_answer.proofs.GivenAnswers.{some-or-none}
 
 module _ (g : GraphModel) (times : DeclaredTimes) (all : TellAll times) where

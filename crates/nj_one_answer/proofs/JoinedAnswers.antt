@@ -1,16 +1,11 @@
 -- Two graphs with the inputs that builds discovered, in sources that declare the same.
-use Rattle.std.proofs.Common.{◌≡◌, ◌⊎◌, inl, inr, ℕ, suc, ◌<◌, ◌≤◌, ◌+◌, Bool, cond, Result, Ok, Err}
+use Rattle.std.proofs.Common.{◌≡◌, inl, inr, ℕ, suc, ◌<◌, ◌+◌, Bool, cond, Result, Ok, Err}
 use Rattle.std.proofs.Common.{List, [], ◌∷◌, map, length, get_or, refl, sym, ap, subst, ◌∙◌, arith}
 use Rattle.std.specs.List.{flat_map, range_with_len}
-use Rattle.std.proofs.Math.Path.{fun_ext}
-use Rattle.std.proofs.lemmas.Bool.{cases_lt}
-use Rattle.std.proofs.lemmas.List.{get_or_past}
 use Rattle.nj_scope.specs.ReadingList.{ReadStatement}
 use Rattle.nj_scope.specs.Sources.{SourceState, Rises}
-use Rattle.nj_names.specs.NameTables.{name_at}
 use Rattle.nj_deps.specs.Logs.{LogModel}
-use Rattle.nj_discovered.specs.Discovered.{Discovery}
-use Rattle.nj_discovered.specs.Discoveries.{DiscoveriesModel, FoundModel, discovery_at, found_at}
+use Rattle.nj_discovered.specs.Discoveries.{DiscoveriesModel, FoundModel, discovery_at}
 use Rattle.nj_discovered.specs.Times.{DeclaredTimes}
 use Rattle.nj_discovered.specs.declared.verdict.Verdict.{Verdict}
 use Rattle.nj_discovered.specs.declared.verdict.Verdict.TheVariants.{Known}
@@ -29,52 +24,19 @@ use Rattle.nj_ask.specs.DiscoveredGraphs.{edge_discoveries, fault_text, fault_te
 use Rattle.nj_ask.specs.DiscoveredGraphs.{is_doubtful}
 use Rattle.nj_ask.specs.DiscoveredGraphs.{is_faulty, state_of}
 use Rattle.nj_ask.specs.DiscoveredGraphs.JoinsDiscovered.{joined, out_of_memory, refused}
-use Rattle.nj_one_answer.specs.Agreement.{AgreeUpTo}
+use Rattle.nj_agreement.specs.Agreement.{AgreeUpTo}
 use Rattle.nj_one_answer.specs.Discovered.{SameDiscovered}
-use Rattle.nj_one_answer.specs.Graphs.{SameDiscoveries}
-use Rattle.nj_one_answer.specs.Memory.{IsGraphOutOfMemory}
-use Rattle.nj_one_answer.specs.Sources.{DeclareSame, TellAll}
-use Rattle.nj_one_answer.proofs.DiscoverAnswers.{searches-agree}
-use Rattle.nj_one_answer.proofs.FileNumbers.{same-edges}
-use Rattle.nj_one_answer.proofs.GraphAnswers.{join-faults, joined-or-none, same-origins, same-stated}
+use Rattle.nj_agreement.specs.Graphs.{SameDiscoveries}
+use Rattle.nj_agreement.specs.Memory.{IsGraphOutOfMemory}
+use Rattle.nj_agreement.specs.Sources.{DeclareSame, TellAll}
+use Rattle.nj_agreement.proofs.DiscoverAnswers.{searches-agree}
+use Rattle.nj_agreement.proofs.FileNumbers.{same-edges}
+use Rattle.nj_agreement.proofs.FoundTwice.{all-inputs, all-verdicts, verdicts, verdicts-same}
+use Rattle.nj_agreement.proofs.GraphAnswers.{join-faults, joined-or-none, same-origins, same-stated}
 
 -- ---- what was found for each edge
 
 module _ (one other : DiscoveriesModel) (same : SameDiscoveries one other) where
-  abbrev nothing : FoundModel
-  nothing = record { verdict = Known; inputs = [] }
-
-  abbrev as_paths : DiscoveriesModel → FoundModel → Discovery
-  as_paths found edge = record { verdict = edge.verdict; inputs = map (name_at found.names) edge.inputs }
-
-  discovered-same : (edge : ℕ) → discovery_at one edge ≡ discovery_at other edge
-  discovered-same edge = by (cases_lt edge (length one.edges))
-    where
-      by : (edge < length one.edges) ⊎ (length one.edges ≤ edge)
-          → discovery_at one edge ≡ discovery_at other edge
-      by (inl below) = same.each edge below
-      by (inr past) =
-          let count = same.count in
-          let here : found_at one edge ≡ nothing = get_or_past one.edges edge nothing past in
-          let there : found_at other edge ≡ nothing =
-          get_or_past other.edges edge nothing (omega (arith, past, count)) in
-          ap (as_paths one) here ∙ sym (ap (as_paths other) there)
-
-  verdicts-same : (edge : ℕ) → (found_at one edge).verdict ≡ (found_at other edge).verdict
-  verdicts-same edge = ap (λ (d : Discovery). d.verdict) (discovered-same edge)
-
-  abbrev verdicts : DiscoveriesModel → ℕ → Verdict
-  verdicts found edge = (found_at found edge).verdict
-
-  all-verdicts : verdicts one ≡ verdicts other
-  all-verdicts = fun_ext verdicts-same
-
-  abbrev inputs : DiscoveriesModel → ℕ → List (List ℕ)
-  inputs found edge = (discovery_at found edge).inputs
-
-  pub all-inputs : inputs one ≡ inputs other
-  all-inputs = fun_ext (λ edge. ap (λ (d : Discovery). d.inputs) (discovered-same edge))
-
   -- the edges whose verdicts pass a test
   passing-same : (test : Verdict → Bool) (number : ℕ) (xs ys : List FoundModel) → length xs ≡ length ys
       → ((edge : ℕ) → edge < length xs → (get_or xs edge (record { verdict = Known; inputs = [] })).verdict
@@ -94,7 +56,8 @@ module _ (one other : DiscoveriesModel) (same : SameDiscoveries one other) where
 
   passing : (test : Verdict → Bool) → edges_from 0 (λ (f : FoundModel). test f.verdict) one.edges
       ≡ edges_from 0 (λ (f : FoundModel). test f.verdict) other.edges
-  passing test = passing-same test 0 one.edges other.edges same.count (λ edge below. verdicts-same edge)
+  passing test = passing-same test 0 one.edges other.edges same.count
+      (λ edge below. verdicts-same one other same edge)
 
   pub doubtful-same : doubtful_edges one ≡ doubtful_edges other
   doubtful-same = passing is_doubtful
@@ -104,13 +67,15 @@ module _ (one other : DiscoveriesModel) (same : SameDiscoveries one other) where
 
   pub texts-same : (entries : List ReadStatement) → fault_texts entries one ≡ fault_texts entries other
   texts-same entries =
-      ap (λ (v : ℕ → Verdict). map (λ edge. fault_text entries edge (v edge)) (faulty_edges one)) all-verdicts
+      ap (λ (v : ℕ → Verdict). map (λ edge. fault_text entries edge (v edge)) (faulty_edges one))
+      (all-verdicts one other same)
       ∙ ap (map (λ edge. fault_text entries edge (verdicts other edge))) faulty-same
 
   pub lines-same : (entries : List ReadStatement) → doubt_lines entries one ≡ doubt_lines entries other
   lines-same entries =
       ap (λ (v : ℕ → Verdict). flat_map (λ edge. doubt_line entries edge (v edge))
-      (range_with_len 0 (length one.edges))) all-verdicts
+      (range_with_len 0 (length one.edges)))
+      (all-verdicts one other same)
       ∙ ap (λ n. flat_map (λ edge. doubt_line entries edge (verdicts other edge)) (range_with_len 0 n))
       same.count
 
@@ -119,7 +84,8 @@ module _ (one other : DiscoveriesModel) (same : SameDiscoveries one other) where
       ap (λ (v : ℕ → Verdict). map (λ edge. let d : EdgeDiscovery = record {
         stated_inputs = length (edge_at edges edge).implicit_inputs;
         state = state_of (v edge);
-      } in d) (range_with_len 0 (length edges))) all-verdicts
+      } in d) (range_with_len 0 (length edges)))
+      (all-verdicts one other same)
 
 -- ---- the graphs
 

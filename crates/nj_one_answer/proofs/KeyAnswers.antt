@@ -18,10 +18,10 @@ use Rattle.nj_graph.specs.Handles.{GraphFiles}
 use Rattle.nj_keys.specs.Keys.{LinesAreUnique, ListsKeys}
 use Rattle.nj_keys.specs.Pages.{BeginsAfter, leads, left_at, makers_of_files}
 use Rattle.nj_keys.specs.declared.pages.Page.{Page}
-use Rattle.nj_one_answer.specs.Agreement.{AgreeUpTo}
+use Rattle.nj_agreement.specs.Agreement.{AgreeUpTo}
 use Rattle.nj_one_answer.specs.KeyPages.{SamePage}
-use Rattle.nj_one_answer.specs.Memory.{IsMarkOutOfMemory}
-use Rattle.nj_one_answer.proofs.ToolAnswers.{marks-after-agree}
+use Rattle.nj_agreement.specs.Memory.{IsMarkOutOfMemory}
+use Rattle.nj_agreement.proofs.MarkAnswers.{marks-after-agree}
 
 -- where a page from a mark stops, without the walk
 StopsFor : (files : GraphFiles) (begun : List ℕ) (take : Option ℕ) → Option (List ℕ) → Type 0

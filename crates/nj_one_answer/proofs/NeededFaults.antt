@@ -1,5 +1,5 @@
 -- The first fault of a depfile that files meet.
-use Rattle.std.proofs.Common.{◌≡◌, ◌==◌, inl, inr, ℕ, Bool, true, false, cond, Option, Some, None, List}
+use Rattle.std.proofs.Common.{◌≡◌, ◌==◌, inl, inr, ℕ, Bool, true, cond, Option, Some, None, List}
 use Rattle.std.proofs.Common.{[], ◌∷◌}
 use Rattle.std.proofs.Common.{refl, sym, ap, ◌∙◌, eq-eqb}
 use Rattle.std.specs.Prelude.{Contains, find}
@@ -13,11 +13,7 @@ use Rattle.nj_ask.specs.Answers.{HasDepfileFault, IsClear}
 use Rattle.nj_ask.specs.Endings.{program_line}
 use Rattle.nj_ask.specs.Manifest.{is_one_of}
 use Rattle.nj_ask.specs.NeededFaults.{IsFirstFault}
-
-pub same-flag : (a b : Bool) → (a ≡ true → b ≡ true) → (b ≡ true → a ≡ true) → a ≡ b
-same-flag true b to from = sym (to refl)
-same-flag false true to from = from refl
-same-flag false false to from = refl
+use Rattle.nj_agreement.proofs.FlagAnswers.{same-flag}
 
 is-there : (numbers : List ℕ) (n : ℕ) → Contains numbers n → is_one_of numbers n ≡ true
 is-there numbers n has = list_any-from_Any (λ other. n == other) numbers

@@ -20,8 +20,8 @@ use Rattle.nj_globs.specs.Laws.{OneReading}
 use Rattle.nj_ask.specs.Reports.{ChangeModel, IsReport, IsTouchedBy, changed_numbers}
 use Rattle.nj_ask.specs.Shape.{shape_text}
 use Rattle.nj_one_answer.specs.Answers.{OneAffectedAnswer}
+use Rattle.nj_agreement.proofs.ReachedAnswers.{rising-agree}
 use Rattle.nj_one_answer.proofs.GivenAnswers.{leaves-agree, some-or-none}
-use Rattle.nj_one_answer.proofs.ReachedAnswers.{rising-agree}
 
 module _ (reading : OneReading) (unique : WarningsAreUnique) (known : DiscoveredGraph)
     (entries : List ReadStatement) where

@@ -12,8 +12,8 @@ use Rattle.nj_ask.specs.Audits.{AnswersAudit}
 use Rattle.nj_ask.specs.Drawings.{drawing_text}
 use Rattle.nj_ask.specs.DrawnNodes.{drawn_nodes}
 use Rattle.nj_ask.specs.Endings.{Ending}
-use Rattle.nj_one_answer.specs.Graphs.{SameButTies}
-use Rattle.nj_one_answer.specs.Sources.{TellAll}
+use Rattle.nj_agreement.specs.Graphs.{SameButTies}
+use Rattle.nj_agreement.specs.Sources.{TellAll}
 
 -- only one output and one ending answer a question
 abbrev pub HasOneAnswer : (Is : (output : List ℕ) → Ending → Type 0) → Type 0

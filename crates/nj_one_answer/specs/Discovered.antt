@@ -2,7 +2,7 @@
 use Rattle.std.specs.Prelude.{◌≡◌, map}
 use Rattle.nj_graph.specs.Origins.{main_of}
 use Rattle.nj_ask.specs.declared.discovered.Discovered.{Discovered}
-use Rattle.nj_one_answer.specs.Graphs.{SameStated}
+use Rattle.nj_agreement.specs.Graphs.{SameStated}
 
 -- the same declarations and edges, with the same origins if the main file has the same name; and the same is not known of what builds
 -- discovered

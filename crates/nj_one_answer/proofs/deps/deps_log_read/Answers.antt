@@ -1,4 +1,4 @@
-use Rattle.nj_one_answer.proofs.DepsAnswers.{logs-agree}
+use Rattle.nj_agreement.proofs.DepsAnswers.{logs-agree}
 use Rattle.nj_one_answer.proofs.deps.deps_log_read.Goals as goal
 
 pub returns : goal.returns

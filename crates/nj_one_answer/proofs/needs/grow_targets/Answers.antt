@@ -1,7 +1,7 @@
 use Rattle.std.proofs.Common.{map}
 use Rattle.nj_names.specs.Files.{path_at}
 use Rattle.nj_needs.specs.Growing.{grown_targets}
-use Rattle.nj_one_answer.proofs.FileNumbers.{lists-agree}
+use Rattle.nj_agreement.proofs.FileNumbers.{lists-agree}
 use Rattle.nj_one_answer.proofs.needs.grow_targets.Goals as goal
 
 pub returns : goal.returns

@@ -1,5 +1,5 @@
 use Rattle.nj_needs.specs.MarkTexts.{given_mark}
-use Rattle.nj_one_answer.proofs.NeedsAnswers.{marks-agree}
+use Rattle.nj_agreement.proofs.NeedsAnswers.{marks-agree}
 use Rattle.nj_one_answer.proofs.needs.mark_read.Goals as goal
 
 pub returns : goal.returns

@@ -1,6 +1,6 @@
 use Rattle.std.proofs.Common.{[], ap, sym, ◌∙◌}
 use Rattle.nj_needs.specs.PageWalks.{written}
-use Rattle.nj_one_answer.proofs.NeedsAnswers.{at-once, ends-agree}
+use Rattle.nj_agreement.proofs.NeedsAnswers.{at-once, ends-agree}
 use Rattle.nj_one_answer.proofs.needs.needs_mark_after_page.Goals as goal
 
 pub returns : goal.returns

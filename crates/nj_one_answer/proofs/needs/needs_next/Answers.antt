@@ -2,8 +2,8 @@ use Rattle.std.proofs.Common.{◌≡◌, subst, sym}
 use Rattle.nj_cycles.specs.Cycles.{IsAcyclic}
 use Rattle.nj_needs.specs.Graphs.{count_of, makers_of}
 use Rattle.nj_needs.specs.Walks.{number_of}
-use Rattle.nj_one_answer.specs.Walks.{SameWalk}
-use Rattle.nj_one_answer.proofs.NeedsAnswers.{same-edges, steps-agree}
+use Rattle.nj_agreement.specs.Walks.{SameWalk}
+use Rattle.nj_agreement.proofs.NeedsAnswers.{same-edges, steps-agree}
 use Rattle.nj_one_answer.proofs.needs.needs_next.Goals as goal
 
 steps : (c : goal.After-next-2) → (number_of c.next.result ≡ number_of c.next-2.result)

@@ -2,8 +2,8 @@ use Rattle.std.proofs.Common.{◌≡◌, [], subst, sym}
 use Rattle.nj_cycles.specs.Cycles.{IsAcyclic}
 use Rattle.nj_needs.specs.Graphs.{count_of, makers_of}
 use Rattle.nj_needs.specs.Walks.{number_of}
-use Rattle.nj_one_answer.specs.Walks.{SameWalk, SameRoom}
-use Rattle.nj_one_answer.proofs.NeedsAnswers.{at-once, pages-agree, same-edges}
+use Rattle.nj_agreement.specs.Walks.{SameWalk, SameRoom}
+use Rattle.nj_agreement.proofs.NeedsAnswers.{at-once, pages-agree, same-edges}
 use Rattle.nj_one_answer.proofs.needs.needs_next_on_page.Goals as goal
 
 pages : (c : goal.After-next_on_page-2)

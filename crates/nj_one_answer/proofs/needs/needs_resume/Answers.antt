@@ -1,4 +1,4 @@
-use Rattle.nj_one_answer.proofs.NeedsAnswers.{resumes-agree}
+use Rattle.nj_agreement.proofs.NeedsAnswers.{resumes-agree}
 use Rattle.nj_one_answer.proofs.needs.needs_resume.Goals as goal
 
 pub returns : goal.returns

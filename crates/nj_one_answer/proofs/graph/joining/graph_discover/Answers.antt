@@ -1,4 +1,4 @@
-use Rattle.nj_one_answer.proofs.DiscoverAnswers.{searches-agree}
+use Rattle.nj_agreement.proofs.DiscoverAnswers.{searches-agree}
 use Rattle.nj_one_answer.proofs.graph.joining.graph_discover.Goals as goal
 
 pub returns : goal.returns

@@ -1,7 +1,7 @@
 use Rattle.std.proofs.Common.{subst}
 use Rattle.nj_graph.specs.Graph.{IsGraphOf}
 use Rattle.nj_graph.specs.DepsLogs.{inputs_logged, number_logged}
-use Rattle.nj_one_answer.proofs.GraphAnswers.{joins-agree, same-from}
+use Rattle.nj_agreement.proofs.GraphAnswers.{joins-agree, same-from}
 use Rattle.nj_one_answer.proofs.graph.joining.graph_join_deps.Goals as goal
 
 pub returns : goal.returns

@@ -1,7 +1,7 @@
 use Rattle.std.proofs.Common.{subst}
 use Rattle.nj_graph.specs.Graph.{IsGraphOf}
 use Rattle.nj_discovered.specs.Discoveries.{discovery_at}
-use Rattle.nj_one_answer.proofs.GraphAnswers.{joins-agree, same-from}
+use Rattle.nj_agreement.proofs.GraphAnswers.{joins-agree, same-from}
 use Rattle.nj_one_answer.proofs.graph.joining.graph_join_discovered.Goals as goal
 
 pub returns : goal.returns

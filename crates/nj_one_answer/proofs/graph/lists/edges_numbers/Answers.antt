@@ -1,5 +1,5 @@
 use Rattle.std.proofs.Common.{sym, ◌∙◌}
-use Rattle.nj_one_answer.proofs.FileNumbers.{same-edges}
+use Rattle.nj_agreement.proofs.FileNumbers.{same-edges}
 use Rattle.nj_one_answer.proofs.graph.lists.edges_numbers.Goals as goal
 
 pub returns : goal.returns

@@ -1,7 +1,7 @@
 use Rattle.std.proofs.Common.{sym, subst, ◌∙◌, bytes_eq}
 use Rattle.std.specs.List.{IsDistinct}
 use Rattle.nj_graph.specs.Graph.{files_of}
-use Rattle.nj_one_answer.proofs.FileNumbers.{same-by-paths}
+use Rattle.nj_agreement.proofs.FileNumbers.{same-by-paths}
 use Rattle.nj_one_answer.proofs.graph.lists.file_list_numbers.Goals as goal
 
 pub returns : goal.returns

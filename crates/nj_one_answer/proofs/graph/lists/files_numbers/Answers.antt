@@ -1,6 +1,6 @@
 use Rattle.std.proofs.Common.{sym, ◌∙◌}
 use Rattle.nj_graph.specs.Graph.{files_of}
-use Rattle.nj_one_answer.proofs.FileNumbers.{same-by-paths}
+use Rattle.nj_agreement.proofs.FileNumbers.{same-by-paths}
 use Rattle.nj_one_answer.proofs.graph.lists.files_numbers.Goals as goal
 
 pub returns : goal.returns

@@ -1,6 +1,6 @@
 use Rattle.nj_graph.specs.Graph.{edges_of, files_of}
 use Rattle.nj_statements.specs.Built.{defaults_in_force}
-use Rattle.nj_one_answer.proofs.FileNumbers.{same-numbers}
+use Rattle.nj_agreement.proofs.FileNumbers.{same-numbers}
 use Rattle.nj_one_answer.proofs.graph.lists.graph_defaults.Goals as goal
 
 pub returns : goal.returns

@@ -1,4 +1,4 @@
-use Rattle.nj_one_answer.proofs.LoadAnswers.{joins-agree}
+use Rattle.nj_agreement.proofs.LoadAnswers.{joins-agree}
 use Rattle.nj_one_answer.proofs.graph.loading.join_dyndeps.Goals as goal
 
 pub returns : goal.returns

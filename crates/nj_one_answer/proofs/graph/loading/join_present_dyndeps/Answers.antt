@@ -1,4 +1,4 @@
-use Rattle.nj_one_answer.proofs.LoadAnswers.{present-joins-agree}
+use Rattle.nj_agreement.proofs.LoadAnswers.{present-joins-agree}
 use Rattle.nj_one_answer.proofs.graph.loading.join_present_dyndeps.Goals as goal
 
 pub returns : goal.returns

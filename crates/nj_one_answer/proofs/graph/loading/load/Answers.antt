@@ -1,6 +1,6 @@
 use Rattle.std.proofs.Common.{[]}
 use Rattle.nj_graph.specs.Loads.{main_reached}
-use Rattle.nj_one_answer.proofs.LoadAnswers.{loads-agree, main-by-paths, main-kept}
+use Rattle.nj_agreement.proofs.LoadAnswers.{loads-agree, main-by-paths, main-kept}
 use Rattle.nj_one_answer.proofs.graph.loading.load.Goals as goal
 
 pub returns : goal.returns

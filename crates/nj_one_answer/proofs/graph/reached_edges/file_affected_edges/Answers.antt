@@ -1,6 +1,6 @@
 use Rattle.std.proofs.Common.{[], ◌∷◌}
 use Rattle.nj_graph.specs.Handles.{file_of}
-use Rattle.nj_one_answer.proofs.ReachedAnswers.{affected-agree}
+use Rattle.nj_agreement.proofs.ReachedAnswers.{affected-agree}
 use Rattle.nj_one_answer.proofs.graph.reached_edges.file_affected_edges.Goals as goal
 
 pub returns : goal.returns

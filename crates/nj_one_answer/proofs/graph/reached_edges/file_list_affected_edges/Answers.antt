@@ -1,4 +1,4 @@
-use Rattle.nj_one_answer.proofs.ReachedAnswers.{affected-agree}
+use Rattle.nj_agreement.proofs.ReachedAnswers.{affected-agree}
 use Rattle.nj_one_answer.proofs.graph.reached_edges.file_list_affected_edges.Goals as goal
 
 pub returns : goal.returns

@@ -1,4 +1,4 @@
-use Rattle.nj_one_answer.proofs.ReachedAnswers.{needed-agree}
+use Rattle.nj_agreement.proofs.ReachedAnswers.{needed-agree}
 use Rattle.nj_one_answer.proofs.graph.reached_edges.file_list_needed_edges.Goals as goal
 
 pub returns : goal.returns

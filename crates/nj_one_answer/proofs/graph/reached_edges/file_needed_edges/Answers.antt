@@ -1,6 +1,6 @@
 use Rattle.std.proofs.Common.{[], ◌∷◌}
 use Rattle.nj_graph.specs.Handles.{file_of}
-use Rattle.nj_one_answer.proofs.ReachedAnswers.{needed-agree}
+use Rattle.nj_agreement.proofs.ReachedAnswers.{needed-agree}
 use Rattle.nj_one_answer.proofs.graph.reached_edges.file_needed_edges.Goals as goal
 
 pub returns : goal.returns

@@ -1,7 +1,7 @@
 use Rattle.std.proofs.Common.{map}
 use Rattle.nj_graph.specs.Graph.{edges_of, files_of}
 use Rattle.nj_graph.specs.Targets.{targets_named}
-use Rattle.nj_one_answer.proofs.TargetAnswers.{targets-agree}
+use Rattle.nj_agreement.proofs.TargetAnswers.{targets-agree}
 use Rattle.nj_one_answer.proofs.graph.targets.graph_pick_named.Goals as goal
 
 pub returns : goal.returns

@@ -1,6 +1,6 @@
 use Rattle.nj_graph.specs.Graph.{edges_of}
 use Rattle.nj_graph.specs.Targets.{picked}
-use Rattle.nj_one_answer.proofs.TargetAnswers.{file-agrees}
+use Rattle.nj_agreement.proofs.TargetAnswers.{file-agrees}
 use Rattle.nj_one_answer.proofs.graph.targets.graph_target.Goals as goal
 
 pub returns : goal.returns

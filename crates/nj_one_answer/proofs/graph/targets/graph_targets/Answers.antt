@@ -2,7 +2,7 @@ use Rattle.std.proofs.Common.{map}
 use Rattle.nj_graph.specs.Graph.{edges_of}
 use Rattle.nj_statements.specs.Built.{defaults_in_force}
 use Rattle.nj_graph.specs.Targets.{targets_or}
-use Rattle.nj_one_answer.proofs.TargetAnswers.{files-agree}
+use Rattle.nj_agreement.proofs.TargetAnswers.{files-agree}
 use Rattle.nj_one_answer.proofs.graph.targets.graph_targets.Goals as goal
 
 pub returns : goal.returns

@@ -1,5 +1,5 @@
 use Rattle.nj_graph.specs.Graph.{files_of}
-use Rattle.nj_one_answer.proofs.UndeclaredAnswers.{undeclared-agree}
+use Rattle.nj_agreement.proofs.UndeclaredAnswers.{undeclared-agree}
 use Rattle.nj_one_answer.proofs.graph.undeclared.undeclared_inputs.Goals as goal
 
 pub returns : goal.returns

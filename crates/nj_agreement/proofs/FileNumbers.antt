@@ -7,7 +7,7 @@ use Rattle.std.proofs.lemmas.List.Elements.{All-head, All-tail}
 use Rattle.std.proofs.lemmas.Option.{slice_get_within}
 use Rattle.nj_names.specs.declared.files.FileNo.{FileNo}
 use Rattle.nj_names.specs.Files.{path_at, AreFiles}
-use Rattle.nj_one_answer.specs.Agreement.{AgreeIfOk}
+use Rattle.nj_agreement.specs.Agreement.{AgreeIfOk}
 use Rattle.nj_edges.specs.declared.edges.EdgeNo.{EdgeNo}
 use Rattle.nj_edges.proofs.ChainLemmas.{only-file}
 

@@ -17,9 +17,9 @@ use Rattle.nj_needs.specs.Walks.{WalkState, BeginsAt, IsSameWalk, NextIs, HasRet
 use Rattle.nj_needs.specs.Walks.{rest_of, IsFirstPlaceOf}
 use Rattle.nj_needs.proofs.Bridges.{AreWithin-from}
 use Rattle.nj_needs.proofs.PlaceLaws.{first-places_are_one}
-use Rattle.nj_one_answer.specs.Agreement.{AgreeUpTo, AgreeBut, AgreeIfOk}
-use Rattle.nj_one_answer.specs.Memory.{IsMarkOutOfMemory}
-use Rattle.nj_one_answer.specs.Walks.{SameWalk, SameRoom}
+use Rattle.nj_agreement.specs.Agreement.{AgreeUpTo, AgreeBut, AgreeIfOk}
+use Rattle.nj_agreement.specs.Memory.{IsMarkOutOfMemory}
+use Rattle.nj_agreement.specs.Walks.{SameWalk, SameRoom}
 
 -- ---- marks that are read
 
@@ -42,7 +42,7 @@ marks-agree meant (Err one) (Err MarkOutOfRange) _ _ _ none = absurd none
 
 -- ---- how walks begin
 
-same-begins : (g : EdgeGraph) (targets : List FileNo) (mark : List ℕ) (one other : WalkState)
+pub same-begins : (g : EdgeGraph) (targets : List FileNo) (mark : List ℕ) (one other : WalkState)
     → BeginsAt g targets mark one → BeginsAt g targets mark other → SameWalk one other
 same-begins g targets mark one other is also =
     let lefts : rest_of one.graph one.targets one.mark ≡ rest_of other.graph other.targets other.mark =

@@ -20,7 +20,7 @@ use Rattle.nj_discovered.specs.Times.IsTimeOf.{asked, not_asked}
 use Rattle.nj_graph.specs.Joining.{ArePresent}
 use Rattle.nj_graph.specs.Joining.ArePresent.{none, there, not_there, not_told}
 use Rattle.nj_graph.proofs.JoiningTables.{name-bad}
-use Rattle.nj_one_answer.specs.Sources.{TellAll}
+use Rattle.nj_agreement.specs.Sources.{TellAll}
 
 pub declared-is : {X : Type 0} (meant : Option X) (value other : X) → is_some meant ≡ true
     → IfSome meant (λ m. value ≡ m) → value ≡ unwrap_or meant other
@@ -33,18 +33,23 @@ declared-is (Some m) value other all is = is
 pub answer : DeclaredTimes → (path : List ℕ) → TimeFound
 answer times path = cond (is_utf8 path) (unwrap_or (times path) NoAnswer) NoAnswer
 
-pub answer-is : (times : DeclaredTimes) → TellAll times → (path : List ℕ) (found : TimeFound)
+-- where it is declared
+pub answer-at : (times : DeclaredTimes) (path : List ℕ) → is_some (times path) ≡ true → (found : TimeFound)
     → IsTimeOf times path found → found ≡ answer times path
 unfolding answer
-answer-is times all path found (asked utf8 meant) =
-    declared-is (times path) found NoAnswer (all path) (turned (times path) meant)
+answer-at times path told found (asked utf8 meant) =
+    declared-is (times path) found NoAnswer told (turned (times path) meant)
     ∙ sym (ap (λ b. cond b (unwrap_or (times path) NoAnswer) NoAnswer) (is_utf8-from_IsUtf8 path utf8))
   where
     turned : (o : Option TimeFound) → IfSome o (λ m. m ≡ found) → IfSome o (λ m. found ≡ m)
     turned None h = h
     turned (Some m) h = sym h
-answer-is times all path found (not_asked bad is) =
+answer-at times path told found (not_asked bad is) =
     is ∙ sym (ap (λ b. cond b (unwrap_or (times path) NoAnswer) NoAnswer) (name-bad path bad))
+
+pub answer-is : (times : DeclaredTimes) → TellAll times → (path : List ℕ) (found : TimeFound)
+    → IsTimeOf times path found → found ≡ answer times path
+answer-is times all path found is = answer-at times path (all path) found is
 
 -- a file is there
 is_there : TimeFound → Bool
@@ -96,6 +101,13 @@ module _ (files : List ℕ → Option (Option (List ℕ))) (all : (path : List �
           (subst (λ o. IfSome o (λ m. r.bytes ≡ m)) (same r.path) given.0)),
       as-declared source same readings given.1,
     )
+
+    pub declared-by : (readings : List Reading)
+        → AllByRecursion (λ r. r.bytes ≡ unwrap_or (files r.path) None) readings → AreDeclared readings
+    unfolding AreDeclared declared
+    declared-by [] are = tt
+    declared-by (r ∷ readings) are =
+        (ap (λ b. record { path = r.path; bytes = b }) are.0, declared-by readings are.1)
 
     -- what is read of a path is declared
     found-is : (readings : List Reading) → AreDeclared readings → (path : List ℕ)

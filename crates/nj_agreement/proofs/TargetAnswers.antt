@@ -11,9 +11,9 @@ use Rattle.nj_graph.specs.Graph.{GraphModel}
 use Rattle.nj_graph.specs.Handles.{GraphFiles, file_of}
 use Rattle.nj_graph.specs.declared.handles.File.{File}
 use Rattle.nj_graph.specs.Targets.{Picks, PicksFile, PicksFiles, PicksTargets}
-use Rattle.nj_one_answer.specs.Agreement.{AgreeUpTo, AgreeBut}
-use Rattle.nj_one_answer.specs.Memory.{IsGraphOutOfMemory}
-use Rattle.nj_one_answer.proofs.FileNumbers.{one-number, same-numbers}
+use Rattle.nj_agreement.specs.Agreement.{AgreeUpTo, AgreeBut}
+use Rattle.nj_agreement.specs.Memory.{IsGraphOutOfMemory}
+use Rattle.nj_agreement.proofs.FileNumbers.{one-number, same-numbers}
 
 oks : {X E : Type 0} (x y : X) (expected : Result X E) → expected ≡ Ok x → expected ≡ Ok y → x ≡ y
 oks x y expected is also = let e = sym is ∙ also in let same : Ok x ≡ Ok y = e in cc

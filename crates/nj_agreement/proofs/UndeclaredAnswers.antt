@@ -10,7 +10,7 @@ use Rattle.nj_deps.specs.Logs.{LogModel}
 use Rattle.nj_graph.specs.declared.undeclared.UndeclaredInput.{UndeclaredInput}
 use Rattle.nj_graph.specs.Undeclared.{AreThose, AreUndeclared, InputOfEdge, input_of_edge}
 use Rattle.nj_graph.specs.Undeclared.AreThose.{none, has_it, lacks_it}
-use Rattle.nj_one_answer.specs.Agreement.{AgreeIfOk}
+use Rattle.nj_agreement.specs.Agreement.{AgreeIfOk}
 
 pub those-agree : {A : Type 0} {P : A → Type 0} (items one other : List A) → AreThose P items one
     → AreThose P items other → one ≡ other
@@ -22,10 +22,10 @@ those-agree _ _ _ (lacks_it not are) (has_it is are2) = absurd (not is)
 those-agree _ _ _ (lacks_it not are) (lacks_it also are2) = those-agree _ _ _ are are2
 
 module _ (files : List (List ℕ)) (distinct : IsDistinct bytes_eq files) where
-  abbrev Known : UndeclaredInput → Type 0
+  abbrev pub Known : UndeclaredInput → Type 0
   Known input = input.file.0 < length files
 
-  same-inputs : (one other : List UndeclaredInput) → All Known one → All Known other
+  pub same-inputs : (one other : List UndeclaredInput) → All Known one → All Known other
       → map (input_of_edge files) one ≡ map (input_of_edge files) other → one ≡ other
   same-inputs [] [] known known2 are = refl
   same-inputs [] (j ∷ others) known known2 are = absurd cc

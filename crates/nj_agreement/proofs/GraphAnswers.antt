@@ -5,7 +5,7 @@ use Rattle.std.proofs.Common.{sym, ap, subst, ◌∙◌}
 use Rattle.std.proofs.lemmas.Bool.{cases_order}
 use Rattle.std.proofs.lemmas.Option.{same_Some}
 use Rattle.nj_scope.specs.ReadingList.{ReadStatement}
-use Rattle.nj_cycles.specs.Cycles.{IsAcyclic, IsLeastOnCycle, IsOnCycle}
+use Rattle.nj_cycles.specs.Cycles.{IsAcyclic, IsLeastOnCycle}
 use Rattle.nj_cycles.proofs.Ranks.{falling_ranks_leave_no_cycle}
 use Rattle.nj_edges.specs.Edges.{EdgePaths, first_output}
 use Rattle.nj_edges.specs.Needs.{makers_of_inputs}
@@ -14,12 +14,12 @@ use Rattle.nj_faults.specs.declared.fault.Cause.TheVariants.{Cycle}
 use Rattle.nj_faults.specs.Faults.{fault_at}
 use Rattle.nj_statements.specs.EdgeList.{EdgeModel, edges_read, paths_of_edges}
 use Rattle.nj_statements.specs.Built.{IsCycleFault}
-use Rattle.nj_graph.specs.Graph.{GraphModel, IsGraphOf, edges_of}
+use Rattle.nj_graph.specs.Graph.{GraphModel, IsGraphOf}
 use Rattle.nj_graph.specs.Origins.{OriginsModel, origins_read, main_of}
 use Rattle.nj_graph.specs.DepsLogs.{JoinsNamed, with_named}
-use Rattle.nj_one_answer.specs.Agreement.{AgreeUpTo}
-use Rattle.nj_one_answer.specs.Graphs.{SameGraph, SameStated}
-use Rattle.nj_one_answer.specs.Memory.{IsGraphOutOfMemory}
+use Rattle.nj_agreement.specs.Agreement.{AgreeUpTo}
+use Rattle.nj_agreement.specs.Graphs.{SameGraph, SameStated}
+use Rattle.nj_agreement.specs.Memory.{IsGraphOutOfMemory}
 
 -- ---- graphs
 
@@ -79,14 +79,20 @@ one-cycle edges one other is also =
     is.fault_is ∙ ap (λ (e : EdgeModel). fault_at e.file e.spot (Cycle is.output)) edge
     ∙ ap (λ o. fault_at also.edge.file also.edge.spot (Cycle o)) output ∙ sym also.fault_is
 
+-- edges of statements do not both lie on no cycle and have the fault of one
+pub acyclic-or-cycle : (entries : List ReadStatement) (fault : GraphFault)
+    → IsAcyclic (makers_of_inputs (paths_of_edges (edges_read entries)))
+    (length (paths_of_edges (edges_read entries)))
+    → IsCycleFault (edges_read entries) fault → ⊥
+acyclic-or-cycle entries fault acyclic cycle =
+    falling_ranks_leave_no_cycle (makers_of_inputs (paths_of_edges (edges_read entries))) acyclic.0
+    acyclic.1.falls cycle.number cycle.least.0
+
 pub no-cycle : (g : GraphModel) (entries : List ReadStatement) (fault : GraphFault) → IsGraphOf g entries
     → IsCycleFault (edges_read entries) fault → ⊥
-no-cycle g entries fault is cycle =
-    let acyclic : IsAcyclic (makers_of_inputs (edges_of g)) (length (edges_of g)) = is.acyclic in
-    let round : IsOnCycle (makers_of_inputs (edges_of g)) cycle.number =
-    subst (λ (es : List EdgePaths). IsOnCycle (makers_of_inputs es) cycle.number) (sym is.built.paths)
-    cycle.least.0 in
-    falling_ranks_leave_no_cycle (makers_of_inputs (edges_of g)) acyclic.0 acyclic.1.falls cycle.number round
+no-cycle g entries fault is cycle = acyclic-or-cycle entries fault
+    (subst (λ (es : List EdgePaths). IsAcyclic (makers_of_inputs es) (length es)) is.built.paths is.acyclic)
+    cycle
 
 -- ---- joined inputs
 

@@ -2,15 +2,17 @@
 use Rattle.std.proofs.Common.{◌≡◌, ◌⊎◌, inl, inr, ℕ, zero, suc, ◌<◌, List, [], ◌∷◌, length, refl, sym, ap}
 use Rattle.std.proofs.Common.{subst, ◌∙◌, arith}
 use Rattle.std.proofs.Common.{Result, Ok, Err, IfOk}
-use Rattle.std.specs.Prelude.{Contains, ◌↔◌, slice_index_or}
-use Rattle.std.specs.List.{AllPairs}
+use Rattle.std.specs.Prelude.{Contains, ◌↔◌, slice_index_or, nat_eq}
+use Rattle.std.specs.List.{AllPairs, IsDistinct}
 use Rattle.std.specs.List.Sorted.{IsStrictlyIncreasing}
 use Rattle.std.proofs.lemmas.List.Kept.{AllPairs-from_increasing}
+use Rattle.nj_edges.specs.Distances.{AreNearestFirst, IsNeeded}
+use Rattle.nj_edges.specs.Edges.{EdgePaths}
 use Rattle.nj_graph.specs.Changes.{IsAffected}
 use Rattle.nj_graph.specs.Graph.{GraphModel, edges_of}
 use Rattle.nj_graph.specs.Handles.{GraphEdge, ListsAffected, ListsNeeded, edges_in}
-use Rattle.nj_one_answer.specs.Agreement.{AgreeIfOk}
-use Rattle.nj_one_answer.specs.Graphs.{SameButTies}
+use Rattle.nj_agreement.specs.Agreement.{AgreeIfOk}
+use Rattle.nj_agreement.specs.Graphs.{SameButTies, SameNearestFirst}
 
 abbrev Among : List ℕ → ℕ → Type 0
 Among [] n = ⊥
@@ -85,7 +87,23 @@ affected-agree graph files (Ok a) (Err f) is also = tt
 affected-agree graph files (Err e) (Ok b) is also = tt
 affected-agree graph files (Err e) (Err f) is also = tt
 
--- edges that are needed, nearest first
+-- numbers of edges that are needed, nearest first
+pub nearest-numbers : (edges : List EdgePaths) (files : List (List ℕ)) (one other : List ℕ)
+    → ((edge : ℕ) → Contains one edge ↔ IsNeeded edges files edge)
+    → ((edge : ℕ) → Contains other edge ↔ IsNeeded edges files edge)
+    → IsDistinct nat_eq one → IsDistinct nat_eq other
+    → AreNearestFirst edges files one → AreNearestFirst edges files other
+    → SameNearestFirst edges files one other
+nearest-numbers edges files one other needed needed2 once once2 nearest nearest2 = record {
+  same = λ edge. (
+    (λ there. (needed2 edge).1 ((needed edge).0 there)),
+    (λ there. (needed edge).1 ((needed2 edge).0 there)),
+  );
+  once = (once, once2);
+  nearest_first = (nearest, nearest2);
+}
+
+-- the edges
 pub nearest-agree : (graph : GraphModel) (files : List (List ℕ)) (one other : List GraphEdge)
     → ListsNeeded graph files one → ListsNeeded graph files other → SameButTies graph files one other
 nearest-agree graph files one other is also = record {
@@ -93,12 +111,8 @@ nearest-agree graph files one other is also = record {
   others = also.numbers;
   one_is = is.found_are;
   other_is = also.found_are;
-  same = λ edge. (
-    (λ there. (also.needed edge).1 ((is.needed edge).0 there)),
-    (λ there. (is.needed edge).1 ((also.needed edge).0 there)),
-  );
-  once = (is.each_once, also.each_once);
-  nearest_first = (is.nearest_first, also.nearest_first);
+  same = nearest-numbers (edges_of graph) files is.numbers also.numbers is.needed also.needed is.each_once
+      also.each_once is.nearest_first also.nearest_first;
 }
 
 pub needed-agree : {E : Type 0} (graph : GraphModel) (files : List (List ℕ))

@@ -5,6 +5,7 @@ use Rattle.nj_scope.specs.Declarations.{DeclarationsModel}
 use Rattle.nj_scope.specs.Scopes.{bound_at, rule_at}
 use Rattle.nj_edge_env.specs.Blocks.{bound_in, names_in}
 use Rattle.nj_edges.specs.Distances.{AreNearestFirst}
+use Rattle.nj_edges.specs.Edges.{EdgePaths}
 use Rattle.nj_discovered.specs.Discoveries.{DiscoveriesModel, discovery_at}
 use Rattle.nj_statements.specs.Built.{BuiltModel}
 use Rattle.nj_graph.specs.Graph.{GraphModel, edges_of}
@@ -50,12 +51,17 @@ pub record SameDiscoveries (one other : DiscoveriesModel) : Type 0 where
   pub count : length one.edges ≡ length other.edges
   pub each : (edge : ℕ) → edge < length one.edges → discovery_at one edge ≡ discovery_at other edge
 
--- the same edges, without duplicates and nearest to the files first: so only edges that are equally far may have changed places
+-- The same edges, by number, without duplicates and nearest to the files first: so only edges that are equally far may have changed
+-- places.
+pub record SameNearestFirst (edges : List EdgePaths) (files : List (List ℕ)) (one other : List ℕ) : Type 0 where
+  pub same : (edge : ℕ) → Contains one edge ↔ Contains other edge
+  pub once : IsDistinct nat_eq one × IsDistinct nat_eq other
+  pub nearest_first : AreNearestFirst edges files one × AreNearestFirst edges files other
+
+-- so are edges of a graph
 pub record SameButTies (graph : GraphModel) (files : List (List ℕ)) (one other : List GraphEdge) : Type 0 where
   pub numbers : List ℕ
   pub others : List ℕ
   pub one_is : one ≡ edges_in graph numbers
   pub other_is : other ≡ edges_in graph others
-  pub same : (edge : ℕ) → Contains numbers edge ↔ Contains others edge
-  pub once : IsDistinct nat_eq numbers × IsDistinct nat_eq others
-  pub nearest_first : AreNearestFirst (edges_of graph) files numbers × AreNearestFirst (edges_of graph) files others
+  pub same : SameNearestFirst (edges_of graph) files numbers others

@@ -6,8 +6,8 @@ use Rattle.nj_deps.specs.declared.log_fault.DepsLogFault.{DepsLogFault}
 use Rattle.nj_deps.specs.declared.log_fault.DepsLogFault.TheVariants.{NoDepsLog, OtherVersion, OutOfMemory}
 use Rattle.nj_deps.proofs.LawLemmas.{says_one_thing, read_unless_no_memory}
 use Rattle.nj_deps.proofs.WordLemmas.{version_is}
-use Rattle.nj_one_answer.specs.Agreement.{AgreeBut}
-use Rattle.nj_one_answer.specs.Memory.{IsLogOutOfMemory}
+use Rattle.nj_agreement.specs.Agreement.{AgreeBut}
+use Rattle.nj_agreement.specs.Memory.{IsLogOutOfMemory}
 
 faults-agree : (bytes : List ℕ) (one other : DepsLogFault) → IsLogFault bytes one → IsLogFault bytes other
     → (one ≡ other) ⊎ (IsLogOutOfMemory one ⊎ IsLogOutOfMemory other)

@@ -1,0 +1,13 @@
+pub mod DeclaredAnswers
+pub mod DepsAnswers
+pub mod DiscoverAnswers
+pub mod FileNumbers
+pub mod FlagAnswers
+pub mod FoundTwice
+pub mod GraphAnswers
+pub mod LoadAnswers
+pub mod MarkAnswers
+pub mod NeedsAnswers
+pub mod ReachedAnswers
+pub mod TargetAnswers
+pub mod UndeclaredAnswers
