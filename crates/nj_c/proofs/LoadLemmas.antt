@@ -1,7 +1,7 @@
 -- The result of a load, and the part that a session keeps.
 use Rattle.std.specs.Global.{Vec}
 use Rattle.std.proofs.Common.{◌≡◌, ◌≢◌, ◌⊎◌, inl, inr, ℕ, suc, ◌==◌, Bool, true, false, if◌then◌else◌, Some}
-use Rattle.std.proofs.Common.{None, is_some, unwrap_or, Result, Ok, Err, List, [], ◌∷◌, length, map, refl}
+use Rattle.std.proofs.Common.{None, is_some, unwrap_or, Result, Ok, Err, IfOk, List, [], ◌∷◌, length, map, refl}
 use Rattle.std.proofs.Common.{sym, ap, subst, ◌∙◌, arith, true≢false}
 use Rattle.std.proofs.lemmas.Bool.Decides.{eqb_tells}
 use Rattle.std.specs.List.{AllByRecursion, filter_map}
@@ -11,6 +11,7 @@ use Rattle.nj_scope.specs.ReadingList.{ReadStatement}
 use Rattle.nj_faults.specs.declared.fault.GraphFault.{GraphFault}
 use Rattle.nj_faults.specs.Faults.{no_memory}
 use Rattle.nj_graph.specs.Graph.{GraphModel, IsGraphOf}
+use Rattle.nj_graph.specs.Origins.{main_of}
 use Rattle.nj_graph.specs.Loads.{LoadedModel, Loads}
 use Rattle.nj_graph.specs.Joining.{Joins}
 use Rattle.nj_c.specs.declared.session_state.Kept.{Kept}
@@ -72,7 +73,7 @@ supplied-loaded : (main : List ℕ) (before : SourceState) (between after : Supp
 supplied-loaded main before between after loaded false result loads none found gives =
     as-before between after gives.0 (first-none (wanted_paths between)
     (lacking_dyndeps between false loaded.graph) none).0 found
-supplied-loaded main before between after loaded true result loads none found (joined, is, joins) =
+supplied-loaded main before between after loaded true result loads none found (joined, is, origins, joins) =
     let nothing = first-none (wanted_paths between) (lacking_dyndeps between true loaded.graph) none in
     let stated = loads.2.entries in let graph = loads.2.graph_is in let reads = joins stated graph in
     record {
@@ -107,7 +108,8 @@ no-items (p ∷ ps) is = absurd (true≢false (sym (ap is-nil is)))
 module _ (before middle : Kept) (files : Supplied) (main : List ℕ) (joins : Bool)
     (loaded : Result LoadedModel GraphFault)
     (begun : middle.files ≡ unread before.files) (none : KeepsNothing middle) (nothing : LeavesNothing middle)
-    (run : SameRun before middle)
+    (run : SameRun before middle) (text : is_utf8 main ≡ true)
+    (named : IfOk loaded (λ l. main_of l.graph.origins ≡ main))
     (loads : Loads main (supplied_state (unread before.files)) (supplied_state files) loaded) where
   -- the session after the load, before anything of it is kept
   abbrev read : Kept
@@ -163,6 +165,7 @@ module _ (before middle : Kept) (files : Supplied) (main : List ℕ) (joins : Bo
           none.graph,
           none.fault,
           record {
+            text = text;
             loaded = loaded;
             loads = loads;
             found = found;
@@ -179,9 +182,11 @@ module _ (before middle : Kept) (files : Supplied) (main : List ℕ) (joins : Bo
       none-to-load found gives in
       keeps after others (λ path. all.same path ∙ same path) result status
       (record {
+        text = text;
         between = files;
         loaded = loaded;
         loads = loads;
+        main_is = named;
         none_to_load = none-to-load;
         gives = gives;
         found = all.found;
@@ -204,6 +209,12 @@ pub not_loaded : (before after : Kept) (main : List ℕ) (joins : Bool) → afte
 not_loaded before after main joins files none nothing run text =
     ((λ path. ap (λ f. supplied_for f path) files), nothing, run, (none, text))
 
+-- the main file of a load, by another text of its path
+pub main-named : (loaded : Result LoadedModel GraphFault) (path main : List ℕ) → path ≡ main
+    → IfOk loaded (λ l. main_of l.graph.origins ≡ path) → IfOk loaded (λ l. main_of l.graph.origins ≡ main)
+main-named loaded path main same is =
+    subst (λ p. IfOk loaded (λ l. main_of l.graph.origins ≡ p)) same is
+
 -- ---- how the graph is given
 
 pub gives_fault : (state : SourceState) (joins : Bool) (loaded : Result LoadedModel GraphFault)
@@ -223,8 +234,9 @@ pub gives_joined : (between after : SourceState) (joins : Bool) (whole : Result 
     (loaded : LoadedModel) (joined : Result LoadedModel GraphFault)
     (result : Result GraphModel GraphFault) → whole ≡ Ok loaded → joins ≡ true
     → ((stated : List ReadStatement) → IsGraphOf loaded.graph stated
-    → Joins stated loaded.files between after joined) → result ≡ graph_loaded joined
+    → Joins stated loaded.files between after joined)
+    → IfOk joined (λ j. j.graph.origins ≡ loaded.graph.origins) → result ≡ graph_loaded joined
     → GivesGraph between after joins whole result
-gives_joined between after joins whole loaded joined result is asked reads given =
+gives_joined between after joins whole loaded joined result is asked reads origins given =
     subst (λ l. GivesGraph between after joins l result) (sym is)
-    (subst (λ b. GivesGraph between after b (Ok loaded) result) (sym asked) (joined, given, reads))
+    (subst (λ b. GivesGraph between after b (Ok loaded) result) (sym asked) (joined, given, origins, reads))

@@ -21,19 +21,20 @@ module _ (before after : Kept) (bytes : List ℕ) (log : LogModel) (is : IsLogOf
   keeps : (result : Result GraphModel GraphFault) (status : Status)
       → IfOk result (λ joined. length (edges_of joined) ≡ length (edges_of g))
       → IfOk result (λ joined. IsPrefix (files_of g) (files_of joined))
+      → IfOk result (λ joined. joined.origins ≡ g.origins)
       → ((stated : List ReadStatement) → IsGraphOf g stated → JoinsLog log stated result)
       → KeepsJoined (record before { graph = None }) after log result status
       → JoinsDeps before after bytes status
-  keeps (Ok joined) status edges files joins (kept, done) =
-      subst (JoinsDeps before after bytes) (sym done) (g, was, (joined, log, is, kept, (edges, files), joins))
-  keeps (Err fault) status edges files joins (inl (failed, other, kept)) =
+  keeps (Ok joined) status edges files origins joins (kept, done) =
+      subst (JoinsDeps before after bytes) (sym done) (g, was, (joined, log, is, kept, (edges, files, origins), joins))
+  keeps (Err fault) status edges files origins joins (inl (failed, other, kept)) =
       subst (JoinsDeps before after bytes) (sym failed) (g, was, (fault, log, is, kept, other, joins))
-  keeps (Err fault) status edges files joins (inr (failed, kept)) =
+  keeps (Err fault) status edges files origins joins (inr (failed, kept)) =
       subst (JoinsDeps before after bytes) (sym failed) (some-is-not-none was, kept)
 
 -- the log of these bytes was joined
 pub joined : (before after : Kept) (bytes : List ℕ) (log : LogModel) (status : Status) → IsLogOf bytes log
     → JoinsKnown before after log status
     → JoinsDeps before after bytes status
-joined before after bytes log status is (g, result, was, edges, files, joins, kept) =
-    keeps before after bytes log is g was result status edges files joins kept
+joined before after bytes log status is (g, result, was, edges, files, origins, joins, kept) =
+    keeps before after bytes log is g was result status edges files origins joins kept

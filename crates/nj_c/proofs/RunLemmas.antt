@@ -1,6 +1,7 @@
 -- The session after a run.
 use Rattle.std.proofs.Common.{◌≡◌, ◌≢◌, inl, inr, ℕ, ◌+◌, ◌-◌, ◌^◌, min, ℤ, pos, Bool, true, false, Ok, Err}
 use Rattle.std.proofs.Common.{Result, List, [], refl, sym, ap, subst, ◌∙◌, arith, true≢false}
+use Rattle.std.specs.Str.{is_utf8}
 use Rattle.nj_tools.specs.MemorySinks.{state_of}
 use Rattle.nj_requests.specs.Actions.{ActionModel, RequestModel}
 use Rattle.nj_args.specs.Requests.{request_of}
@@ -121,15 +122,18 @@ same-load before middle after one two = record {
 }
 
 pub runs-kept : (before middle after : Kept) (text : List ℕ) (words : List (List ℕ)) (exit new : ℤ)
-    (status : Status) → middle.files ≡ unread before.files
+    (status : Status) → is_utf8 text ≡ true → middle.files ≡ unread before.files
     → SameLoad before middle → words ≡ given_words text → SameFiles middle.files after.files
     → SameLoad middle after
     → LeavesRun middle.files after words exit new status → RunsKept before after text exit new status
-runs-kept before middle after text words exit new status begun one are files two ends = (
+runs-kept before middle after text words exit new status utf8 begun one are files two ends = (
   (λ path. files path ∙ ap (λ f. supplied_for f path) begun),
   same-load before middle after one two,
-  inl (subst (λ ws. LeavesRun (unread before.files) after ws exit new status) are
-      (subst (λ f. LeavesRun f after words exit new status) begun ends)),
+  inl (
+    utf8,
+    subst (λ ws. LeavesRun (unread before.files) after ws exit new status) are
+        (subst (λ f. LeavesRun f after words exit new status) begun ends),
+  ),
 )
 
 pub not-run : (before middle : Kept) (text : List ℕ) (exit : ℤ) (status : Status)
@@ -137,11 +141,14 @@ pub not-run : (before middle : Kept) (text : List ℕ) (exit : ℤ) (status : St
     → middle.wanted.items ≡ [] → WordsRefused text status → RunsKept before middle text exit exit status
 not-run before middle text exit status begun one none wanted (inl (is, why)) =
     ((λ path. ap (λ f. supplied_for f path) begun), one, inr (is, why, refl, no-output middle none, wanted))
-not-run before middle text exit status begun one none wanted (inr is) = (
+not-run before middle text exit status begun one none wanted (inr (is, utf8)) = (
   (λ path. ap (λ f. supplied_for f path) begun),
   one,
-  inl (subst (LeavesRun (unread before.files) middle (given_words text) exit exit) (sym is)
-      (refl, no-output middle none, wanted)),
+  inl (
+    utf8,
+    subst (LeavesRun (unread before.files) middle (given_words text) exit exit) (sym is)
+        (refl, no-output middle none, wanted),
+  ),
 )
 
 -- ---- its status
@@ -154,7 +161,7 @@ other-status : (status is : run.Status) → is-failed is ≡ false → status �
 other-status status is other same failed = true≢false (ap is-failed (sym failed ∙ same) ∙ other)
 
 -- a sink that failed counts that
-fails-once : (old new : SinkState) (front : List ℕ) → old ≡ untouched → FailsAfter old new front
+pub fails-once : (old new : SinkState) (front : List ℕ) → old ≡ untouched → FailsAfter old new front
     → new.failures ≡ 0 → ⊥
 fails-once old new front begun fails none =
     let one : min (0 + 1) (2 ^ 64 - 1) ≡ 0 =

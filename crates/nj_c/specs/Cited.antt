@@ -39,6 +39,7 @@ pub use Rattle.nj_needs.specs.Graphs.{makers_of, row_of}
 pub use Rattle.nj_needs.specs.Marks.{is_valid}
 pub use Rattle.nj_c.specs.Paths.{numbered_step, GivesPath, StepsKeptUnlessDone}
 pub use Rattle.nj_c.specs.Targets.{PicksFile}
+pub use Rattle.std.specs.Str.{is_utf8}
 pub use Rattle.nj_c.specs.Inside.RunsHeld.{empty_memory, FinishesRun, KeepsRun, NoFailures, NoRun, Ran, WordsRefused}
 pub use Rattle.nj_scope.specs.Sources.{outcome_bytes}
 pub use Rattle.nj_c.specs.Inside.SuppliedHeld.{read_bytes, wanted_of}

@@ -129,7 +129,8 @@ abbrev pub JoinsDiscovered : (before after : Kept) → (bytes times : List ℕ) 
 JoinsDiscovered before after bytes times NotLoaded = (before.graph ≡ None) × (after ≡ before)
 JoinsDiscovered before after bytes times BadNumber =
     (g : GraphModel) × (before.graph ≡ Some g) × (after ≡ before) × (length times ≢ length (edges_of g))
-JoinsDiscovered before after bytes times BadLog = (before.graph ≢ None) × (after ≡ before) × IsNoLog (log_bytes bytes)
+JoinsDiscovered before after bytes times BadLog =
+    (g : GraphModel) × (before.graph ≡ Some g) × (length times ≡ length (edges_of g)) × (after ≡ before) × IsNoLog (log_bytes bytes)
 JoinsDiscovered before after bytes times OutOfMemory = (before.graph ≢ None) × ForgetsGraph before after
 JoinsDiscovered before after bytes times status =
     (g : GraphModel) × (log : LogModel) × (before.graph ≡ Some g) × (length times ≡ length (edges_of g)) × IsLogOf (log_bytes bytes) log

@@ -25,10 +25,11 @@ read_of log = record { size = log.size; is_whole = log.is_whole }
 abbrev pub JoinsToGraph : GraphModel → LogModel → Result GraphModel GraphFault → Type 0
 JoinsToGraph g log result = (stated : List ReadStatement) → IsGraphOf g stated → JoinsLog log stated result
 
--- edges and files keep their numbers, and new files come after them
+-- edges and files keep their numbers, and new files come after them; and rules, pools and openings keep their places
 abbrev pub KeepsNumbers : (before after : GraphModel) → Type 0
 KeepsNumbers before after =
     (length (edges_of after) ≡ length (edges_of before)) × IsPrefix (files_of before) (files_of after)
+    × (after.origins ≡ before.origins)
 
 -- The session after joining, by its status. After a fault, and where an allocation failed, no graph is left.
 abbrev pub JoinsDeps : (before after : Kept) → (bytes : List ℕ) → Status → Type 0

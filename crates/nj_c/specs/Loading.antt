@@ -1,5 +1,5 @@
 -- Opening a session, supplying files, and loading.
-use Rattle.std.specs.Prelude.{◌≡◌, ◌≢◌, ◌⊎◌, ℕ, ℤ, Bool, true, false, ◌&&◌, not, if◌then◌else◌, List, [], ◌∷◌, map, bytes_eq, Option, Some, None, is_some, MatchOption, Result, Ok, Err}
+use Rattle.std.specs.Prelude.{◌≡◌, ◌≢◌, ◌⊎◌, ℕ, ℤ, Bool, true, false, ◌&&◌, not, if◌then◌else◌, List, [], ◌∷◌, map, bytes_eq, Option, Some, None, is_some, IfOk, MatchOption, Result, Ok, Err}
 use Rattle.std.specs.List.{filter, filter_map}
 use Rattle.std.specs.Str.{is_utf8}
 use Rattle.nj_scope.specs.ReadingList.{ReadStatement}
@@ -8,6 +8,7 @@ use Rattle.nj_edges.specs.Repeats.{each_once}
 use Rattle.nj_faults.specs.declared.fault.GraphFault.{GraphFault}
 use Rattle.nj_faults.specs.Faults.{no_memory}
 use Rattle.nj_graph.specs.Graph.{GraphModel, IsGraphOf}
+use Rattle.nj_graph.specs.Origins.{main_of}
 use Rattle.nj_graph.specs.Loads.{LoadedModel, Loads}
 use Rattle.nj_graph.specs.Joining.{Joins}
 use Rattle.nj_c.specs.declared.session_state.Kept.{Kept}
@@ -102,6 +103,7 @@ abbrev pub JoinsGraph : (between after : SourceState) → (joins : Bool) → Loa
 JoinsGraph between after false loaded result = (after ≡ between) × (result ≡ Ok loaded.graph)
 JoinsGraph between after true loaded result =
     (joined : Result LoadedModel GraphFault) × (result ≡ graph_loaded joined)
+    × IfOk joined (λ j. j.graph.origins ≡ loaded.graph.origins)
     × ((stated : List ReadStatement) → IsGraphOf loaded.graph stated → Joins stated loaded.files between after joined)
 
 -- the graph, with its dyndep files joined if that is requested
@@ -110,19 +112,22 @@ abbrev pub GivesGraph : (between after : SourceState) → (joins : Bool) → Res
 GivesGraph between after joins (Ok loaded) result = JoinsGraph between after joins loaded result
 GivesGraph between after joins (Err fault) result = (after ≡ between) × (result ≡ Err fault)
 
--- A main file was loaded from the supplied files, and nothing was wanted; so all files read then, dyndep files among them, were
--- supplied.
+-- A main file, whose path is UTF-8, was loaded from the supplied files, and nothing was wanted; so all files read then, dyndep files
+-- among them, were supplied.
 pub record LoadsFiles (before after : Supplied) (main : List ℕ) (joins : Bool) (result : Result GraphModel GraphFault) : Type 0 where
+  pub text : is_utf8 main ≡ true
   pub between : Supplied
   pub loaded : Result LoadedModel GraphFault
   pub loads : Loads main (supplied_state (unread before)) (supplied_state between) loaded
+  pub main_is : IfOk loaded (λ l. main_of l.graph.origins ≡ main)
   pub none_to_load : paths_to_load between joins loaded ≡ []
   pub gives : GivesGraph (supplied_state between) (supplied_state after) joins loaded result
   pub found : ReadsAsSupplied after
   pub none_wanted : wanted_paths after ≡ []
 
--- A main file was loaded from the supplied files, and paths are wanted, which are listed.
+-- A main file, whose path is UTF-8, was loaded from the supplied files, and paths are wanted, which are listed.
 pub record WantsFiles (before after : Kept) (main : List ℕ) (joins : Bool) : Type 0 where
+  pub text : is_utf8 main ≡ true
   pub loaded : Result LoadedModel GraphFault
   pub loads : Loads main (supplied_state (unread before.files)) (supplied_state after.files) loaded
   pub found : ReadsAsSupplied after.files

@@ -1,5 +1,5 @@
 -- Runs of the program over the supplied files.
-use Rattle.std.specs.Prelude.{◌≡◌, ◌≢◌, ◌⊎◌, ◌==◌, ℕ, ℤ, pos, Bool, false, List, [], ◌∷◌, ◌++◌, All, Some}
+use Rattle.std.specs.Prelude.{◌≡◌, ◌≢◌, ◌⊎◌, ◌==◌, ℕ, ℤ, pos, Bool, true, false, List, [], ◌∷◌, ◌++◌, All, Some}
 use Rattle.std.specs.List.{flat_map, slice_split}
 use Rattle.std.specs.Str.{is_utf8}
 use Rattle.nj_tools.specs.Sinks.{SinkState}
@@ -88,10 +88,10 @@ LeavesRun begun after words exit_before exit_after OutOfMemory =
     (exit_after ≡ exit_before) × KeepsNoOutput after × (after.wanted.items ≡ [])
 LeavesRun begun after words exit_before exit_after other = ⊥
 
--- The same of a text, which gives the words, unless it is not UTF-8.
+-- The same of a text, which gives the words if it is UTF-8.
 abbrev pub LeavesRunOfText : (before after : Kept) → (text : List ℕ) → (exit_before exit_after : ℤ) → Status → Type 0
 LeavesRunOfText before after text exit_before exit_after status =
-    LeavesRun (unread before.files) after (given_words text) exit_before exit_after status
+    ((is_utf8 text ≡ true) × LeavesRun (unread before.files) after (given_words text) exit_before exit_after status)
     ⊎ ((status ≡ NotUtf8) × (is_utf8 text ≡ false) × (exit_after ≡ exit_before) × KeepsNoOutput after × (after.wanted.items ≡ []))
 
 -- The supplied files and the load stay the same in a run.

@@ -1,7 +1,7 @@
 //! The words of a run, in one text.
 
-ghost use Rattle.std.specs.Prelude.{◌≡◌, ◌≢◌, ◌∷◌, ◌<◌, [], IfErr, IfOk, length, map, string_bytes};
-ghost use Rattle.nj_c.specs.Cited.{given_words, WordsRefused};
+ghost use Rattle.std.specs.Prelude.{◌≡◌, ◌≢◌, ◌∷◌, ◌<◌, [], IfErr, IfOk, OnOk, length, map, string_bytes, true};
+ghost use Rattle.nj_c.specs.Cited.{given_words, is_utf8, WordsRefused};
 
 use crate::status::Status;
 use std::alloc::{AllocError, Global};
@@ -9,6 +9,7 @@ use std::alloc::{AllocError, Global};
 /// The arguments of a text; each ends before a zero byte or at the end of the text.
 pub(crate) fn words_in(alloc: Global, text: &[u8]) -> Result<Vec<String>, Status>
     ensures words { IfOk result (λ words. map string_bytes words.items ≡ given_words text.now) }
+    ensures text { OnOk result (is_utf8 text.now ≡ true) }
     ensures refused { IfErr result (WordsRefused text.now) }
 {
     let Ok(text) = str::from_utf8(text) else {

@@ -23,6 +23,6 @@ abbrev pub JoinsKnown : (before after : Kept) → LogModel → Status → Type 0
 JoinsKnown before after log status =
     (g : GraphModel) × (result : Result GraphModel GraphFault) × (before.graph ≡ Some g)
     × IfOk result (λ joined. length (edges_of joined) ≡ length (edges_of g))
-    × IfOk result (λ joined. IsPrefix (files_of g) (files_of joined))
+    × IfOk result (λ joined. IsPrefix (files_of g) (files_of joined)) × IfOk result (λ joined. joined.origins ≡ g.origins)
     × ((stated : List ReadStatement) → IsGraphOf g stated → JoinsLog log stated result)
     × KeepsJoined (record before { graph = None }) after log result status

@@ -1,5 +1,5 @@
 -- How a session keeps the output of a run.
-use Rattle.std.specs.Prelude.{◌≡◌, ◌≢◌, ◌⊎◌, ℕ, false, List, [], None}
+use Rattle.std.specs.Prelude.{◌≡◌, ◌≢◌, ◌⊎◌, ℕ, true, false, List, [], None}
 use Rattle.std.specs.Str.{is_utf8}
 use Rattle.nj_tools.specs.MemorySinks.{Memory, state_of}
 use Rattle.nj_cli.specs.declared.status.Status as run
@@ -14,7 +14,7 @@ use Rattle.nj_c.specs.Runs.{untouched}
 
 -- why a text gives no words
 abbrev pub WordsRefused : (text : List ℕ) → Status → Type 0
-WordsRefused text status = ((status ≡ NotUtf8) × (is_utf8 text ≡ false)) ⊎ (status ≡ OutOfMemory)
+WordsRefused text status = ((status ≡ NotUtf8) × (is_utf8 text ≡ false)) ⊎ ((status ≡ OutOfMemory) × (is_utf8 text ≡ true))
 
 -- a new sink in memory
 abbrev pub empty_memory : Memory

@@ -2,7 +2,8 @@ use Rattle.std.proofs.Common.{◌≡◌, false, subst, rules}
 use Rattle.std.specs.Str.{is_utf8}
 use Rattle.nj_graph.specs.Loads.{Loads}
 use Rattle.nj_c.specs.SuppliedFiles.{supplied_state}
-use Rattle.nj_c.proofs.LoadLemmas.{loads_kept, not_loaded}
+use Rattle.std.proofs.lemmas.Str.{is_utf8-from_IsUtf8}
+use Rattle.nj_c.proofs.LoadLemmas.{loads_kept, main-named, not_loaded}
 use Rattle.nj_c.proofs.loads.load_main.Goals as goal
 
 pub returns-in_default : goal.returns-in_default
@@ -24,4 +25,6 @@ returns c =
     named in
     loads_kept c.args.kept.now c.forget_load.new.kept files c.args.main.now c.args.joins loaded begun
     c.forget_load.ensures.nothing c.forget_load.ensures.lists
-    c.forget_load.ensures.run loads c.finish_load.new.kept c.finish_load.result c.finish_load.ensures
+    c.forget_load.ensures.run (is_utf8-from_IsUtf8 c.args.main.now c.in-Ok.ensures.cases.1)
+    (main-named loaded c.in-Ok.main.now c.args.main.now c.in-Ok.ensures.cases.0 c.load-loaded.ensures.main)
+    loads c.finish_load.new.kept c.finish_load.result c.finish_load.ensures
