@@ -1,14 +1,12 @@
 -- Two answers about the contents of a session, its graph, and the edges and files of that.
-use Rattle.std.proofs.Common.{◌≡◌, ◌≢◌, ◌⊎◌, inl, inr, ◌<◌, ℕ, ℤ, List, [], ◌∷◌, Option, Some, None}
-use Rattle.std.proofs.Common.{MatchOption, unwrap_or, get_or, length, drop, map, slice_get, refl, sym, ap}
+use Rattle.std.proofs.Common.{◌≡◌, ◌≢◌, ℕ, ℤ, List, [], ◌∷◌, Option, Some, None}
+use Rattle.std.proofs.Common.{MatchOption, get_or, length, drop, map, slice_get, sym, ap}
 use Rattle.std.proofs.Common.{subst, ◌∙◌, bytes_eq}
 use Rattle.std.specs.Prelude.{⊤}
 use Rattle.std.specs.List.{IsDistinct}
-use Rattle.std.proofs.lemmas.Option.{slice_get_within, slice_get-get_or}
-use Rattle.nj_names.specs.declared.files.FileNo.{FileNo}
-use Rattle.nj_names.specs.Files.{AreFiles, path_at}
-use Rattle.nj_edges.proofs.ChainLemmas.{only-file}
-use Rattle.nj_c.specs.declared.status.Status.TheVariants.{Done, Nothing, NotLoaded, NotOpen, OutOfMemory}
+use Rattle.std.proofs.lemmas.Option.{slice_get-get_or}
+use Rattle.nj_agreement.proofs.FileNumbers.{one-number, same-numbers}
+use Rattle.nj_c.specs.declared.status.Status.TheVariants.{Done, Nothing, NotLoaded, NotOpen}
 use Rattle.nj_c.specs.Asking.{IfNumber, GivesFile, GivesItem, GivesText, GivesTextOrNot, GivesTextAt}
 use Rattle.nj_c.specs.Asking.{GivesMark, KeptUnlessDone}
 use Rattle.nj_c.specs.Buffers.{filled, GivesFiles, GivesNumbers}
@@ -93,6 +91,23 @@ module _ {one other : ℤ} {Same : Type 0} (refuse : Refuses one other Same) {K 
         by None is also = refuse NotOpen not-open is also
         by (Some kept) is also = within (graph kept) is also
 
+    pub at-known-stated : (session session2 : Option K) → session ≡ session2 → (knows D F : G → Type 0)
+        → ((g : G) (e : E) → Is g e → knows g → D g → F g → Same) → Known graph session knows
+        → OfGraph graph session one D → OfGraph graph session2 other F → OfStated graph Is session Same
+    at-known-stated session session2 alike knows D F both known is also =
+        by session known is (subst (λ s. OfGraph graph s other F) (sym alike) also)
+      where
+        within : (g : Option G) → MatchOption g ⊤ knows → MatchOption g (one ≡ code_of NotLoaded) D
+            → MatchOption g (other ≡ code_of NotLoaded) F
+            → MatchOption g Same (λ h. (e : E) → Is h e → Same)
+        within None known is also = refuse NotLoaded not-loaded is also
+        within (Some g) known is also = λ e are. both g e are known is also
+
+        by : (s : Option K) → Known graph s knows → OfGraph graph s one D → OfGraph graph s other F
+            → OfStated graph Is s Same
+        by None known is also = refuse NotOpen not-open is also
+        by (Some kept) known is also = within (graph kept) known is also
+
 -- something else is the same, too
 also-given : (one other : ℤ) (Same More : Type 0) → More → SameAnswer one other Same
     → SameAnswer one other (Same × More)
@@ -105,31 +120,13 @@ module _ (files : List (List ℕ)) (distinct : IsDistinct bytes_eq files) where
   pub one-file : (f h : ℕ) (path : List ℕ) → slice_get files f ≡ Some path → slice_get files h ≡ Some path
       → f ≡ h
   one-file f h path is also =
-      ap (λ n. n.0) (only-file files distinct (record { 0 = f }) (record { 0 = h })
-      (slice_get_within files f path is) (slice_get_within files h path also)
-      (ap (λ o. unwrap_or o []) (is ∙ sym also)))
+      ap (λ n. n.0) (one-number files distinct (record { 0 = f }) (record { 0 = h }) path is also)
 
   pub files-agree : (one other : ℤ) (path : Option (List ℕ)) (file file2 : ℕ) → GivesFile files path one file
       → GivesFile files path other file2 → SameAnswer one other (file ≡ file2)
   files-agree one other path file file2 is also =
       items-agree one other path (λ p. slice_get files file ≡ Some p) (λ p. slice_get files file2 ≡ Some p)
       (file ≡ file2) (λ p _ a b. one-file file file2 p a b) is also
-
-  same-numbers : (ns others : List FileNo) (paths : List (List ℕ)) → AreFiles files ns paths
-      → AreFiles files others paths → ns ≡ others
-  same-numbers [] [] paths is also = refl
-  same-numbers [] (h ∷ others) [] is also = absurd cc
-  same-numbers [] (h ∷ others) (path ∷ paths) is also = absurd cc
-  same-numbers (f ∷ ns) [] [] is also = absurd cc
-  same-numbers (f ∷ ns) [] (path ∷ paths) is also = absurd cc
-  same-numbers (f ∷ ns) (h ∷ others) [] is also = absurd cc
-  same-numbers (f ∷ ns) (h ∷ others) (path ∷ paths) is also =
-      let first : slice_get files f.0 ≡ Some path = cc in
-      let second : slice_get files h.0 ≡ Some path = cc in
-      let ones_are : AreFiles files ns paths = cc in
-      let others_are : AreFiles files others paths = cc in
-      let here : f ≡ h = ap (λ n. record { 0 = n }) (one-file f.0 h.0 path first second) in
-      ap (λ n. n ∷ ns) here ∙ ap (λ rest. h ∷ rest) (same-numbers ns others paths ones_are others_are)
 
 -- ---- lists of numbers
 
@@ -543,3 +540,49 @@ module _ {K : Type 0} (session session2 : Option K) (alike : session ≡ session
       mark-of-contents text is also =
           at-contents refuse-kept session session2 alike (λ k. GivesMark (text k) before after needed one)
           (λ k. GivesMark (text k) before2 after2 needed2 other) (λ k _ v w. mark-agrees (text k) v w) is also
+
+-- ---- by a part beside the graph
+
+module _ {K G : Type 0} (graph : K → Option G) (session session2 : Option K) (alike : session ≡ session2)
+    (one other : ℤ)
+  where
+    -- of an item that there may be if there is a graph
+    pub item-beside-graph : {P : Type 0} (item : K → Option P) (D E : P → Type 0) (Same : Type 0)
+        → ((p : P) → D p → E p → Same)
+        → OfContents session one
+        (λ kept. MatchOption (graph kept) (one ≡ code_of NotLoaded) (λ g. GivesItem (item kept) one D))
+        → OfContents session2 other
+        (λ kept. MatchOption (graph kept) (other ≡ code_of NotLoaded) (λ g. GivesItem (item kept) other E))
+        → SameAnswer one other Same
+    item-beside-graph item D E Same both is also =
+        let refuse = refused one other Same in
+        at-contents refuse session session2 alike
+        (λ kept. MatchOption (graph kept) (one ≡ code_of NotLoaded) (λ g. GivesItem (item kept) one D))
+        (λ kept. MatchOption (graph kept) (other ≡ code_of NotLoaded) (λ g. GivesItem (item kept) other E))
+        (λ kept _ a b. at-option refuse (graph kept) NotLoaded not-loaded
+        (λ g. GivesItem (item kept) one D) (λ g. GivesItem (item kept) other E)
+        (λ g _ v w. items-agree one other (item kept) D E Same (λ p _ x y. both p x y) v w) a b) is also
+
+    -- and if a number is below a count
+    pub item-beside-number : {P : Type 0} (count : G → ℕ) (number : ℕ) (item : K → Option P)
+        (D E : P → Type 0)
+        (Same : Type 0)
+        → ((p : P) → D p → E p → Same)
+        → OfContents session one (λ kept. MatchOption (graph kept) (one ≡ code_of NotLoaded)
+        (λ g. IfNumber number (count g) one (GivesItem (item kept) one D)))
+        → OfContents session2 other (λ kept. MatchOption (graph kept) (other ≡ code_of NotLoaded)
+        (λ g. IfNumber number (count g) other (GivesItem (item kept) other E)))
+        → SameAnswer one other Same
+    item-beside-number count number item D E Same both is also =
+        let refuse = refused one other Same in
+        at-contents refuse session session2 alike
+        (λ kept. MatchOption (graph kept) (one ≡ code_of NotLoaded)
+        (λ g. IfNumber number (count g) one (GivesItem (item kept) one D)))
+        (λ kept. MatchOption (graph kept) (other ≡ code_of NotLoaded)
+        (λ g. IfNumber number (count g) other (GivesItem (item kept) other E)))
+        (λ kept _ a b. at-option refuse (graph kept) NotLoaded not-loaded
+        (λ g. IfNumber number (count g) one (GivesItem (item kept) one D))
+        (λ g. IfNumber number (count g) other (GivesItem (item kept) other E))
+        (λ g _ v w. at-number refuse number (count g) (GivesItem (item kept) one D)
+        (GivesItem (item kept) other E)
+        (λ _ x y. items-agree one other (item kept) D E Same (λ p _ m n. both p m n) x y) v w) a b) is also

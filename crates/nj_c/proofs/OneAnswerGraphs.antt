@@ -1,10 +1,11 @@
 -- The parts of a session about which calls answer.
-use Rattle.std.proofs.Common.{◌≡◌, ℕ, ℤ, List, Option, length, map, slice_get, option_and_then, ap}
+use Rattle.std.proofs.Common.{◌≡◌, ℕ, ℤ, Bool, List, Option, length, map, slice_get, option_and_then, ap}
 use Rattle.nj_text.specs.declared.spot.Spot.{Spot}
 use Rattle.nj_faults.specs.declared.fault.GraphFault.{GraphFault}
 use Rattle.nj_faults.specs.declared.fault.Place.{Place}
 use Rattle.nj_graph.specs.Graph.{GraphModel, edges_of, files_of}
 use Rattle.nj_c.specs.declared.session_state.Kept.{Kept}
+use Rattle.nj_c.specs.declared.session_state.LogRead.{LogRead}
 use Rattle.nj_c.specs.OneAnswer.{SameAnswer}
 
 abbrev pub graph_in : Kept → Option GraphModel
@@ -36,6 +37,12 @@ output_in kept = kept.output.bytes
 
 abbrev pub errors_in : Kept → List ℕ
 errors_in kept = kept.errors.bytes
+
+abbrev pub log_in : Kept → Option LogRead
+log_in kept = kept.log
+
+abbrev pub unknown_at : (edge : ℕ) → Kept → Option Bool
+unknown_at edge kept = slice_get kept.unknown.items edge
 
 abbrev pub spot : (line column : ℕ) → Spot
 spot line column = record { line = line; column = column }

@@ -1,18 +1,14 @@
 -- Two answers of one call, by what its contract says of each.
-use Rattle.std.proofs.Common.{◌≡◌, ◌≢◌, ◌⊎◌, inl, inr, ◌<◌, ◌≤◌, ℕ, zero, suc, ℤ, pos, Bool, List, [], ◌∷◌}
+use Rattle.std.proofs.Common.{◌≡◌, ◌≢◌, ◌⊎◌, inl, inr, ◌<◌, ◌≤◌, ℕ, ℤ, List}
 use Rattle.std.proofs.Common.{◌++◌}
-use Rattle.std.proofs.Common.{Option, Some, None, Contains, ◌↔◌, MatchOption, length, drop, refl, sym, ap}
-use Rattle.std.proofs.Common.{subst, ◌∙◌, arith}
-use Rattle.std.proofs.Common.{AllPairs, get_or, slice_get, to_z, of_z, to_z-of_z, w32}
+use Rattle.std.proofs.Common.{Option, Some, None, MatchOption, length, drop, refl, sym, ap}
+use Rattle.std.proofs.Common.{subst, ◌∙◌}
+use Rattle.std.proofs.Common.{to_z, of_z, to_z-of_z, w32}
 use mir.Val.{SFits}
-use Rattle.std.specs.List.Sorted.{IsStrictlyIncreasing}
 use Rattle.std.proofs.lemmas.Bool.{cases_lt}
-use Rattle.std.proofs.lemmas.List.Kept.{AllPairs-from_increasing}
 use Rattle.nj_c.specs.declared.status.Status.{Status}
-use Rattle.nj_c.specs.declared.status.Status.TheVariants.{Done, Nothing, Short, NotLoaded, BadNumber, NotOpen}
-use Rattle.nj_c.specs.declared.status.Status.TheVariants.{OutOfMemory}
-use Rattle.nj_c.specs.Asking.{IfNumber, GivesItem, GivesText, GivesTextOrNot, GivesTextAt, GivesMark}
-use Rattle.nj_c.specs.Asking.{KeptUnlessDone}
+use Rattle.nj_c.specs.declared.status.Status.TheVariants.{Done, Nothing, NotLoaded, BadNumber, NotOpen, BadLog}
+use Rattle.nj_c.specs.Asking.{IfNumber, GivesItem, GivesText, GivesTextOrNot}
 use Rattle.nj_c.specs.OneAnswer.{IsGiven, SameAnswer, SameBuffer, InMemory}
 use Rattle.nj_c.specs.Statuses.{code_of}
 
@@ -45,6 +41,10 @@ bad-number (inr is) = cc
 pub nothing : IsRefusal Nothing
 nothing (inl is) = cc
 nothing (inr is) = cc
+
+pub bad-log : IsRefusal BadLog
+bad-log (inl is) = cc
+bad-log (inr is) = cc
 
 -- both calls were refused alike
 abbrev pub Refuses : (one other : ℤ) → Type 0 → Type 0
@@ -142,62 +142,3 @@ texts-agree-in-memory one other text before before2 after after2 old old2 needed
 texts-agree-in-memory one other text before before2 after after2 old old2 needed needed2 same (inl is)
     (inr also) _ none =
     absurd (none also.0)
-
--- ---- rising numbers
-
-cons-cases : (x n : ℕ) (xs : List ℕ) → Contains (x ∷ xs) n → (x ≡ n) ⊎ Contains xs n
-cons-cases x n xs (zero, _, is) = inl is
-cons-cases x n xs (suc k, below, is) = inr (k, omega (arith, below), is)
-
-at-head : (x : ℕ) (xs : List ℕ) → Contains (x ∷ xs) x
-at-head x xs = (0, omega arith, refl)
-
-in-tail : (x n : ℕ) (xs : List ℕ) → Contains xs n → Contains (x ∷ xs) n
-in-tail x n xs (k, below, is) = (suc k, omega (arith, below), is)
-
-Rise : List ℕ → Type 0
-Rise xs = AllPairs (λ x y. x < y) xs
-
-above-head : (x n : ℕ) (xs : List ℕ) → AllPairs (λ x y. x < y) (x ∷ xs) → Contains xs n → x < n
-above-head x n xs rise (k, below, is) =
-    subst (λ m. x < m) is (rise 0 (suc k) n (omega arith) (omega (arith, below)))
-
-tail-rises : (x : ℕ) (xs : List ℕ) → AllPairs (λ x y. x < y) (x ∷ xs) → AllPairs (λ x y. x < y) xs
-tail-rises x xs rise i j d before below =
-    rise (suc i) (suc j) d (omega (arith, before)) (omega (arith, below))
-
-heads : (x y : ℕ) (xs ys : List ℕ) → AllPairs (λ x y. x < y) (x ∷ xs) → AllPairs (λ x y. x < y) (y ∷ ys)
-    → (y ≡ x) ⊎ Contains ys x → (x ≡ y) ⊎ Contains xs y → x ≡ y
-heads x y xs ys rise rise2 (inl is) _ = sym is
-heads x y xs ys rise rise2 (inr _) (inl is) = is
-heads x y xs ys rise rise2 (inr later) (inr later2) =
-    let a = above-head y x ys rise2 later in let b = above-head x y xs rise later2
-    in absurd (omega (arith, a, b))
-
-rising-alike : (xs ys : List ℕ) → AllPairs (λ x y. x < y) xs → AllPairs (λ x y. x < y) ys
-    → ((n : ℕ) → Contains xs n → Contains ys n) → ((n : ℕ) → Contains ys n → Contains xs n) → xs ≡ ys
-rising-alike [] [] rise rise2 there back = refl
-rising-alike [] (y ∷ ys) rise rise2 there back =
-    absurd (let none = back y (at-head y ys) in omega (arith, none.1))
-rising-alike (x ∷ xs) [] rise rise2 there back =
-    absurd (let none = there x (at-head x xs) in omega (arith, none.1))
-rising-alike (x ∷ xs) (y ∷ ys) rise rise2 there back =
-    let head : x ≡ y = heads x y xs ys rise rise2 (cons-cases y x ys (there x (at-head x xs)))
-    (cons-cases x y xs (back y (at-head y ys))) in
-    let rest : xs ≡ ys = rising-alike xs ys (tail-rises x xs rise) (tail-rises y ys rise2)
-    (λ n is. down n xs ys y (above-head x n xs rise is) (sym head)
-    (cons-cases y n ys (there n (in-tail x n xs is))))
-    (λ n is. down n ys xs x (above-head y n ys rise2 is) head
-    (cons-cases x n xs (back n (in-tail y n ys is)))) in
-    ap (λ z. z ∷ xs) head ∙ ap (λ zs. y ∷ zs) rest
-  where
-    down : (n : ℕ) (xs ys : List ℕ) (y : ℕ) → {x : ℕ} → x < n → y ≡ x → (y ≡ n) ⊎ Contains ys n
-        → Contains ys n
-    down n xs ys y above same (inl is) = absurd (omega (arith, above, same, is))
-    down n xs ys y above same (inr later) = later
-
-pub increasing-alike : (xs ys : List ℕ) (Is : ℕ → Type 0) → IsStrictlyIncreasing xs → IsStrictlyIncreasing ys
-    → ((n : ℕ) → Contains xs n ↔ Is n) → ((n : ℕ) → Contains ys n ↔ Is n) → xs ≡ ys
-increasing-alike xs ys Is rise rise2 are also =
-    rising-alike xs ys (AllPairs-from_increasing xs rise) (AllPairs-from_increasing ys rise2)
-    (λ n is. (also n).1 ((are n).0 is)) (λ n is. (are n).1 ((also n).0 is))

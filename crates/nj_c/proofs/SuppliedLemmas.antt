@@ -13,11 +13,11 @@ File = Option (List ℕ)
 
 -- ---- positions, entry by entry
 
-position-yes : (path p : List ℕ) (ps : List (List ℕ)) → bytes_eq path p ≡ true
+pub position-yes : (path p : List ℕ) (ps : List (List ℕ)) → bytes_eq path p ≡ true
     → position (bytes_eq path) (p ∷ ps) ≡ Some 0
 position-yes path p ps is = grind (arith, common_steps)
 
-position-no : (path p : List ℕ) (ps : List (List ℕ)) → bytes_eq path p ≡ false
+pub position-no : (path p : List ℕ) (ps : List (List ℕ)) → bytes_eq path p ≡ false
     → position (bytes_eq path) (p ∷ ps) ≡ option_map suc (position (bytes_eq path) ps)
 position-no path p ps is = grind (arith, common_steps)
 

@@ -67,19 +67,30 @@ pub use values::{nx_command, nx_variable};
 
 // Calls that are made twice, with the same arguments. C does not see them.
 pub use one_answer::counts::{edge_count_twice, file_count_twice, rule_count_twice};
+pub use one_answer::edge_lists::{affected_twice, dirtied_twice, needed_twice, page_twice};
 pub use one_answer::edges::{
     edge_file_twice, edge_place_twice, explicit_inputs_twice, explicit_outputs_twice, input_twice,
-    is_phony_twice, output_twice, rule_name_twice, validation_twice,
+    inputs_twice, is_phony_twice, output_twice, outputs_twice, rule_name_twice, validation_twice,
 };
 pub use one_answer::faults::{
     fault_file_twice, fault_kind_twice, fault_line_twice, fault_place_twice,
 };
 pub use one_answer::files::{
-    file_named_twice, maker_twice, path_twice, user_twice, validation_user_twice,
+    file_named_twice, maker_twice, path_twice, user_twice, users_twice, validation_user_twice,
 };
 pub use one_answer::graphs::graph_is_sound;
 pub use one_answer::lists::{
     default_twice, found_twice, opened_twice, page_mark_twice, root_twice, rule_name_at_twice,
     wanted_twice,
 };
+pub use one_answer::loads::load_twice;
+pub use one_answer::logs::{
+    is_unknown_twice, join_deps_twice, join_discovered_twice, log_read_twice, undeclared_twice,
+};
+pub use one_answer::paths::path_between_twice;
+pub use one_answer::runs::{run_errors_twice, run_output_twice, run_twice};
+pub use one_answer::sessions::{
+    add_absent_twice, add_file_twice, close_twice, open_twice, version_twice,
+};
+pub use one_answer::targets::{made_from_twice, pick_target_twice};
 pub use one_answer::values::{command_twice, variable_twice};

@@ -6,9 +6,16 @@
 //! documentation names as free. C does not see these functions.
 
 pub mod counts;
+pub mod edge_lists;
 pub mod edges;
 pub mod faults;
 pub mod files;
 pub mod graphs;
 pub mod lists;
+pub mod loads;
+pub mod logs;
+pub mod paths;
+pub mod runs;
+pub mod sessions;
+pub mod targets;
 pub mod values;

@@ -4,6 +4,7 @@ ghost use Rattle.std.specs.Prelude.{◌≡◌};
 ghost use Rattle.nj_c.specs.Cited.{IfStated, SameAnswer, SameBuffer};
 
 use super::graphs::graph_is_sound;
+use crate::bulk::{nx_inputs, nx_outputs};
 use crate::edges::{
     nx_edge_file, nx_edge_place, nx_explicit_inputs, nx_explicit_outputs, nx_input, nx_is_phony,
     nx_output, nx_rule_name, nx_validation,
@@ -118,6 +119,34 @@ pub fn input_twice(
     )
 }
 
+/// `nx_inputs`. Free: the number of inputs where the status is not done.
+pub fn inputs_twice(
+    alloc: Global,
+    one: &mut Session,
+    other: &mut Session,
+    edge: usize,
+    from: usize,
+    files: &mut [usize],
+    files_other: &mut [usize],
+    kinds: &mut [i32],
+    kinds_other: &mut [i32],
+    count: &mut usize,
+    count_other: &mut usize,
+) -> (i32, i32)
+    requires kept { one.old.kept ≡ other.old.kept }
+    requires files { files.old ≡ files_other.old }
+    requires kinds { kinds.old ≡ kinds_other.old }
+    ensures same { (SameBuffer result.0 result.1 files.new files_other.new count.new
+        count_other.new) × (kinds.new ≡ kinds_other.new) }
+    ensures kept { one.new.kept ≡ other.new.kept }
+{
+    graph_is_sound(alloc, one);
+    (
+        nx_inputs(alloc, one, edge, from, files, kinds, count),
+        nx_inputs(alloc, other, edge, from, files_other, kinds_other, count_other),
+    )
+}
+
 /// `nx_is_phony`. Free: the number where the status is not done.
 pub fn is_phony_twice(
     alloc: Global,
@@ -155,6 +184,31 @@ pub fn output_twice(
     (
         nx_output(alloc, one, edge, index, file),
         nx_output(alloc, other, edge, index, file_other),
+    )
+}
+
+/// `nx_outputs`. Free: the number of outputs where the status is not done.
+pub fn outputs_twice(
+    alloc: Global,
+    one: &mut Session,
+    other: &mut Session,
+    edge: usize,
+    from: usize,
+    files: &mut [usize],
+    files_other: &mut [usize],
+    count: &mut usize,
+    count_other: &mut usize,
+) -> (i32, i32)
+    requires kept { one.old.kept ≡ other.old.kept }
+    requires files { files.old ≡ files_other.old }
+    ensures same { SameBuffer result.0 result.1 files.new files_other.new count.new
+        count_other.new }
+    ensures kept { one.new.kept ≡ other.new.kept }
+{
+    graph_is_sound(alloc, one);
+    (
+        nx_outputs(alloc, one, edge, from, files, count),
+        nx_outputs(alloc, other, edge, from, files_other, count_other),
     )
 }
 

@@ -3,6 +3,7 @@
 ghost use Rattle.std.specs.Prelude.{◌≡◌};
 ghost use Rattle.nj_c.specs.Cited.{SameAnswer, SameBuffer};
 
+use crate::bulk::nx_users;
 use crate::files::{nx_file_named, nx_maker, nx_path, nx_user, nx_validation_user};
 use crate::session::Session;
 use std::alloc::Global;
@@ -85,6 +86,30 @@ pub fn user_twice(
     (
         nx_user(alloc, one, file, index, edge),
         nx_user(alloc, other, file, index, edge_other),
+    )
+}
+
+/// `nx_users`. Free: the number of users where the status is not done.
+pub fn users_twice(
+    alloc: Global,
+    one: &mut Session,
+    other: &mut Session,
+    file: usize,
+    from: usize,
+    edges: &mut [usize],
+    edges_other: &mut [usize],
+    count: &mut usize,
+    count_other: &mut usize,
+) -> (i32, i32)
+    requires kept { one.old.kept ≡ other.old.kept }
+    requires edges { edges.old ≡ edges_other.old }
+    ensures same { SameBuffer result.0 result.1 edges.new edges_other.new count.new
+        count_other.new }
+    ensures kept { one.new.kept ≡ other.new.kept }
+{
+    (
+        nx_users(alloc, one, file, from, edges, count),
+        nx_users(alloc, other, file, from, edges_other, count_other),
     )
 }
 
