@@ -7,9 +7,10 @@ its contract allows one answer, and what this leaves free.
                              has one answer
 
 A call has one answer if it is a law; or if it changes nothing and a clause names its value, as an
-equation between the result and a term without it; or else by a function of nj_one_answer that makes
-it twice. Such a function has the name of the call, after the type if it is a method: `deps_log_read`
-makes `DepsLog::read` twice. What is free is in its documentation, after `Free:`.
+equation between the result and a term without it; or else by a function that makes it twice. Such a
+function of nj_one_answer has the name of the call, after the type if it is a method: `deps_log_read`
+makes `DepsLog::read` twice. For the exports of nj_c they are in its directory `one_answer`:
+`load_twice` makes `nx_load` twice. What is free is in its documentation, after `Free:`.
 """
 
 import argparse
@@ -24,10 +25,14 @@ from reference import CLAUSE, LAWS, calls_in, documentation, end_of, exported
 
 PAGE = ROOT / "docs/PROOFS.md"
 # The crates whose public calls are listed.
-COVERED = ("nj_deps", "nj_needs", "nj_keys", "nj_audit", "nj_graph", "nj_tools", "nj_ask")
+COVERED = ("nj_deps", "nj_needs", "nj_keys", "nj_audit", "nj_graph", "nj_tools", "nj_ask", "nj_c")
+# The crate whose exports are made twice in a directory of its own, and that directory.
+EXPORTS, TWICE = "nj_c", "one_answer"
 MARKS = re.compile(r"(<!-- one_answer -->\n).*?(<!-- end -->)", re.S)
 FUNCTION = re.compile(r"^pub fn (\w+)\b(?!\(\))", re.M)
 LAW = re.compile(r"pub fn \w+\(\)\n.*\n\{\}$", re.S)
+# The export of which a documentation begins to speak.
+SPOKEN = re.compile(r"^`nx_\w+`\. ")
 # What may not stand in a clause that names the value.
 CONDITION = re.compile(r"→|\b(?:IfOk|IfErr|IfSome|OnOk|OnErr|OfEdge|OfStatements)\b")
 
@@ -41,20 +46,27 @@ class Function:
     body: str
 
     def makes_twice(self, call):
-        return len(re.findall(rf"(?:\.|::){call.name}\(", self.body)) == 2
+        before = r"\b" if call.crate == EXPORTS else r"(?:\.|::)"
+        return len(re.findall(rf"{before}{call.name}\(", self.body)) == 2
 
 
-def functions():
-    """The functions of the crate that makes calls twice, by name."""
+def files_twice(crate):
+    """The sources with the functions that make the calls of a crate twice."""
+    below = (EXPORTS, f"src/{TWICE}/**/*.rt") if crate == EXPORTS else (LAWS, "src/**/*.rt")
+    return sorted((CRATES / below[0]).glob(below[1]))
+
+
+def functions(crate):
+    """The functions that make the calls of a crate twice, by name."""
     found = {}
-    for file in sorted((CRATES / LAWS).glob("src/**/*.rt")):
+    for file in files_twice(crate):
         text = file.read_text()
         lines = text.splitlines()
         for head in FUNCTION.finditer(text):
             said = documentation(lines, text.count("\n", 0, head.start()))
             whole = text[head.start() : end_of(text, head.start(), "")]
             body = whole[whole.rindex("\n{") :]
-            found[head[1]] = Function(head[1], " ".join(said), body)
+            found[head[1]] = Function(head[1], SPOKEN.sub("", " ".join(said)), body)
     return found
 
 
@@ -84,19 +96,22 @@ def snake(name):
 
 
 def name_for(call):
+    if call.crate == EXPORTS:
+        return f"{call.name.removeprefix('nx_')}_twice"
     return f"{snake(call.owner)}_{call.name}" if call.owner else call.name
 
 
 def calls_of(crate):
     public = exported(crate)
-    return [call for file in sorted((CRATES / crate).glob("src/**/*.rt")) for call in calls_in(crate, file, public)]
+    files = [file for file in sorted((CRATES / crate).glob("src/**/*.rt")) if file.parent.name != TWICE]
+    return [call for file in files for call in calls_in(crate, file, public)]
 
 
 def sorted_out():
     """For each crate how many of its calls are laws, how many have a clause that names the value,
     those that a function makes twice, with it, and those of which nothing tells."""
-    twice = functions()
     for crate in COVERED:
+        twice = functions(crate)
         laws, named, made, lacking = 0, 0, [], []
         for call in calls_of(crate):
             function = twice.get(name_for(call))
@@ -146,8 +161,11 @@ def untold():
     used = Counter()
     for crate, _, _, made, lacking in sorted_out():
         yield from (f"nothing tells that {title} of {crate} has one answer" for title in lacking)
-        used.update(function.name for _, function in made)
-    yield from (f"{name} of {LAWS} makes no call twice" for name in functions() if name not in used)
+        used.update((EXPORTS if crate == EXPORTS else LAWS, function.name) for _, function in made)
+    for crate in LAWS, EXPORTS:
+        for name in functions(crate):
+            if not used[crate, name] and (crate == LAWS or name.endswith("_twice")):
+                yield f"{name} of {crate} makes no call twice"
 
 
 def main():
