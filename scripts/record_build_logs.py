@@ -79,7 +79,7 @@ def manifest():
 
 
 def built(ninja, folder, text):
-    """The log of a folder after a build of this manifest."""
+    """The log of a directory after a build of this manifest."""
     folder.mkdir(exist_ok=True)
     (folder / "build.ninja").write_text(text)
     ran = ninja.run([], folder)

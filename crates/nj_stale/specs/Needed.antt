@@ -1,4 +1,4 @@
--- The reasons of some edges, where only their files were asked for their times.
+-- The reasons of some edges, where only the times of their files are known.
 use Rattle.std.specs.Prelude.{◌≡◌, ◌⊎◌, ℕ, ◌<◌, Some, List, length, Contains}
 use Rattle.nj_edges.specs.Edges.{edge_at, outputs_of, counted_inputs_of, maker_of}
 use Rattle.nj_stale.specs.States.{Evidence, State, IsStateOf}

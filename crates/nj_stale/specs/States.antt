@@ -44,6 +44,7 @@ abbrev pub is_stale_by : (maker : Option ℕ) → Evidence → State → (path :
 is_stale_by None known s path = is_missing known path
 is_stale_by (Some edge) known s path = is_stale s edge
 
+-- by the edge that makes it
 abbrev pub is_stale_file : Evidence → State → (path : List ℕ) → Bool
 is_stale_file known s path = is_stale_by (maker_of known.edges path) known s path
 

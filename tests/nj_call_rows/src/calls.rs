@@ -16,6 +16,7 @@ use crate::present::put_present;
 use crate::shown_faults::{put_reported, put_shown_fault};
 use crate::small_graphs::{put_chain, put_collected, put_of_edges};
 use crate::sources::put_sources;
+use crate::stale::put_stale;
 use crate::statements::{Grammar, put_parsed};
 use crate::texts::{put_clean, put_hash, put_in_turn, put_meant};
 use nj_rows::{Block, Given, Outcomes, bytes_of, first_of, words_of};
@@ -58,6 +59,7 @@ fn put_call(
         "discovered" => put_discovered(alloc, text, given, row.rest),
         "join-discovered" => put_joined_discoveries(alloc, text, given, row.rest),
         "dirtied" => put_dirtied(alloc, text, given, row.rest),
+        "stale" => put_stale(alloc, text, given, row.rest),
         "join-present" => put_present(alloc, text, given, row.rest),
         _ => put_other(alloc, text, given, row),
     }

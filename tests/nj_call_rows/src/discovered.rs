@@ -8,9 +8,9 @@ use std::alloc::{AllocError, Global};
 
 /// A graph, and what builds discovered for its edges.
 #[derive(Drop)]
-struct Found {
-    graph: Graph,
-    discoveries: Discoveries,
+pub(crate) struct Found {
+    pub(crate) graph: Graph,
+    pub(crate) discoveries: Discoveries,
 }
 
 /// Appends what builds discovered for each edge of `build.ninja`, by the log of this file and by
@@ -56,7 +56,7 @@ pub(crate) fn put_dirtied(
 }
 
 /// What builds discovered for the edges of `build.ninja`.
-fn found_in(alloc: Global, given: &Given, log: &str) -> Result<Found, GraphFault> {
+pub(crate) fn found_in(alloc: Global, given: &Given, log: &str) -> Result<Found, GraphFault> {
     let mut files = given.source(alloc)?;
     let graph = load(alloc, &mut files, "build.ninja")?.into_graph();
     let log = log_at(alloc, given, log)?;
@@ -102,7 +102,10 @@ fn dirtied(alloc: Global, given: &Given, log: &str, paths: &str) -> Result<Vec<u
 }
 
 /// The edges whose discovered inputs are not known.
-fn unknown_edges(alloc: Global, discoveries: &Discoveries) -> Result<Vec<EdgeNo>, AllocError> {
+pub(crate) fn unknown_edges(
+    alloc: Global,
+    discoveries: &Discoveries,
+) -> Result<Vec<EdgeNo>, AllocError> {
     let mut edges = Vec::new(alloc);
     for edge in 0..discoveries.edge_count() {
         if !matches!(discoveries.verdict(edge), Verdict::Known) {
@@ -129,7 +132,11 @@ fn put_found(text: &mut Vec<u8>, found: &Found) -> Result<(), AllocError> {
 }
 
 /// Appends the first output of an edge.
-fn put_output(text: &mut Vec<u8>, graph: &Graph, edge: EdgeNo) -> Result<(), AllocError> {
+pub(crate) fn put_output(
+    text: &mut Vec<u8>,
+    graph: &Graph,
+    edge: EdgeNo,
+) -> Result<(), AllocError> {
     match graph.outputs(edge).first() {
         Some(output) => text.extend_from_slice(graph.path(*output)),
         None => Ok(()),
@@ -164,7 +171,11 @@ fn words_of(why: Unknown) -> &'static [u8] {
 }
 
 /// Appends the line of a fault.
-fn put_fault(alloc: Global, text: &mut Vec<u8>, fault: &GraphFault) -> Result<(), AllocError> {
+pub(crate) fn put_fault(
+    alloc: Global,
+    text: &mut Vec<u8>,
+    fault: &GraphFault,
+) -> Result<(), AllocError> {
     text.extend_from_slice(&fault.line(alloc)?)?;
     text.extend_from_slice(b"\n")
 }

@@ -25,6 +25,7 @@ mod shown_faults;
 mod small_graphs;
 mod small_walks;
 mod sources;
+mod stale;
 mod statements;
 mod texts;
 

@@ -64,7 +64,7 @@ pub record IsNext (edges : List EdgePaths) (order : List ℕ) (turn edge : ℕ) 
   pub within : turn < length order
   pub edge_is : edge ≡ slice_index order turn
 
--- the state as far as it is found
+-- the state that was found so far
 abbrev pub state_held : EdgeGraph → (times : List ℕ) → (reasons : List (Option Reason)) → (lent : List ℕ) → State
 state_held g times reasons lent = record {
   reason = λ edge. slice_index_or reasons edge None;
