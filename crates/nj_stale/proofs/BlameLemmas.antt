@@ -22,10 +22,6 @@ use Rattle.nj_stale.specs.declared.reason.Reason.TheVariants.{OlderOutput, Other
 use Rattle.nj_stale.specs.declared.reason.Reason.TheVariants.{NotLogged}
 use Rattle.nj_stale.proofs.StateLemmas.{contains_head, contains_tail, needs_maker}
 
-two_ways : (b : Bool) → (b ≡ true) ⊎ (b ≡ false)
-two_ways true = inl refl
-two_ways false = inr refl
-
 -- ---- reasons of one's own
 
 abbrev GivesOwn : Option Reason → Type 0

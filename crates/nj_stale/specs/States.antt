@@ -30,7 +30,7 @@ is_missing known path = known.disk_time path == 0
 
 -- ---- the state of a build
 
--- Of each edge the reason for which it is stale, if it is; and of each file the time that it has as an input.
+-- For each edge the reason why it is stale, if it is; and for each file the time that it has as an input.
 pub record State : Type 0 where
   pub reason : (edge : ℕ) → Option Reason
   pub time : (path : List ℕ) → ℕ
@@ -65,7 +65,7 @@ is_before time None = false
 is_before (pos time) (Some newest) = nat_lt time newest
 is_before (negsuc before) (Some newest) = true
 
--- what an output that is not there has for a time: that of the newest input, if its edge is phony and not stale
+-- the time of an output that is not there: that of the newest input, if its edge is phony and not stale
 abbrev pub lent_time : State → EdgePaths → (edge : ℕ) → ℕ
 lent_time s paths edge = if paths.is_phony && not (is_stale s edge) then unwrap_or (newest_input s paths) 0 else 0
 
@@ -76,7 +76,7 @@ output_time known s edge path =
 
 -- ---- reasons
 
--- the first reason that one of these files is, where each is asked with its place
+-- the first reason that one of these files gives, each asked with its place
 abbrev pub first_reason : {File : Type 0} → (asked : File → (place : ℕ) → Option Reason) → (place : ℕ) → (files : List File) → Option Reason
 first_reason asked place [] = None
 first_reason asked place (file ∷ files) = option_or (asked file place) (first_reason asked (place + 1) files)
@@ -108,16 +108,16 @@ by_output facts newest time entry place =
     if time == 0 then Some (MissingOutput place)
     else (if is_before (pos time) newest && not (facts.restat && is_some entry) then Some (OlderOutput place) else by_log facts newest entry place)
 
--- the first output that is a reason
+-- the first reason that an output gives
 abbrev pub by_outputs : Evidence → EdgeFacts → (newest : Option ℕ) → EdgePaths → Option Reason
 by_outputs known facts newest edge =
     first_reason (λ path place. by_output facts newest (known.disk_time path) (entry_of known.lines path) place) 0 (outputs_of edge)
 
--- A phony edge has nothing to compare: only without any input, an output that is not there is a reason.
+-- A phony edge compares nothing: an output that is not there is a reason only if the edge has no input at all.
 abbrev pub by_phony_outputs : Evidence → EdgePaths → Option Reason
 by_phony_outputs known edge = if length (inputs_of edge) == 0 then first_reason (by_missing known) 0 (outputs_of edge) else None
 
--- what its outputs are a reason for
+-- the reason that its outputs give
 abbrev pub by_files : Evidence → EdgeFacts → (newest : Option ℕ) → EdgePaths → Option Reason
 by_files known facts newest edge = if edge.is_phony then by_phony_outputs known edge else by_outputs known facts newest edge
 
