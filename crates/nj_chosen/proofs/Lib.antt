@@ -1,0 +1,11 @@
+pub mod NameLemmas
+pub mod FolderLemmas
+pub mod RowLemmas
+pub mod FindLemmas
+pub mod AnswerLemmas
+pub mod BringLemmas
+pub mod LawLemmas
+pub mod TableLemmas
+pub mod ReasonLemmas
+pub mod ChoiceLemmas
+pub mod Rows

@@ -1,0 +1,58 @@
+-- Tables of names, one name after another.
+use Rattle.std.proofs.Common.{◌≡◌, ◌<◌, ◌+◌, ℕ, ◌||◌, Bool, true, false, cond, List, [], ◌∷◌, ◌++◌, map, take}
+use Rattle.std.proofs.Common.{get_or, length, refl, sym, ap, ◌∙◌, append_assoc}
+use Rattle.std.specs.Prelude.{bytes_eq}
+use Rattle.std.specs.List.{flat_map, list_any}
+use Rattle.std.proofs.lemmas.List.{flat_map_more, map_more, take_more}
+use Rattle.std.proofs.lemmas.List.Folds.{list_any-append}
+use Rattle.std.proofs.lemmas.Slice.Eq.{bytes_eq-Decides}
+use Rattle.nj_names.specs.NameTables.{is_among, with_name}
+use Rattle.nj_changes.specs.Tables.{HasMore, SameNames}
+
+or-none : (b : Bool) → (b || false) ≡ b
+or-none true = refl
+or-none false = refl
+
+-- a name is there after one more, if it was or is the same
+pub among-named : (names : List (List ℕ)) (name path : List ℕ)
+    → is_among (with_name names name) path ≡ is_among (names ++ name ∷ []) path
+among-named names name path = by (is_among names name) refl
+  where
+    by : (b : Bool) → is_among names name ≡ b
+        → is_among (cond b names (names ++ name ∷ [])) path ≡ is_among (names ++ name ∷ []) path
+    by false is = refl
+    by true is = there (bytes_eq path name) refl
+      where
+        there : (b : Bool) → bytes_eq path name ≡ b → is_among names path ≡ is_among (names ++ name ∷ []) path
+        there true same =
+            let known : is_among names path ≡ true =
+            ap (is_among names) ((bytes_eq-Decides path name).0 same) ∙ is in
+            known ∙ sym (list_any-append (bytes_eq path) names (name ∷ [])
+            ∙ ap (λ b. b || (bytes_eq path name || false)) known)
+        there false other =
+            sym (list_any-append (bytes_eq path) names (name ∷ [])
+            ∙ ap (λ b. is_among names path || (b || false)) other ∙ or-none (is_among names path))
+
+-- one name more
+pub more-named : (old new : List (List ℕ)) (name : List ℕ) → new ≡ with_name old name
+    → HasMore old (name ∷ []) new
+more-named old new name is path = ap (λ ns. is_among ns path) is ∙ among-named old name path
+
+-- nothing more
+pub more-none : (names : List (List ℕ)) → HasMore names [] names
+more-none names path = sym (list_any-append (bytes_eq path) names [] ∙ or-none (is_among names path))
+
+-- more, and then more
+pub more-then : (old mid new xs ys zs : List (List ℕ)) → zs ≡ xs ++ ys → HasMore old xs mid
+    → HasMore mid ys new
+    → HasMore old zs new
+more-then old mid new xs ys zs is a b path =
+    b path ∙ list_any-append (bytes_eq path) mid ys
+    ∙ ap (λ t. t || is_among ys path) (a path)
+    ∙ sym (list_any-append (bytes_eq path) (old ++ xs) ys)
+    ∙ ap (λ ns. is_among ns path) (append_assoc old xs ys ∙ ap (λ ns. old ++ ns) (sym is))
+
+pub any-map : {X Y : Type 0} (p : Y → Bool) (f : X → Y) (xs : List X)
+    → list_any (λ x. p (f x)) xs ≡ list_any p (map f xs)
+any-map p f [] = refl
+any-map p f (x ∷ xs) = ap (λ b. p (f x) || b) (any-map p f xs)

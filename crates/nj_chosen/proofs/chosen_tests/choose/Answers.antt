@@ -1,0 +1,10 @@
+use Rattle.std.proofs.Common.{subst, map}
+use Rattle.std.specs.Prelude.{IfOk}
+use Rattle.nj_tests.specs.Tests.{test_model}
+use Rattle.nj_chosen.specs.Inside.Chosen.{AreChosenBy}
+use Rattle.nj_chosen.proofs.ChoiceLemmas.{chosen-in}
+use Rattle.nj_chosen.proofs.chosen_tests.choose.Goals as goal
+
+pub returns : goal.returns
+returns c = chosen-in c.args.build.now c.args.paths c.args.skips_unnamed (map test_model c.args.tests.now)
+    c.in_ok-tables.tables c.chosen_by.result (c.in_ok-tables.ensures c.args.build.now) c.chosen_by.ensures

@@ -1,0 +1,104 @@
+-- Why a test is chosen by itself.
+use Rattle.std.specs.Prelude.{ℕ, Bool, ◌&&◌, ◌||◌, if◌then◌else◌, Option, Some, None, List, [], ◌∷◌}
+use Rattle.std.specs.List.{list_any}
+use Rattle.std.specs.Option.{option_or}
+use Rattle.nj_names.specs.NameTables.{is_among}
+use Rattle.nj_tests.specs.Tests.{TestModel}
+use Rattle.nj_chosen.specs.declared.reason.Link.{Link}
+use Rattle.nj_chosen.specs.declared.reason.Link.TheVariants.{AffectedOutput, ChangedFile, Directory, NeedsAffected}
+use Rattle.nj_chosen.specs.declared.reason.Reason.{Reason}
+use Rattle.nj_chosen.specs.declared.reason.Reason.TheVariants as given
+use Rattle.nj_chosen.specs.Directories.{is_below, is_telling}
+use Rattle.nj_chosen.specs.TestPaths.{names_of_test, is_unknown}
+
+-- ---- what changed
+
+-- A change of files in a build, by full paths. `roots`: the build directory and those of the sources; `outputs`: the outputs of all
+-- edges; `made`: those of edges with a command; `affected`: those of affected edges; `needing`: those of edges that need an affected
+-- output or a changed file, by inputs of any kind; `changed`: the changed files; `noticed`: the affected outputs and changed files that
+-- count in a directory.
+pub record BuildChange : Type 0 where
+  pub build : List ℕ
+  pub roots : List (List ℕ)
+  pub outputs : List (List ℕ)
+  pub made : List (List ℕ)
+  pub affected : List (List ℕ)
+  pub needing : List (List ℕ)
+  pub changed : List (List ℕ)
+  pub noticed : List (List ℕ)
+
+-- What a path may be, test by test.
+pub record PathKinds : Type 0 where
+  pub is_output : (path : List ℕ) → Bool
+  pub is_affected : (path : List ℕ) → Bool
+  pub is_changed : (path : List ℕ) → Bool
+  pub needs_affected : (path : List ℕ) → Bool
+  pub has_outputs : (folder : List ℕ) → Bool
+  pub has_noticed : (folder : List ℕ) → Bool
+
+-- a directory that tells something has one of these paths below it
+abbrev pub has_below : (roots paths : List (List ℕ)) → (folder : List ℕ) → Bool
+has_below roots paths folder = is_telling roots folder && list_any (is_below folder) paths
+
+-- what a path is in a change
+abbrev pub kinds_of : BuildChange → PathKinds
+kinds_of c = record {
+  is_output = is_among c.outputs;
+  is_affected = is_among c.affected;
+  is_changed = is_among c.changed;
+  needs_affected = is_among c.needing;
+  has_outputs = has_below c.roots c.made;
+  has_noticed = has_below c.roots c.noticed;
+}
+
+-- ---- reasons
+
+-- Why a test is chosen by itself: a word of it names this path, which has this link to the change; or too little is known of it.
+pub data Why : Type 0 where
+  Named : (link : Link) → (path : List ℕ) → Why
+  UnknownCommand : Why
+  Unnamed : Why
+
+-- the value of the code
+abbrev pub why_of : Reason → Why
+why_of (given.Named link path) = Named link path.items
+why_of given.UnknownCommand = UnknownCommand
+why_of given.Unnamed = Unnamed
+
+-- the link of a path to a change: the first of these
+abbrev pub link_of : PathKinds → (path : List ℕ) → Option Link
+link_of kinds path =
+    if kinds.is_affected path then Some AffectedOutput
+    else if kinds.is_changed path then Some ChangedFile
+    else if kinds.has_noticed path then Some Directory
+    else if kinds.needs_affected path then Some NeedsAffected else None
+
+-- a path that is named, if it has a link
+abbrev pub named : (path : List ℕ) → Option Link → Option Why
+named path None = None
+named path (Some link) = Some (Named link path)
+
+-- the reason of the first of these paths that has one
+abbrev pub first_named : PathKinds → (paths : List (List ℕ)) → Option Why
+first_named kinds [] = None
+first_named kinds (path ∷ paths) = option_or (named path (link_of kinds path)) (first_named kinds paths)
+
+-- a path is that of an output, or of a directory with one
+abbrev pub is_of_outputs : PathKinds → (path : List ℕ) → Bool
+is_of_outputs kinds path = kinds.is_output path || kinds.has_outputs path
+
+-- why a test with these names is chosen though none of them has a link: it always runs
+abbrev pub without_link : PathKinds → TestModel → (names : List (List ℕ)) → Option Why
+without_link kinds test names =
+    if is_unknown test then Some UnknownCommand
+    else if list_any (is_of_outputs kinds) names then None else Some Unnamed
+
+-- Why a test is chosen by itself, if it is. Tests of which too little is known always run, unless they are skipped.
+abbrev pub reason_by : PathKinds → (build : List ℕ) → (skips_unnamed : Bool) → TestModel → Option Why
+reason_by kinds build skips_unnamed test =
+    option_or (first_named kinds (names_of_test build test))
+    (if skips_unnamed then None else without_link kinds test (names_of_test build test))
+
+-- the same in a change
+abbrev pub reason_of : BuildChange → (skips_unnamed : Bool) → TestModel → Option Why
+reason_of c skips_unnamed test = reason_by (kinds_of c) c.build skips_unnamed test

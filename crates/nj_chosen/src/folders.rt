@@ -1,0 +1,45 @@
+//! The directories above paths.
+
+ghost use Rattle.std.specs.Prelude.{◌<◌, ◌==◌, ◌∷◌, [], if◌then◌else◌, length, slice_index, take, IfOk, OnOk};
+ghost use Rattle.nj_chosen.specs.Cited.{HasMore, folders_of, AreFoldersOf};
+
+use nj_names::{HashKeys, Names};
+use std::alloc::{AllocError, Global};
+
+/// A table of the directories above these paths, with these keys.
+pub(crate) fn folders_above(
+    alloc: Global,
+    keys: HashKeys,
+    paths: &Names,
+) -> Result<Names, AllocError>
+    ensures { IfOk result (λ folders. AreFoldersOf paths.now folders) }
+{
+    let mut folders = Names::new(alloc, keys);
+    'paths: for number in 0..paths.count() {
+        add_folders(&mut folders, paths.name(number))?;
+    }
+    Ok(folders)
+}
+
+/// Adds the directories above a path.
+fn add_folders(folders: &mut Names, path: &[u8]) -> Result<(), AllocError>
+    ensures { OnOk result (HasMore folders.old (folders_of path.now) folders.new) }
+{
+    'bytes: for index in 0..path.len() {
+        add_folder(folders, path, index)?;
+    }
+    Ok(())
+}
+
+/// Adds what comes before an index of a path, if a slash is there.
+fn add_folder(folders: &mut Names, path: &[u8], index: usize) -> Result<(), AllocError>
+    requires { index < length path.now }
+    ensures { OnOk result (HasMore folders.old
+        (if slice_index path.now index == 47 then take index path.now ∷ [] else []) folders.new) }
+{
+    if path[index] != b'/' {
+        return Ok(());
+    }
+    folders.add(&path[..index])?;
+    Ok(())
+}

@@ -1,0 +1,17 @@
+//! Which tests a change of files reaches.
+#![tactic(auto)]
+
+mod brought;
+mod chosen_tests;
+mod folders;
+mod laws;
+mod numbers;
+mod reason;
+mod tables;
+mod test_names;
+mod test_reasons;
+
+pub use chosen_tests::{Choice, ChosenTests, choose};
+pub use laws::{chosen_are_least, others_name_nothing};
+pub use reason::{Link, Reason};
+pub use tables::ChangedPaths;
