@@ -2,6 +2,7 @@
 
 use crate::build_logs::{put_build_log, put_command_hash};
 use crate::build_tests::{put_names, put_pieces};
+use crate::chosen::put_chosen;
 use crate::depfiles::put_depfile;
 use crate::deps_logs::put_of_log;
 use crate::discovered::{put_dirtied, put_discovered, put_joined_discoveries};
@@ -129,6 +130,7 @@ fn put_of_words(
         "hash" => put_hash(alloc, text, row.rest),
         "glob" => put_matched(alloc, text, &words_of(alloc, row.rest)?),
         "names" => put_names(alloc, text, &words_of(alloc, row.rest)?),
+        "chosen" => put_chosen(alloc, text, given, &words_of(alloc, row.rest)?),
         "mark-of" => put_mark_of(alloc, text, row.rest),
         "deps-log" | "cut-log" | "deps-of" => {
             put_of_log(alloc, text, given.bytes("log"), row.kind, row.rest)

@@ -6,6 +6,7 @@ mod build_tests;
 mod calls;
 mod chains;
 mod changes;
+mod chosen;
 mod declared;
 mod depfiles;
 mod deps_logs;
