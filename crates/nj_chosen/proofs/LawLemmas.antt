@@ -1,22 +1,20 @@
 -- Lemmas for the laws of chosen tests.
-use Rattle.std.proofs.Common.{◌≡◌, ◌⊎◌, inl, inr, ℕ, Bool, true, false, cond, List, [], ◌∷◌, refl, sym, ap}
-use Rattle.std.proofs.Common.{◌∙◌, subst}
+use Rattle.std.proofs.Common.{◌≡◌, inl, inr, ℕ, Bool, true, false, cond, List, [], ◌∷◌, refl}
+use Rattle.std.proofs.Common.{subst}
 use Rattle.std.proofs.Common.{Option, Some, None, arith}
 use Rattle.std.specs.Prelude.{Contains}
 use Rattle.std.specs.Option.{option_or}
 use Rattle.nj_names.specs.NameTables.{is_among}
-use Rattle.nj_tests.specs.Tests.{TestModel}
 use Rattle.nj_tests.proofs.WordLemmas.{in-cons}
 use Rattle.nj_chosen.specs.declared.reason.Link.{Link}
 use Rattle.nj_chosen.specs.declared.reason.Link.TheVariants.{AffectedOutput, ChangedFile, Directory}
 use Rattle.nj_chosen.specs.declared.reason.Link.TheVariants.{NeedsAffected}
-use Rattle.nj_chosen.specs.declared.brought.Way.TheVariants.{Later, Needed}
 use Rattle.nj_chosen.specs.TestPaths.{names_of_test}
-use Rattle.nj_chosen.specs.Reasons.{BuildChange, PathKinds, Why, first_named, has_below, kinds_of, link_of}
-use Rattle.nj_chosen.specs.Reasons.{named, reason_of}
-use Rattle.nj_chosen.specs.Chosen.{IsBrought, IsChosen, IsTestAffected}
+use Rattle.nj_chosen.specs.Reasons.{PathKinds, first_named, has_below, kinds_of, link_of}
+use Rattle.nj_chosen.specs.Reasons.{named}
+use Rattle.nj_chosen.specs.Chosen.{IsChosen, IsTestAffected}
 use Rattle.nj_chosen.specs.Chosen.IsBrought.{by_itself, by_other}
-use Rattle.nj_chosen.specs.Laws.{ChosenAreLeast, IsClosed, IsUnlinked, OthersNameNothing}
+use Rattle.nj_chosen.specs.Laws.{ChosenAreLeast, OthersNameNothing}
 
 -- ---- reasons
 

@@ -1,14 +1,14 @@
 -- The definitions, computed on small tests.
-use Rattle.std.proofs.Common.{◌≡◌, Bool, true, false, ℕ, Option, Some, None, List, [], ◌∷◌, ◌++◌, refl}
+use Rattle.std.proofs.Common.{◌≡◌, true, false, ℕ, Option, Some, None, List, [], ◌∷◌, refl}
 use Rattle.std.specs.Prelude.{codes}
 use Rattle.nj_text.specs.Paths.{clean_path_of, without_leftmost_pair}
 use Rattle.nj_tests.specs.Tests.{TestModel}
 use Rattle.nj_chosen.specs.declared.reason.Link.TheVariants.{AffectedOutput, ChangedFile, Directory}
 use Rattle.nj_chosen.specs.declared.reason.Link.TheVariants.{NeedsAffected}
-use Rattle.nj_chosen.specs.declared.brought.Way.TheVariants.{Later, Needed}
+use Rattle.nj_chosen.specs.declared.brought.Way.TheVariants.{Needed}
 use Rattle.nj_chosen.specs.TestPaths.{has_lost_bytes}
 use Rattle.nj_chosen.specs.Directories.{is_below, is_telling}
-use Rattle.nj_chosen.specs.Reasons.{BuildChange, Why, reason_of}
+use Rattle.nj_chosen.specs.Reasons.{BuildChange, reason_of}
 use Rattle.nj_chosen.specs.Reasons.Why.{Named, UnknownCommand, Unnamed}
 use Rattle.nj_chosen.specs.Chosen.{IsChosen, IsTestAffected, brings}
 use Rattle.nj_chosen.specs.Chosen.IsBrought.{by_itself, by_other}

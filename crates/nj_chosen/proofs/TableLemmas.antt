@@ -1,10 +1,9 @@
 -- The tables of a change.
-use Rattle.std.proofs.Common.{◌≡◌, ℕ, Bool, ◌&&◌, List, map, refl, ap, ◌∙◌}
-use Rattle.std.specs.List.{list_any}
+use Rattle.std.proofs.Common.{◌≡◌, ℕ, ◌&&◌, List, map, ap, ◌∙◌}
 use Rattle.std.proofs.Math.Path.{fun_ext}
 use Rattle.nj_chosen.specs.declared.tables.PathTables.{PathTables}
-use Rattle.nj_chosen.specs.Directories.{is_below, is_telling}
-use Rattle.nj_chosen.specs.Reasons.{PathKinds, has_below, kinds_of}
+use Rattle.nj_chosen.specs.Directories.{is_telling}
+use Rattle.nj_chosen.specs.Reasons.{has_below, kinds_of}
 use Rattle.nj_chosen.specs.Inside.Folders.{AreFoldersOf}
 use Rattle.nj_chosen.specs.Inside.Tables.{change_by, has_folder, kinds_in}
 

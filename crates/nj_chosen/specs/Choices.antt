@@ -1,5 +1,5 @@
 -- Why each test of a list is chosen.
-use Rattle.std.specs.Prelude.{◌≡◌, ◌↔◌, ℕ, Bool, true, if◌then◌else◌, Option, Some, None, is_some, List, map, option_map, slice_index_or, Contains}
+use Rattle.std.specs.Prelude.{◌≡◌, ◌↔◌, ℕ, Bool, true, if◌then◌else◌, Option, Some, None, is_some, List, map, slice_index_or, Contains}
 use Rattle.nj_names.specs.NumberSets.{has}
 use Rattle.nj_tests.specs.Tests.{TestModel}
 use Rattle.nj_chosen.specs.declared.chosen_tests.Choice.{Choice}

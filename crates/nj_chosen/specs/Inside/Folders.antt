@@ -1,5 +1,5 @@
 -- The directories above paths, in a table.
-use Rattle.std.specs.Prelude.{◌≡◌, ℕ, ◌==◌, Bool, if◌then◌else◌, List, [], ◌∷◌, ◌++◌, map}
+use Rattle.std.specs.Prelude.{◌≡◌, ℕ, ◌==◌, if◌then◌else◌, List, [], ◌∷◌, ◌++◌, map}
 use Rattle.std.specs.List.{list_any}
 use Rattle.nj_names.specs.NameTables.{is_among}
 use Rattle.nj_chosen.specs.Directories.{is_below}

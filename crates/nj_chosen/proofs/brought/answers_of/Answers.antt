@@ -1,4 +1,4 @@
-use Rattle.std.proofs.Common.{ap, subst}
+use Rattle.std.proofs.Common.{subst}
 use Rattle.nj_tests.specs.Tests.{test_model}
 use Rattle.nj_chosen.specs.Chosen.{answered_fixtures, answered_tests}
 use Rattle.nj_chosen.specs.Inside.Numbers.{AddsNumber}

@@ -1,7 +1,5 @@
-use Rattle.std.proofs.Common.{subst, map}
-use Rattle.std.specs.Prelude.{IfOk}
+use Rattle.std.proofs.Common.{map}
 use Rattle.nj_tests.specs.Tests.{test_model}
-use Rattle.nj_chosen.specs.Inside.Chosen.{AreChosenBy}
 use Rattle.nj_chosen.proofs.ChoiceLemmas.{chosen-in}
 use Rattle.nj_chosen.proofs.chosen_tests.choose.Goals as goal
 

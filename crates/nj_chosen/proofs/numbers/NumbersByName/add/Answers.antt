@@ -1,9 +1,7 @@
-use Rattle.std.proofs.Common.{◌≡◌, ℕ, List, [], ◌∷◌, ◌++◌, false, cond, map, sym, ap, ◌∙◌, subst}
+use Rattle.std.proofs.Common.{◌≡◌, ℕ, List, [], ◌∷◌, ◌++◌, cond, map, sym, subst}
 use Rattle.std.specs.Prelude.{bytes_eq}
-use Rattle.std.proofs.lemmas.List.{map_push}
-use Rattle.nj_names.specs.NameTables.{is_among}
 use Rattle.nj_chosen.specs.Inside.Numbers.{NumbersModel, numbers_at, row_beside}
-use Rattle.nj_chosen.proofs.RowLemmas.{known_added, known_left, known_taken, new_added, same-count}
+use Rattle.nj_chosen.proofs.RowLemmas.{known_added, same-count}
 use Rattle.nj_chosen.proofs.numbers.NumbersByName.add.Goals as goal
 
 pub returns-in-Some : goal.returns-in-Some

@@ -3,7 +3,7 @@ use Rattle.std.specs.Prelude.{bytes_eq}
 use Rattle.std.proofs.lemmas.List.{map_push}
 use Rattle.nj_names.specs.NameTables.{is_among}
 use Rattle.nj_chosen.specs.Inside.Numbers.{NumbersModel, numbers_at, row_beside}
-use Rattle.nj_chosen.proofs.RowLemmas.{known_added, known_left, known_taken, new_added, same-count}
+use Rattle.nj_chosen.proofs.RowLemmas.{new_added, same-count}
 use Rattle.nj_chosen.proofs.numbers.NumbersByName.add_new.Goals as goal
 
 pub returns : goal.returns
