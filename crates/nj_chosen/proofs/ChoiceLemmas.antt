@@ -17,7 +17,8 @@ use Rattle.nj_chosen.specs.declared.tables.ChangedPaths.{ChangedPaths}
 use Rattle.nj_chosen.specs.declared.tables.PathTables.{PathTables}
 use Rattle.nj_chosen.specs.Choices.{AreChosen, ChosenModel, HasReason}
 use Rattle.nj_chosen.specs.Inside.Chosen.{AreChosenBy}
-use Rattle.nj_chosen.specs.Inside.Tables.{change_by, kinds_in}
+use Rattle.nj_chosen.specs.Inside.Tables.{kinds_in}
+use Rattle.nj_chosen.specs.ChangedPaths.{change_by}
 use Rattle.nj_chosen.specs.Reasons.{kinds_of, reason_by}
 use Rattle.nj_chosen.specs.declared.brought.Way.TheVariants.{Later, Needed}
 use Rattle.nj_chosen.specs.Chosen.{IsBrought, IsChosen, IsTestAffected}

@@ -19,7 +19,7 @@ use Rattle.nj_chosen.specs.Inside.Folders.{folders_of, AreFoldersOf}
 flip-eq : (m n : ℕ) → nat_eq m n ≡ nat_eq n m
 flip-eq m n = nat_eq_equiv.symm m n
 
--- a directory is among those of one byte more
+-- a directory is among those of one more byte
 among-under : (byte : ℕ) (folders : List (List ℕ)) (b : ℕ) (folder : List ℕ)
     → is_among (map (λ f. byte ∷ f) folders) (b ∷ folder) ≡ (nat_eq b byte && is_among folders folder)
 among-under byte [] b folder = by (nat_eq b byte)
@@ -102,7 +102,7 @@ folders-are (b ∷ folder) (byte ∷ path) =
     none true = refl
     none false = refl
 
--- one byte more
+-- one more byte
 pub folders-more : (path : List ℕ) (byte : ℕ)
     → folders_of (path ++ byte ∷ []) ≡ folders_of path ++ cond (byte == 47) (path ∷ []) []
 folders-more [] byte = append-nil (cond (byte == 47) ([] ∷ []) [])

@@ -32,7 +32,7 @@ among-named names name path = by (is_among names name) refl
             sym (list_any-append (bytes_eq path) names (name ∷ [])
             ∙ ap (λ b. is_among names path || (b || false)) other ∙ or-none (is_among names path))
 
--- one name more
+-- one more name
 pub more-named : (old new : List (List ℕ)) (name : List ℕ) → new ≡ with_name old name
     → HasMore old (name ∷ []) new
 more-named old new name is path = ap (λ ns. is_among ns path) is ∙ among-named old name path

@@ -5,7 +5,8 @@ use Rattle.nj_chosen.specs.declared.tables.PathTables.{PathTables}
 use Rattle.nj_chosen.specs.Directories.{is_telling}
 use Rattle.nj_chosen.specs.Reasons.{has_below, kinds_of}
 use Rattle.nj_chosen.specs.Inside.Folders.{AreFoldersOf}
-use Rattle.nj_chosen.specs.Inside.Tables.{change_by, has_folder, kinds_in}
+use Rattle.nj_chosen.specs.Inside.Tables.{has_folder, kinds_in}
+use Rattle.nj_chosen.specs.ChangedPaths.{change_by}
 
 folder-kinds : (roots paths folders : List (List ℕ)) → AreFoldersOf paths folders
     → has_folder roots folders ≡ has_below roots paths

@@ -5,7 +5,8 @@ pub use Rattle.nj_chosen.specs.Laws.{ChosenAreLeast, OthersNameNothing}
 pub use Rattle.nj_names.specs.NameTables.{is_among}
 pub use Rattle.nj_chosen.specs.Inside.Numbers.{row_at, set_row}
 pub use Rattle.nj_chosen.specs.Directories.{is_at_or_above, is_below, is_telling}
-pub use Rattle.nj_chosen.specs.Inside.Tables.{change_by, kinds_in}
+pub use Rattle.nj_chosen.specs.ChangedPaths.{change_by}
+pub use Rattle.nj_chosen.specs.Inside.Tables.{kinds_in}
 pub use Rattle.nj_chosen.specs.Reasons.{is_of_outputs, kinds_of, link_of, first_named, reason_by, why_of, without_link}
 pub use Rattle.nj_text.specs.Paths.{is_absolute}
 pub use Rattle.std.specs.List.{flat_map, list_any}

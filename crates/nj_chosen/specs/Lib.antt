@@ -2,6 +2,7 @@
 pub mod TestPaths
 pub mod Directories
 pub mod Reasons
+pub mod ChangedPaths
 pub mod Chosen
 pub mod Choices
 pub mod Laws

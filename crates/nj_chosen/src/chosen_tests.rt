@@ -4,7 +4,8 @@ ghost use Rattle.std.specs.Prelude.{◌≡◌, ◌<◌, ◌↔◌, ◌++◌, ◌
 ghost use Rattle.nj_tests.specs.Tests.{test_model};
 ghost use Rattle.nj_chosen.specs.Choices.{AreChosen, HasReason};
 ghost use Rattle.nj_chosen.specs.Inside.Chosen.{AreChosenBy};
-ghost use Rattle.nj_chosen.specs.Inside.Tables.{change_by, kinds_in};
+ghost use Rattle.nj_chosen.specs.ChangedPaths.{change_by};
+ghost use Rattle.nj_chosen.specs.Inside.Tables.{kinds_in};
 ghost use Rattle.nj_chosen.specs.Reasons.{reason_by, why_of};
 
 use crate::brought::{Way, brought};

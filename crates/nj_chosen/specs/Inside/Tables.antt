@@ -1,23 +1,9 @@
 -- The paths of a change, in the tables of the code.
 use Rattle.std.specs.Prelude.{ℕ, Bool, ◌&&◌, List, map}
 use Rattle.nj_names.specs.NameTables.{is_among}
-use Rattle.nj_chosen.specs.declared.tables.ChangedPaths.{ChangedPaths}
 use Rattle.nj_chosen.specs.declared.tables.PathTables.{PathTables}
 use Rattle.nj_chosen.specs.Directories.{is_telling}
-use Rattle.nj_chosen.specs.Reasons.{BuildChange, PathKinds}
-
--- the change with these paths
-abbrev pub change_by : (build : List ℕ) → ChangedPaths → BuildChange
-change_by build p = record {
-  build = build;
-  roots = map (λ root. root.items) p.roots.items;
-  outputs = p.outputs;
-  made = p.made;
-  affected = p.affected;
-  needing = p.needing;
-  changed = p.changed;
-  noticed = p.noticed;
-}
+use Rattle.nj_chosen.specs.Reasons.{PathKinds}
 
 -- a directory that tells something is in a table
 abbrev pub has_folder : (roots folders : List (List ℕ)) → (path : List ℕ) → Bool
