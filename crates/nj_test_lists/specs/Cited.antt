@@ -12,6 +12,8 @@ pub use Rattle.nj_test_lists.specs.Laws.{EachValueIsOneTest, FileStringsAreTexts
 pub use Rattle.nj_test_lists.specs.Laws.{FilesOfTargetsAreTexts}
 pub use Rattle.nj_test_lists.specs.declared.list_fault.ListFault.TheVariants.{OutOfMemory, WrongMesonTest}
 pub use Rattle.nj_test_lists.specs.Meson.{AreMesonTests, IsMesonTest, files_of, nonempty, environment, assignments, extra_paths}
-pub use Rattle.nj_test_lists.specs.Meson.{built_before, folder_of_test, AreTargets}
+pub use Rattle.nj_test_lists.specs.Meson.{built_before, folder_of_test, AreTargets, files_made}
 pub use Rattle.std.specs.List.{list_any}
+pub use Rattle.nj_tests.specs.Words.{path_in}
+pub use Rattle.nj_text.specs.Paths.{is_absolute}
 pub use Rattle.serde_json.specs.Find.{as_str}

@@ -84,18 +84,18 @@ IsCTestFault text fault = (list : Data) × IsJson text list × IsCTestListFault 
 
 -- ---- Meson
 
--- the list with this text has these targets
-pub record IsTargetsText (text : List ℕ) (targets : TargetsModel) : Type 0 where
+-- the list with this text has these targets of a build
+pub record IsTargetsText (build text : List ℕ) (targets : TargetsModel) : Type 0 where
   pub list : Data
   pub is_json : IsJson text list
   pub values : List Data
   pub has_values : items list ≡ Some values
-  pub are_targets : AreTargets values targets
+  pub are_targets : AreTargets build values targets
 
--- The list with a text that Meson wrote has these tests, beside the text with its list of targets.
-pub record IsMesonText (text targets_text : List ℕ) (tests : List TestModel) : Type 0 where
+-- The list with a text that Meson wrote has these tests, beside the text with its list of targets, in this build directory.
+pub record IsMesonText (build text targets_text : List ℕ) (tests : List TestModel) : Type 0 where
   pub targets : TargetsModel
-  pub are_targets : IsTargetsText targets_text targets
+  pub are_targets : IsTargetsText build targets_text targets
   pub list : Data
   pub is_json : IsJson text list
   pub values : List Data
@@ -112,10 +112,10 @@ IsTargetsFault text OutOfMemory = Unit {0}
 IsTargetsFault text _ = ⊥
 
 -- A text is no list of tests by Meson beside that of its targets, for this reason.
-abbrev pub IsMesonFault : (text targets_text : List ℕ) → ListFault → Type 0
-IsMesonFault text targets_text (NotJson line column) = IsNoJson text
-IsMesonFault text targets_text NoTests = (list : Data) × IsJson text list × (items list ≡ None)
-IsMesonFault text targets_text (WrongMesonTest number key) = (targets : TargetsModel) × IsTargetsText targets_text targets
+abbrev pub IsMesonFault : (build text targets_text : List ℕ) → ListFault → Type 0
+IsMesonFault build text targets_text (NotJson line column) = IsNoJson text
+IsMesonFault build text targets_text NoTests = (list : Data) × IsJson text list × (items list ≡ None)
+IsMesonFault build text targets_text (WrongMesonTest number key) = (targets : TargetsModel) × IsTargetsText build targets_text targets
     × ((list : Data) × (values : List Data) × IsJson text list × (items list ≡ Some values)
     × IsFirstNoMesonTest targets values number key)
-IsMesonFault text targets_text fault = IsTargetsFault targets_text fault
+IsMesonFault build text targets_text fault = IsTargetsFault targets_text fault

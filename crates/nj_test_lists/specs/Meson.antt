@@ -1,10 +1,11 @@
 -- Lists of tests and of targets that Meson writes, as `meson-info/intro-tests.json` and `meson-info/intro-targets.json`: "IDE
 -- integration" of the Meson manual.
-use Rattle.std.specs.Prelude.{◌≡◌, ℕ, ◌++◌, IsTrue, bytes_eq, Option, Some, None, option_map, option_and_then, List, [], ◌∷◌, codes, slice_get, position, take}
+use Rattle.std.specs.Prelude.{◌≡◌, ℕ, ◌++◌, IsTrue, bytes_eq, Option, Some, None, option_map, option_and_then, List, [], ◌∷◌, codes, map, slice_get, position, take}
 use Rattle.std.specs.List.{list_any, IsDistinct}
 use Rattle.serde_json.specs.Data.{Data, Members, no_members, member}
 use Rattle.serde_json.specs.Find.{get, as_str, as_object}
 use Rattle.nj_tests.specs.Tests.{TestModel}
+use Rattle.nj_tests.specs.Words.{path_in}
 use Rattle.nj_test_lists.specs.declared.list_fault.MesonKey.{MesonKey}
 use Rattle.nj_test_lists.specs.declared.list_fault.MesonKey.TheVariants.{Name, Command, Environment, ExtraPaths, Depends, Folder}
 use Rattle.nj_test_lists.specs.declared.list_fault.TargetKey.{TargetKey}
@@ -18,10 +19,14 @@ pub record TargetsModel : Type 0 where
   pub ids : List (List ℕ)
   pub files : List (List (List ℕ))
 
--- Values are these targets. Their ids are distinct.
-pub record AreTargets (values : List Data) (targets : TargetsModel) : Type 0 where
+-- the files that a target makes, read in the build directory
+abbrev pub files_made : (build : List ℕ) → (target : Data) → Option (List (List ℕ))
+files_made build target = option_map (map (path_in build)) (strings_at (codes "filename") target)
+
+-- Values are these targets of a build. Their ids are distinct.
+pub record AreTargets (build : List ℕ) (values : List Data) (targets : TargetsModel) : Type 0 where
   pub ids : each (string_at (codes "id")) values ≡ Some targets.ids
-  pub files : each (strings_at (codes "filename")) values ≡ Some targets.files
+  pub files : each (files_made build) values ≡ Some targets.files
   pub distinct : IsDistinct bytes_eq targets.ids
 
 -- the files of the target whose id a value is

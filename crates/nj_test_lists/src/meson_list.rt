@@ -11,10 +11,12 @@ use serde_json::{Map, Value};
 use std::alloc::{AllocError, Global};
 
 /// Reads the tests that Meson lists in `intro-tests.json`, in the order of the list, beside its
-/// targets in `intro-targets.json`. Both files are in `meson-info` of a build directory.
+/// targets in `intro-targets.json`. Both files are in `meson-info` of a build directory, whose
+/// absolute path `build` is.
 ///
 /// Of each test it takes `name`, `cmd`, `env` as `NAME=value`, `extra_paths`, `workdir`, and the
-/// files of the targets that it `depends` on. Everything else is ignored.
+/// files of the targets that it `depends` on, which are read in the build directory. Everything
+/// else is ignored.
 ///
 /// # Errors
 ///
@@ -23,13 +25,19 @@ use std::alloc::{AllocError, Global};
 /// of targets; [`ListFault::WrongMesonTest`] for the first test where something that is taken is not
 /// of the type that Meson writes, or that depends on a target that is not listed; and
 /// [`ListFault::OutOfMemory`].
-pub fn meson_tests(alloc: Global, tests: &[u8], targets: &[u8]) -> Result<Vec<Test>, ListFault>
+pub fn meson_tests(
+    alloc: Global,
+    build: &str,
+    tests: &[u8],
+    targets: &[u8],
+) -> Result<Vec<Test>, ListFault>
     ensures list { IfOk result (λ list.
-        IsMesonText tests.now targets.now (map test_model list.items)) }
-    ensures fault { IfErr result (λ fault. IsMesonFault tests.now targets.now fault) }
+        IsMesonText build.now tests.now targets.now (map test_model list.items)) }
+    ensures fault { IfErr result (λ fault.
+        IsMesonFault build.now tests.now targets.now fault) }
 {
     let list = parse(alloc, tests)?;
-    let targets = read_targets(alloc, targets)?;
+    let targets = read_targets(alloc, build, targets)?;
     match items(&list) {
         Some(values) => read_tests(alloc, &targets, values),
         None => Err(ListFault::NoTests),
@@ -37,13 +45,13 @@ pub fn meson_tests(alloc: Global, tests: &[u8], targets: &[u8]) -> Result<Vec<Te
 }
 
 // The targets of a text.
-fn read_targets(alloc: Global, text: &[u8]) -> Result<Targets, ListFault>
-    ensures targets { IfOk result (λ targets. IsTargetsText text.now targets) }
+fn read_targets(alloc: Global, build: &str, text: &[u8]) -> Result<Targets, ListFault>
+    ensures targets { IfOk result (λ targets. IsTargetsText build.now text.now targets) }
     ensures fault { IfErr result (λ fault. IsTargetsFault text.now fault) }
 {
     let list = parse_targets(alloc, text)?;
     match items(&list) {
-        Some(values) => Targets::read(alloc, values),
+        Some(values) => Targets::read(alloc, build, values),
         None => Err(ListFault::NoTargets),
     }
 }

@@ -1,13 +1,13 @@
 //! The targets that Meson lists.
 
-ghost use Rattle.std.specs.Prelude.{◌≡◌, Some, false, codes, bytes_eq, map, string_bytes, option_map, IfOk, IfErr};
-ghost use Rattle.nj_test_lists.specs.Cited.{view, list_any, AreTargets, AreTargetsFault, IsWrongId, files_of, string_at};
+ghost use Rattle.std.specs.Prelude.{◌≡◌, Some, None, false, codes, bytes_eq, map, string_bytes, option_map, IfOk, IfErr};
+ghost use Rattle.nj_test_lists.specs.Cited.{view, list_any, AreTargets, AreTargetsFault, IsWrongId, Refuses, files_made, files_of, path_in, is_absolute, string_at, strings_at};
 
 use crate::list_fault::{ListFault, TargetKey};
 use crate::values::{read_strings_at, string_at};
 use nj_names::{HashKeys, Names};
 use serde_json::Value;
-use std::alloc::Global;
+use std::alloc::{AllocError, Global};
 use std::marker::Model;
 
 /// The targets of a build.
@@ -31,9 +31,10 @@ impl Model for Targets {
 }
 
 impl Targets {
-    /// The targets that these values are.
-    pub(crate) fn read(alloc: Global, values: &[Value]) -> Result<Targets, ListFault>
-        ensures targets { IfOk result (λ targets. AreTargets (map view values.now) targets) }
+    /// The targets that these values are. Their files are read in the build directory.
+    pub(crate) fn read(alloc: Global, build: &str, values: &[Value]) -> Result<Targets, ListFault>
+        ensures targets { IfOk result (λ targets.
+            AreTargets build.now (map view values.now) targets) }
         ensures fault { IfErr result (λ fault. AreTargetsFault (map view values.now) fault) }
     {
         let mut ids = Names::new(alloc, HashKeys::default());
@@ -42,7 +43,7 @@ impl Targets {
             let id = new_id(&ids, number, value)?;
             let key = TargetKey::Filename;
             let wrong = ListFault::WrongTarget { number, key };
-            files.push(read_strings_at(alloc, value, "filename", wrong)?)?;
+            files.push(read_files(alloc, build, value, wrong)?)?;
             ids.add(id.as_bytes())?;
         }
         Ok(Targets { ids, files })
@@ -56,6 +57,55 @@ impl Targets {
         let id = id.as_str()?;
         let number = self.ids.number(id.as_bytes())?;
         self.files.get(number).map(Vec::as_slice)
+    }
+}
+
+// The files that a target makes, read in the build directory. If they are not strings, the fault is
+// this one.
+fn read_files(
+    alloc: Global,
+    build: &str,
+    target: &Value,
+    wrong: ListFault,
+) -> Result<Vec<String>, ListFault>
+    ensures files { IfOk result (λ v. files_made build.now (view target.now)
+        ≡ Some (map string_bytes v.items)) }
+    ensures fault { IfErr result (λ fault.
+        Refuses wrong (strings_at (codes "filename") (view target.now) ≡ None) fault) }
+{
+    let files = read_strings_at(alloc, target, "filename", wrong)?;
+    Ok(all_in(alloc, build, &files)?)
+}
+
+// Paths, each read in a directory.
+fn all_in(alloc: Global, folder: &str, paths: &[String]) -> Result<Vec<String>, AllocError>
+    ensures { IfOk result (λ v. map string_bytes v.items
+        ≡ map (path_in folder.now) (map string_bytes paths.now)) }
+{
+    let mut read = Vec::new(alloc);
+    'paths: for path in paths {
+        read.push(path_in(alloc, folder, path.as_str())?)?;
+    }
+    Ok(read)
+}
+
+// A path, read in a directory.
+fn path_in(alloc: Global, folder: &str, path: &str) -> Result<String, AllocError>
+    ensures { IfOk result (λ s. string_bytes s ≡ path_in folder.now path.now) }
+{
+    if is_absolute(path.as_bytes()) {
+        return String::from_str(alloc, path);
+    }
+    format!(in alloc; "{folder}/{path}")
+}
+
+// Whether a path begins with a slash.
+fn is_absolute(path: &[u8]) -> bool
+    ensures { result ≡ is_absolute path.now }
+{
+    match path {
+        [b'/', ..] => true,
+        _ => false,
     }
 }
 

@@ -10,14 +10,15 @@ pub(crate) fn put_ctest(alloc: Global, text: &mut Vec<u8>, list: &[u8]) -> Resul
     put_list(alloc, text, ctest_tests(alloc, list))
 }
 
-/// Appends the tests of a list by Meson, beside that of its targets, or the fault.
+/// Appends the tests of a list by Meson, beside that of its targets in the build directory `/w/b`, or
+/// the fault.
 pub(crate) fn put_meson(
     alloc: Global,
     text: &mut Vec<u8>,
     list: &[u8],
     targets: &[u8],
 ) -> Result<(), AllocError> {
-    put_list(alloc, text, meson_tests(alloc, list, targets))
+    put_list(alloc, text, meson_tests(alloc, "/w/b", list, targets))
 }
 
 /// Appends tests and their number, or the fault.
