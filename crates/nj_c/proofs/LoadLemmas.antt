@@ -1,7 +1,8 @@
 -- The result of a load, and the part that a session keeps.
 use Rattle.std.specs.Global.{Vec}
 use Rattle.std.proofs.Common.{◌≡◌, ◌≢◌, ◌⊎◌, inl, inr, ℕ, suc, ◌==◌, Bool, true, false, if◌then◌else◌, Some}
-use Rattle.std.proofs.Common.{None, is_some, unwrap_or, Result, Ok, Err, IfOk, List, [], ◌∷◌, length, map, refl}
+use Rattle.std.proofs.Common.{None, is_some, unwrap_or, Result, Ok, Err, IfOk, List, [], ◌∷◌, length, map}
+use Rattle.std.proofs.Common.{refl}
 use Rattle.std.proofs.Common.{sym, ap, subst, ◌∙◌, arith, true≢false}
 use Rattle.std.proofs.lemmas.Bool.Decides.{eqb_tells}
 use Rattle.std.specs.List.{AllByRecursion, filter_map}

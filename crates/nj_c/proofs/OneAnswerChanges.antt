@@ -85,8 +85,7 @@ module _ (SameGraphs : GraphModel → GraphModel → Type 0) (SameEdges : List �
         (is ∙ sym also, both-none (SameContents SameGraphs SameEdges) after after2 left left2))
         (λ kept new new2 status status2 at left left2 is also does does2 memory memory2.
         let same = determined kept new new2 status status2 at (unless-code one status is memory)
-        (unless-code other status2 also memory2) does does2 in
-        (
+        (unless-code other status2 also memory2) does does2 in (
           is ∙ ap code_of same.0 ∙ sym also,
           both-some (SameContents SameGraphs SameEdges) after after2 new new2 left left2 same.1,
         )) is also
@@ -118,7 +117,8 @@ if-stated session holds give = by session refl
 
 -- ---- sessions that stay the same
 
-pub unchanged-contents : (SameGraphs : GraphModel → GraphModel → Type 0) (SameEdges : List ℕ → List ℕ → Type 0)
+pub unchanged-contents : (SameGraphs : GraphModel → GraphModel → Type 0)
+    (SameEdges : List ℕ → List ℕ → Type 0)
     (kept new new2 : Kept) → new ≡ kept → new2 ≡ kept → SameOptions SameGraphs kept.graph kept.graph
     → SameEdges (edge_numbers kept) (edge_numbers kept) → SameContents SameGraphs SameEdges new new2
 unchanged-contents SameGraphs SameEdges kept new new2 is also graph edges =
@@ -186,14 +186,14 @@ module _ (SameEdges : List ℕ → List ℕ → Type 0) (kept : Kept) (files : L
         let lists = listed g at known (edge_numbers new) (edge_numbers new2) new.mark.items new2.mark.items is
         (subst (λ h. are h (edge_numbers new2) new2.mark.items) (sym same) is2) in
         (done ∙ sym done2, same-but-lists SameEdges kept new new2 left left2 lists.0 lists.1)
-    lists-agree new new2 status status2 memory memory2 (inl (g, at, done, known, is, left)) (inr (why, kept2)) =
+    lists-agree new new2 status status2 memory memory2 (inl (g, at, done, known, is, left))
+        (inr (why, kept2)) =
         absurd (not_both g at known (edge_numbers new) new.mark.items is status2 memory2 why)
     lists-agree new new2 status status2 memory memory2 (inr (why, kept1))
         (inl (g2, at2, done2, known2, is2, left2)) =
         absurd (not_both g2 at2 known2 (edge_numbers new2) new2.mark.items is2 status memory why)
-    lists-agree new new2 status status2 memory memory2 (inr (why, kept1)) (inr (why2, kept2)) =
-        (
-          once status status2 memory memory2 why why2,
-          unchanged-contents Equal SameEdges kept new new2 kept1 kept2
-              (equal-options kept.graph kept.graph refl) (always (edge_numbers kept)),
-        )
+    lists-agree new new2 status status2 memory memory2 (inr (why, kept1)) (inr (why2, kept2)) = (
+      once status status2 memory memory2 why why2,
+      unchanged-contents Equal SameEdges kept new new2 kept1 kept2
+          (equal-options kept.graph kept.graph refl) (always (edge_numbers kept)),
+    )

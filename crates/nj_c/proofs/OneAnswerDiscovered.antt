@@ -1,8 +1,10 @@
 -- Two sessions after the same discovered inputs were joined.
-use Rattle.std.proofs.Common.{◌≡◌, ◌≢◌, ◌⊎◌, inl, inr, ℕ, zero, suc, ◌+◌, ◌<◌, ◌≤◌, Bool, true, false, cond, Option}
+use Rattle.std.proofs.Common.{◌≡◌, ◌≢◌, ◌⊎◌, inl, inr, ℕ, zero, suc, ◌+◌, ◌<◌, ◌≤◌, Bool, true, false, cond}
+use Rattle.std.proofs.Common.{Option}
 use Rattle.std.proofs.Common.{Some, None, Result, Ok, Err, List, [], ◌∷◌, length, map, refl, sym, ap, subst}
 use Rattle.std.proofs.Common.{◌∙◌, slice_get, bytes_eq, is_some, arith}
-use Rattle.std.specs.Prelude.{codes, filter, not, option_map, option_and_then, position, unwrap_or, ◌||◌, ◌&&◌}
+use Rattle.std.specs.Prelude.{codes, filter, not, option_map, option_and_then, position, unwrap_or, ◌||◌}
+use Rattle.std.specs.Prelude.{◌&&◌}
 use Rattle.std.specs.List.{cons_option, filter_map, list_any, range_with_len}
 use Rattle.std.specs.Str.{is_utf8}
 use Rattle.std.proofs.lemmas.Bool.{cases_order}
@@ -189,7 +191,8 @@ module _ (h : Supplied) (g : GraphModel) (stated : List ReadStatement) (graph : 
         let lacks : is_lacking h depfile ≡ false =
         none-in-range (depfile_at stated) (is_lacking h) 0 (length (edges_of g)) e (omega arith)
         (omega (arith, below, count-is)) depfile counts (no-once
-        (filter (is_lacking h) (filter_map (depfile_at stated) (range_with_len 0 (length (edges_of g))))) none)
+        (filter (is_lacking h) (filter_map (depfile_at stated) (range_with_len 0 (length (edges_of g)))))
+            none)
         in
         supplied-or (is_utf8 depfile) (is_some (supplied_for h depfile)) utf8 lacks
 
@@ -311,7 +314,8 @@ module _ (g : GraphModel) (stated : List ReadStatement) (graph : IsGraphOf g sta
     abbrev Finds : Supplied → LogModel → DiscoveriesModel → Result GraphModel GraphFault → Type 0
     Finds after log found result = FindsInputs g kept.files after log times stated found result
 
-    one-log : (log log2 : LogModel) → IsLogOf (log_bytes bytes) log → IsLogOf (log_bytes bytes) log2 → log2 ≡ log
+    one-log : (log log2 : LogModel) → IsLogOf (log_bytes bytes) log → IsLogOf (log_bytes bytes) log2
+        → log2 ≡ log
     one-log log log2 is is2 = says_one_thing (log_bytes bytes) log2 log is2 is
 
     module _ (none : lacking ≡ []) (log log2 : LogModel) (is : IsLogOf (log_bytes bytes) log)
@@ -385,8 +389,7 @@ module _ (g : GraphModel) (stated : List ReadStatement) (graph : IsGraphOf g sta
         let f = finds stated graph in
         let f2 = finds2 stated graph in
         let moves = moved f.0 log log2 is is2 found found2 (Ok j) (Ok j2) f.1 f2.1 in
-        let same = alike f.0 log log2 is is2 found found2 (Ok j) (Ok j2) f.1 f2.1 in
-        (
+        let same = alike f.0 log log2 is is2 found found2 (Ok j) (Ok j2) f.1 f2.1 in (
           refl,
           others-alike k k2 (both-some SameGraph new.graph new2.graph j j2 there there2
               (same-graph j j2 (with_named (inputs_found found) stated) f.1.joins moves (from ∙ sym from2)))
@@ -419,8 +422,7 @@ module _ (g : GraphModel) (stated : List ReadStatement) (graph : IsGraphOf g sta
     joins-agree _ _ (faulty fault log found count is k there has memory finds)
         (faulty fault2 log2 found2 count2 is2 k2 there2 has2 memory2 finds2) =
         let f = finds stated graph in
-        let f2 = finds2 stated graph in
-        (
+        let f2 = finds2 stated graph in (
           refl,
           others-alike k k2 (both-none SameGraph new.graph new2.graph there there2)
               (has ∙ ap Some (one-fault (inputs_found found) stated fault fault2 memory memory2 f.1.joins
@@ -448,9 +450,11 @@ module _ (g : GraphModel) (stated : List ReadStatement) (graph : IsGraphOf g sta
     joins-agree _ _ (bad_number left other)
         (joined j log2 found2 count2 is2 k2 there2 fault2 how_far2 unknown2 from2 finds2) =
         absurd (other count2)
-    joins-agree _ _ (bad_number left other) (faulty fault2 log2 found2 count2 is2 k2 there2 has2 memory2 finds2) =
+    joins-agree _ _ (bad_number left other)
+        (faulty fault2 log2 found2 count2 is2 k2 there2 has2 memory2 finds2) =
         absurd (other count2)
-    joins-agree _ _ (bad_number left other) (wanted log2 count2 is2 left2 some2 wants2) = absurd (other count2)
+    joins-agree _ _ (bad_number left other) (wanted log2 count2 is2 left2 some2 wants2) =
+        absurd (other count2)
     joins-agree _ _ (bad_number left other) (bad_number left2 other2) = (refl, both-unchanged left left2)
     joins-agree _ _ (bad_number left other) (bad_log left2 count2 none2) = absurd (other count2)
     joins-agree _ _ (bad_log left count none)

@@ -1,5 +1,6 @@
 -- Two sessions after the same deps log was joined.
-use Rattle.std.proofs.Common.{◌≡◌, ◌≢◌, ◌⊎◌, inl, inr, ℕ, List, Option, Some, None, Result, Ok, Err, refl, sym, ap, map}
+use Rattle.std.proofs.Common.{◌≡◌, ◌≢◌, ◌⊎◌, inl, inr, ℕ, List, Option, Some, None, Result, Ok, Err, refl}
+use Rattle.std.proofs.Common.{sym, ap, map}
 use Rattle.std.proofs.Common.{subst, ◌∙◌}
 use Rattle.std.proofs.lemmas.Option.{same_Some}
 use Rattle.nj_deps.specs.Logs.{LogModel, IsLogOf}
@@ -105,7 +106,8 @@ module _ (g : GraphModel) (stated : List ReadStatement) (graph : IsGraphOf g sta
           found = part (λ (k : Kept). map (λ e. e.0) k.found.items) refl;
           mark = part (λ (k : Kept). k.mark.items) refl;
           joined = λ _. record {
-            log = part (λ (k : Kept). k.log) (ap (λ l. Some (read_of l)) (says_one_thing bytes log log2 is is2));
+            log = part (λ (k : Kept). k.log) (ap (λ l. Some (read_of l))
+                (says_one_thing bytes log log2 is is2));
             unknown = part (λ (k : Kept). k.unknown.items) refl;
           };
           output = part (λ (k : Kept). k.output.bytes) refl;
@@ -151,7 +153,8 @@ module _ (g : GraphModel) (stated : List ReadStatement) (graph : IsGraphOf g sta
     )
     joins-agree _ _ (joined j log is left from joins) (faulty fault log2 is2 left2 memory joins2) =
         absurd (joined-or-faulty j fault log log2 is is2 joins joins2 memory)
-    joins-agree _ _ (joined j log is left from joins) (no_log left2 none) = absurd (log-or-none bytes log is none)
+    joins-agree _ _ (joined j log is left from joins) (no_log left2 none) =
+        absurd (log-or-none bytes log is none)
     joins-agree _ _ (faulty fault log is left memory joins) (joined j log2 is2 left2 from joins2) =
         absurd (joined-or-faulty j fault log2 log is2 is joins2 joins memory)
     joins-agree _ _ (faulty fault log is left memory joins) (faulty fault2 log2 is2 left2 memory2 joins2) = (
@@ -161,7 +164,8 @@ module _ (g : GraphModel) (stated : List ReadStatement) (graph : IsGraphOf g sta
     )
     joins-agree _ _ (faulty fault log is left memory joins) (no_log left2 none) =
         absurd (log-or-none bytes log is none)
-    joins-agree _ _ (no_log left none) (joined j log is left2 from joins) = absurd (log-or-none bytes log is none)
+    joins-agree _ _ (no_log left none) (joined j log is left2 from joins) =
+        absurd (log-or-none bytes log is none)
     joins-agree _ _ (no_log left none) (faulty fault log is left2 memory joins) =
         absurd (log-or-none bytes log is none)
     joins-agree _ _ (no_log left none) (no_log left2 none2) = (

@@ -7,7 +7,8 @@ use Rattle.std.proofs.Common.{to_z, of_z, to_z-of_z, w32}
 use mir.Val.{SFits}
 use Rattle.std.proofs.lemmas.Bool.{cases_lt}
 use Rattle.nj_c.specs.declared.status.Status.{Status}
-use Rattle.nj_c.specs.declared.status.Status.TheVariants.{Done, Nothing, NotLoaded, BadNumber, NotOpen, BadLog}
+use Rattle.nj_c.specs.declared.status.Status.TheVariants.{Done, Nothing, NotLoaded, BadNumber, NotOpen}
+use Rattle.nj_c.specs.declared.status.Status.TheVariants.{BadLog}
 use Rattle.nj_c.specs.Asking.{IfNumber, GivesItem, GivesText, GivesTextOrNot}
 use Rattle.nj_c.specs.OneAnswer.{IsGiven, SameAnswer, SameBuffer, InMemory}
 use Rattle.nj_c.specs.Statuses.{code_of}

@@ -14,7 +14,8 @@ use Rattle.nj_c.specs.declared.status.Status.TheVariants.{BadNumber, BadMark, No
 use Rattle.nj_c.specs.declared.status.Status.TheVariants.{BadLog}
 use Rattle.nj_c.specs.DirtyEdges.{AreDirty, unknown_edges, ListsDirty}
 use Rattle.nj_c.specs.OneAnswer.{Equal, SameContents, SameNeeded}
-use Rattle.nj_c.specs.Pages.{AreKnown, AreNeeded, AreReached, AreRefused, ListsEdges, ListsNeeded, ListsReached}
+use Rattle.nj_c.specs.Pages.{AreKnown, AreNeeded, AreReached, AreRefused, ListsEdges, ListsNeeded}
+use Rattle.nj_c.specs.Pages.{ListsReached}
 use Rattle.nj_c.specs.Pages.{paths_of_files}
 use Rattle.nj_c.proofs.OneAnswerChanges.{lists-agree}
 

@@ -1,5 +1,6 @@
 -- Two sessions after the same load.
-use Rattle.std.proofs.Common.{◌≡◌, ◌≢◌, ◌⊎◌, inl, inr, ℕ, Bool, true, false, cond, Option, Some, None, IfOk, IfSome}
+use Rattle.std.proofs.Common.{◌≡◌, ◌≢◌, ◌⊎◌, inl, inr, ℕ, Bool, true, false, cond, Option, Some, None, IfOk}
+use Rattle.std.proofs.Common.{IfSome}
 use Rattle.std.proofs.Common.{Result, Ok, Err, List, [], ◌∷◌, ◌++◌, map, refl, sym, ap, subst, ◌∙◌, arith}
 use Rattle.std.proofs.Common.{is_some, unwrap_or, bytes_eq}
 use Rattle.std.specs.Prelude.{filter, not, ◌&&◌}
@@ -21,7 +22,8 @@ use Rattle.nj_graph.specs.Origins.{main_of}
 use Rattle.nj_agreement.specs.Agreement.{AgreeBoth}
 use Rattle.nj_agreement.specs.Graphs.{SameGraph}
 use Rattle.nj_agreement.proofs.DeclaredAnswers.{declared-by, AreDeclared}
-use Rattle.nj_agreement.proofs.LoadAnswers.{by-files, graphs-alike, joined-by-paths, joined-kept, main-by-paths}
+use Rattle.nj_agreement.proofs.LoadAnswers.{by-files, graphs-alike, joined-by-paths, joined-kept}
+use Rattle.nj_agreement.proofs.LoadAnswers.{main-by-paths}
 use Rattle.nj_agreement.proofs.LoadAnswers.{main-kept, AreLoadedAlike, EndAlike, Escapes}
 use Rattle.nj_c.specs.declared.session_state.Kept.{Kept}
 use Rattle.nj_c.specs.declared.status.Status.{Status}
@@ -159,7 +161,8 @@ module _ (before between between2 : Supplied) (main : List ℕ) (loaded loaded2 
         lacks f path = is_utf8 path && not (is_some (f path))
 
     -- the same paths are wanted after it
-    pub to-load-alike : (joins : Bool) → paths_to_load between joins loaded ≡ paths_to_load between2 joins loaded2
+    pub to-load-alike : (joins : Bool) → paths_to_load between joins loaded
+        ≡ paths_to_load between2 joins loaded2
     to-load-alike joins = by loaded loaded2 first-alike.0
       where
         by : (a b : Result LoadedModel GraphFault) → EndAlike a b
@@ -178,7 +181,8 @@ module _ (before between between2 : Supplied) (main : List ℕ) (loaded loaded2 
 module _ (before between between2 after after2 : Supplied) (loaded loaded2 : LoadedModel)
     (alike : AreLoadedAlike loaded loaded2)
     (read : between.read ≡ between2.read)
-    (supply : supplied_for between ≡ supplied_for before) (supply2 : supplied_for between2 ≡ supplied_for before)
+    (supply : supplied_for between ≡ supplied_for before)
+        (supply2 : supplied_for between2 ≡ supplied_for before)
     (joined joined2 : Result LoadedModel GraphFault)
     (joins : Joins alike.entries loaded.files (supplied_state between) (supplied_state after) joined)
     (joins2 : Joins alike.entries loaded.files (supplied_state between2) (supplied_state after2) joined2)
@@ -218,7 +222,8 @@ module _ (before between between2 after after2 : Supplied) (loaded loaded2 : Loa
       where
         by : Escapes (supplied_state between) (supplied_state after) joined
             ⊎ (Escapes (supplied_state between2) (supplied_state after2) joined2
-            ⊎ (EndAlike joined joined2 × (loaded.files ++ joins.1.readings ≡ loaded.files ++ joins2.1.readings)))
+            ⊎ (EndAlike joined joined2 × (loaded.files ++ joins.1.readings
+            ≡ loaded.files ++ joins2.1.readings)))
             → EndAlike joined joined2
         by (inl free) = absurd (no-escape between after joined memory free)
         by (inr (inl free)) = absurd (no-escape between2 after2 joined2 memory2 free)
@@ -237,7 +242,8 @@ module _ (kept : Supplied) (main : List ℕ) (joins : Bool) where
 
   no-wanted : (between : Supplied) (loaded : Result LoadedModel GraphFault)
       → paths_to_load between joins loaded ≡ [] → wanted_paths between ≡ []
-  no-wanted between (Ok loaded) none = no-paths (wanted_paths between) (lacking_dyndeps between joins loaded.graph) none
+  no-wanted between (Ok loaded) none = no-paths (wanted_paths between)
+      (lacking_dyndeps between joins loaded.graph) none
   no-wanted between (Err fault) none = none
 
   in-memory : (after : Supplied) (result : Result GraphModel GraphFault)
@@ -307,7 +313,8 @@ module _ (kept : Supplied) (main : List ℕ) (joins : Bool) where
           by (Ok l) (Err f) alike at at2 gives gives2 = absurd alike
           by (Err e) (Ok l2) alike at at2 gives gives2 = absurd alike
           by (Err e) (Err f) alike at at2 gives gives2 =
-              subst (λ r. SameResult r result2) (sym gives.1) (subst (SameResult (Err e)) (sym gives2.1) alike)
+              subst (λ r. SameResult r result2) (sym gives.1)
+                  (subst (SameResult (Err e)) (sym gives2.1) alike)
 
 -- ---- what is wanted
 
@@ -317,7 +324,8 @@ module _ (kept : Kept) (main : List ℕ) (joins : Bool) where
   wants-alike new new2 is also =
       is.are ∙ to-load-alike kept.files new.files new2.files main is.loaded also.loaded is.loads also.loads
       (all-found kept.files new.files main is.loaded is.loads is.found)
-      (all-found kept.files new2.files main also.loaded also.loads also.found) is.in_memory also.in_memory joins
+      (all-found kept.files new2.files main also.loaded also.loads also.found) is.in_memory also.in_memory
+          joins
       ∙ sym also.are
 
   pub loaded-or-wanted : (after : Supplied) (new : Kept) (result : Result GraphModel GraphFault)
@@ -423,7 +431,8 @@ module _ (kept new new2 : Kept) (main : List ℕ) (joins : Bool) (files : SameFi
     )
     come-alike _ _ (faulty f at there none other is) (wanted at2 fault2 wants2) =
         absurd (loaded-or-wanted kept main joins new.files new2 (Err f) is (err-in-memory f other) wants2)
-    come-alike _ _ (faulty f at there none other is) (no_text none2 text2) = absurd (text-or-not is.text text2)
+    come-alike _ _ (faulty f at there none other is) (no_text none2 text2) =
+        absurd (text-or-not is.text text2)
     come-alike _ _ (wanted at fault wants) (loaded h at2 fault2 none2 is2) =
         absurd (loaded-or-wanted kept main joins new2.files new (Ok h) is2 (ok-in-memory h) wants)
     come-alike _ _ (wanted at fault wants) (faulty e at2 there2 none2 other2 is2) =

@@ -1,5 +1,6 @@
 -- Two pages after the mark of one text.
-use Rattle.std.proofs.Common.{◌≡◌, ◌≢◌, inl, inr, ℕ, ◌^◌, ◌<◌, Bool, true, false, Option, Some, None, List, []}
+use Rattle.std.proofs.Common.{◌≡◌, ◌≢◌, inl, inr, ℕ, ◌^◌, ◌<◌, Bool, true, false, Option, Some, None, List}
+use Rattle.std.proofs.Common.{[]}
 use Rattle.std.proofs.Common.{◌∷◌, ◌==◌, leb, refl, sym, ap, subst, ◌∙◌, arith}
 use Rattle.std.specs.Prelude.{map, codes, decimal, bytes_eq, option_map, option_and_then}
 use Rattle.std.specs.List.{slice_split, join_with_byte, AllByRecursion}
@@ -113,12 +114,12 @@ one-page : (g : EdgeGraph) → IsAcyclic (makers_of g) (count_of g) → (targets
     (edges others end end2 : List ℕ)
     → IsPage g targets mark limit edges end → IsPage g targets mark limit others end2
     → (edges ≡ others) × (end ≡ end2)
-one-page g acyclic targets mark limit edges others end end2 (valid, (walk, begins, (are, (stop, text, stops))))
+one-page g acyclic targets mark limit edges others end end2
+    (valid, (walk, begins, (are, (stop, text, stops))))
     (valid2, (walk2, begins2, (are2, (stop2, text2, stops2)))) =
     let same = same-begins g targets mark walk walk2 begins begins2 in
     let acyclic2 : IsAcyclic (makers_of walk.graph) (count_of walk.graph) =
-    subst (λ h. IsAcyclic (makers_of h) (count_of h)) (sym begins.graph) acyclic in
-    (
+    subst (λ h. IsAcyclic (makers_of h) (count_of h)) (sym begins.graph) acyclic in (
       are ∙ ap (written (Some limit)) same.left ∙ sym are2,
       text ∙ ap end_text (stops-agree walk acyclic2 (Some limit) stop stop2 stops
           (same-stops walk walk2 same (Some limit) stop2 stops2)) ∙ sym text2,

@@ -32,7 +32,8 @@ module _ (one other : ℤ) (before before2 after after2 : List PathStep) (count 
         → GivesPath g with_validations from to before after count one
         → GivesPath g with_validations from to before2 after2 count2 other
         → InMemory one other (SameBuffer one other after after2 count count2)
-    paths-agree law g distinct with_validations from to (inl (path, is, gives)) (inl (path2, is2, gives2)) _ _ =
+    paths-agree law g distinct with_validations from to (inl (path, is, gives)) (inl (path2, is2, gives2)) _
+        _ =
         steps-agree path gives (subst (λ p. GivesSteps p before2 after2 count2 other)
         (sym (law g (every_kind with_validations) (record { 0 = from }) (record { 0 = to }) path path2
         distinct is

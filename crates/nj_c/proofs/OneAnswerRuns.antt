@@ -31,7 +31,8 @@ use Rattle.nj_cli.specs.Runs.RunEnds.{reported, output_fails, memory_fails}
 use Rattle.nj_cli.specs.Targets.{edges_by_path, NoEdgeNeedsItself}
 use Rattle.nj_cli.specs.Status.{exit_code}
 use Rattle.nj_cli.specs.declared.status.Status as run
-use Rattle.nj_agreement.proofs.LoadAnswers.{ends-agree, joined-by-paths, joined-kept, main-by-paths, main-kept}
+use Rattle.nj_agreement.proofs.LoadAnswers.{ends-agree, joined-by-paths, joined-kept, main-by-paths}
+use Rattle.nj_agreement.proofs.LoadAnswers.{main-kept}
 use Rattle.nj_agreement.proofs.LoadAnswers.{EndsAs, Escapes}
 use Rattle.nj_c.specs.declared.session_state.Kept.{Kept}
 use Rattle.nj_c.specs.declared.status.Status.{Status}
@@ -39,8 +40,10 @@ use Rattle.nj_c.specs.declared.status.Status.TheVariants.{Done, Nothing, Short, 
 use Rattle.nj_c.specs.declared.status.Status.TheVariants.{BadNumber, BadMark, NotUtf8, NotOpen, OutOfMemory}
 use Rattle.nj_c.specs.declared.status.Status.TheVariants.{BadLog}
 use Rattle.nj_c.specs.Loading.{unread, Changes, ListsWanted}
-use Rattle.nj_c.specs.OneAnswer.{Equal, InMemory, IsGiven, SameAnswer, SameContents, SameOptions, UnlessReported}
-use Rattle.nj_c.specs.Runs.{given_words, untouched, HasRun, KeepsNoOutput, LeavesRun, LeavesRunOfText, RunsKept}
+use Rattle.nj_c.specs.OneAnswer.{Equal, InMemory, IsGiven, SameAnswer, SameContents, SameOptions}
+use Rattle.nj_c.specs.OneAnswer.{UnlessReported}
+use Rattle.nj_c.specs.Runs.{given_words, untouched, HasRun, KeepsNoOutput, LeavesRun, LeavesRunOfText}
+use Rattle.nj_c.specs.Runs.{RunsKept}
 use Rattle.nj_c.specs.Runs.{SameLoad}
 use Rattle.nj_c.specs.Statuses.{code_of}
 use Rattle.nj_c.specs.SuppliedFiles.{supplied_for, supplied_state, wanted_paths, SameFiles, Supplied}
@@ -153,7 +156,8 @@ module _ (h : Supplied) (file : List ℕ) where
   stages after files (Err fault) (inl fails) = early fault fails
   stages after files (Err fault) (inr (more, fails)) = late (Err fault) more fails
 
-  module _ (after : Supplied) (files : List Reading) (more : ReadsMore file begun (supplied_state after) files)
+  module _ (after : Supplied) (files : List Reading)
+      (more : ReadsMore file begun (supplied_state after) files)
       (are : AreAsSupplied (supplied_for h) files)
     where
       split : AreAsSupplied (supplied_for h) (more.read ++ more.adds.readings)
@@ -183,7 +187,8 @@ module _ (h : Supplied) (file : List ℕ) where
       stages-agree : (a b : Outcome) → IsInMemory a → IsInMemory b → Stages after files a
           → Stages after2 files2 b → Agree a b
       stages-agree _ _ memory memory2 (early f is) (early e is2) =
-          by (first-agrees (supplied_state after) (supplied_state after2) files files2 are are2 (Err f) (Err e)
+          by (first-agrees (supplied_state after) (supplied_state after2) files files2 are are2 (Err f)
+              (Err e)
           is is2)
         where
           by : Escapes begun (supplied_state after) (ends-in f)
@@ -224,7 +229,8 @@ module _ (h : Supplied) (file : List ℕ) where
                   ⊎ (Escapes more2.between (supplied_state after2) b
                   ⊎ ((a ≡ b) × (more.read ++ more.adds.readings ≡ more.read ++ more2.adds.readings)))
                   → Agree a b
-              ends are_files (inl free) = absurd (no-escape more.between more.whole.failures after a memory free)
+              ends are_files (inl free) = absurd
+                  (no-escape more.between more.whole.failures after a memory free)
               ends are_files (inr (inl free)) =
                   absurd (no-escape more2.between more2.whole.failures after2 b memory2 free)
               ends are_files (inr (inr (same, readings))) =
@@ -338,8 +344,7 @@ module _ (law : OneEnding) (h : Supplied) (after after2 : Supplied) (o e o2 e2 :
           → outcome files new ended is ≡ outcome files2 new2 ended2 also → Written ended ended2
       unfolding outcome
       written-alike (inl refusal) (inl refusal2) same =
-          let faults : refusal.fault ≡ refusal2.fault = cc in
-          (
+          let faults : refusal.fault ≡ refusal2.fault = cc in (
             untouched-bytes o refusal.output ∙ sym (untouched-bytes o2 refusal2.output),
             told-fault e none.1 memory refusal.fault refusal.error ∙ ap (λ f. line (fault_line f)) faults
                 ∙ sym (told-fault e2 none2.1 memory2 refusal2.fault refusal2.error),
@@ -387,8 +392,7 @@ module _ (law : OneEnding) (h : Supplied) (after after2 : Supplied) (o e o2 e2 :
             (in-memory request files files2 ended ended2 after o e none.1 memory files ended is)
             (in-memory request files files2 ended ended2 after2 o2 e2 none2.1 memory2 files2 ended2 also)
             (is-run request files files2 ended ended2 after o e files ended is)
-            (is-run request files files2 ended ended2 after2 o2 e2 files2 ended2 also) in
-            (
+            (is-run request files files2 ended ended2 after2 o2 e2 files2 ended2 also) in (
               mine ∙ agree.1 ∙ sym theirs,
               written-alike request files files2 ended ended2 is also agree.0,
             )
@@ -495,24 +499,24 @@ module _ (law : OneEnding) (kept new new2 : Kept) (text : List ℕ) (exit exit2 
         → Comes kept new2 text exit2 status2 → AgreeAfter status status2
     come-alike _ _ (ran ended at is none lists utf8) (ran ended2 at2 is2 none2 lists2 utf82) =
         let alike = runs-alike new.output new.errors new2.output new2.errors ended ended2 is is2 memory
-        memory2 in
-        (
+        memory2 in (
           refl,
           (λ _. at ∙ ap (λ s. pos (exit_code s)) alike.1.2 ∙ sym at2),
           others-alike (no-lists lists lists2) alike.1.0 alike.1.1,
         )
-    come-alike _ _ (ran ended at is none lists utf8) (wants ended2 o2 e2 is2 other2 nothing2 lists2 some2 utf82) =
+    come-alike _ _ (ran ended at is none lists utf8)
+        (wants ended2 o2 e2 is2 other2 nothing2 lists2 some2 utf82) =
         let alike = runs-alike new.output new.errors o2 e2 ended ended2 is is2 memory other2 in
         absurd (some2 (sym (wanted-alike alike.0) ∙ none))
     come-alike _ _ (ran ended at is none lists utf8) (no_text not_text nothing2 lists2) =
         absurd (text-or-not utf8 not_text)
-    come-alike _ _ (wants ended o e is other nothing lists some utf8) (ran ended2 at2 is2 none2 lists2 utf82) =
+    come-alike _ _ (wants ended o e is other nothing lists some utf8)
+        (ran ended2 at2 is2 none2 lists2 utf82) =
         let alike = runs-alike o e new2.output new2.errors ended ended2 is is2 other memory2 in
         absurd (some (wanted-alike alike.0 ∙ none2))
     come-alike _ _ (wants ended o e is other nothing lists some utf8)
         (wants ended2 o2 e2 is2 other2 nothing2 lists2 some2 utf82) =
-        let alike = runs-alike o e o2 e2 ended ended2 is is2 other other2 in
-        (
+        let alike = runs-alike o e o2 e2 ended ended2 is is2 other other2 in (
           refl,
           (λ done. absurd cc),
           others-alike (lists ∙ wanted-alike alike.0 ∙ sym lists2) (nothing.output ∙ sym nothing2.output)
@@ -550,7 +554,8 @@ unless-open : (session : Option Kept) (kept : Kept) (holds : Type 0) → session
     → (kept.errors.bytes ≢ line out_of_memory → holds) → UnlessReported session holds
 unless-open session kept holds at give = subst (λ s. UnlessReported s holds) (sym at) give
 
-unless-closed : (session : Option Kept) (holds : Type 0) → session ≡ None → holds → UnlessReported session holds
+unless-closed : (session : Option Kept) (holds : Type 0) → session ≡ None → holds
+    → UnlessReported session holds
 unless-closed session holds at give = subst (λ s. UnlessReported s holds) (sym at) give
 
 module _ (law : OneEnding) (before before2 after after2 : Option Kept) (one other : ℤ)
@@ -568,17 +573,19 @@ module _ (law : OneEnding) (before before2 after after2 : Option Kept) (one othe
         (λ kept new. RunsKept kept new text old exit) (λ kept new. RunsKept kept new text old2 exit2)
         (InMemory one other (UnlessReported after (UnlessReported after2 SameLeft)))
         (λ left left2 is also memory memory2.
-        unless-closed after (UnlessReported after2 SameLeft) left (unless-closed after2 SameLeft left2
-        (refused one other (exit ≡ exit2) NotOpen not-open is also,
-        both-none (SameContents Equal Equal) after after2 left left2)))
+        unless-closed after (UnlessReported after2 SameLeft) left (unless-closed after2 SameLeft left2 (
+          refused one other (exit ≡ exit2) NotOpen not-open is also,
+          both-none (SameContents Equal Equal) after after2 left left2,
+        )))
         (λ kept new new2 status status2 at left left2 is also runs runs2 memory memory2.
-        unless-open after new (UnlessReported after2 SameLeft) left (λ told. unless-open after2 new2 SameLeft left2
+        unless-open after new (UnlessReported after2 SameLeft) left
+            (λ told. unless-open after2 new2 SameLeft left2
         (λ told2.
         let mine = comes kept new text old exit status (λ e. memory (is ∙ ap code_of e)) runs.2 in
         let theirs = comes kept new2 text old2 exit2 status2 (λ e. memory2 (also ∙ ap code_of e)) runs2.2 in
-        let agree = come-alike law kept new new2 text exit exit2 runs.0 runs2.0 runs.1 runs2.1 told told2 status
-        status2 mine theirs in
-        (
+        let agree = come-alike law kept new new2 text exit exit2 runs.0 runs2.0 runs.1 runs2.1 told told2
+            status
+        status2 mine theirs in (
           record {
             status = is ∙ ap code_of agree.0 ∙ sym also;
             given = λ given. agree.1 (given-done one status kept new text exit is given mine);

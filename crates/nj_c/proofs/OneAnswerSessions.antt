@@ -30,12 +30,12 @@ empty-agree one other is also = record {
 
 pub opens-agree : (before before2 after after2 : Option Kept) (one other : ℤ) → Opens before after one
     → Opens before2 after2 other → SameChange Equal Equal one other after after2
-opens-agree before before2 after after2 one other (inl (kept, is, left, empty)) (inl (kept2, also, left2, empty2)) _ _ =
-    (
-      is ∙ sym also,
-      both-some (SameContents Equal Equal) after after2 kept kept2 left left2
-          (empty-agree kept kept2 empty empty2),
-    )
+opens-agree before before2 after after2 one other (inl (kept, is, left, empty))
+    (inl (kept2, also, left2, empty2)) _ _ = (
+  is ∙ sym also,
+  both-some (SameContents Equal Equal) after after2 kept kept2 left left2
+      (empty-agree kept kept2 empty empty2),
+)
 opens-agree before before2 after after2 one other (inl is) (inr lacks) _ memory = absurd (memory lacks.0)
 opens-agree before before2 after after2 one other (inr lacks) also memory _ = absurd (memory lacks.0)
 
@@ -88,8 +88,7 @@ module _ (kept : Kept) (path : List ℕ) (file : Option (List ℕ)) where
       → (status ≡ status2) × SameContents Equal Equal new new2
   supplies-agree new new2 status status2 memory memory2 (files, left, is) (files2, left2, also) =
       let sets = takes files status memory is in
-      let sets2 = takes files2 status2 memory2 also in
-      (
+      let sets2 = takes files2 status2 memory2 also in (
         sets.0 ∙ sym sets2.0,
         same-but-files new new2 files files2 left left2
             (λ other. sets2.1.files other ∙ sym (sets.1.files other)),

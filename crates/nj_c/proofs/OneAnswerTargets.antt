@@ -136,8 +136,7 @@ module _ (before before2 after after2 : Option Kept) (one other : ℤ) (alike : 
         let theirs = comes kept new2 word old2 file2 status2 lacks2 picks2 in
         let agree = picks-agree kept new new2 word file file2
         (λ g there. of-graph before kept g (λ h. IsDistinct bytes_eq (files_of h)) at there known) status
-        status2 mine theirs in
-        (
+        status2 mine theirs in (
           record {
             status = is ∙ ap code_of agree.0 ∙ sym also;
             given = λ given. agree.1 (given-done one status is lacks given kept new word file mine);

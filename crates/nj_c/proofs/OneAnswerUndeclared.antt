@@ -72,7 +72,8 @@ module _ (g : GraphModel) (entries : List ReadStatement) (are : IsGraphOf g entr
     undeclared-agree (inl (log, is, (inputs, those, done, total, all))) (inr (inl (bad, none))) _ _ =
         absurd (log-or-none bytes log is none)
     undeclared-agree (inl is) (inr (inr lacks)) _ memory = absurd (memory lacks)
-    undeclared-agree (inr (inl (bad, none))) (inl (log, is, rest)) _ _ = absurd (log-or-none bytes log is none)
+    undeclared-agree (inr (inl (bad, none))) (inl (log, is, rest)) _ _ =
+        absurd (log-or-none bytes log is none)
     undeclared-agree (inr (inl (bad, none))) (inr (inl (bad2, none2))) _ _ =
         refused-buffer one other before before2 after after2 count count2 alike kept kept2 BadLog bad-log bad
         bad2
@@ -120,8 +121,7 @@ module _ (g : GraphModel) (entries : List ReadStatement) (are : IsGraphOf g entr
     made-agree (inl (made, known, tells, done, all)) (inl (made2, known2, tells2, done2, all2)) _ _ =
         let same : made ≡ made2 =
         flags-agree (IsMadeFrom g entries) (AreMadeFrom g entries) (λ flags none. none) (λ x xs lacks. lacks)
-        (λ x xs is flags each. each) files made made2 (tells entries are) (tells2 entries are) in
-        (
+        (λ x xs is flags each. each) files made made2 (tells entries are) (tells2 entries are) in (
           done ∙ sym done2,
           all ∙ ap (λ flags. filled (map bool_code flags) before) same
               ∙ ap (filled (map bool_code made2)) alike ∙ sym all2,

@@ -3,7 +3,7 @@ pub use Rattle.nj_c.specs.Asking.{GivesText, KeptUnlessDone, AtEdge, AtFile, AtG
 pub use Rattle.nj_c.specs.Asking.{GivesFile, kind_code, GivesTextOrNot, OfFault, OfPlace, step_kind_code, GivesTextAt, GivesMark}
 pub use Rattle.nj_c.specs.Asking.{GivesValue}
 pub use Rattle.nj_c.specs.Statuses.{code_of}
-pub use Rattle.nj_edges.specs.Edges.{edge_at, inputs_of, outputs_of, users_of, kind_at, maker_of, validation_users_of, roots_of, is_named}
+pub use Rattle.nj_edges.specs.Edges.{edge_at, inputs_of, outputs_of, users_of, kind_at, maker_of, validation_users_of, is_named, roots_of}
 pub use Rattle.nj_names.specs.Files.{path_at, AreFiles}
 pub use Rattle.nj_graph.specs.Graph.{edges_of, files_of, main_rules, GraphModel, IsGraphOf, rule_name_at, OfStatements}
 pub use Rattle.nj_c.specs.declared.status.Status.TheVariants.{Done, Nothing, OutOfMemory}
@@ -31,17 +31,18 @@ pub use Rattle.nj_faults.specs.Faults.{no_memory}
 pub use Rattle.nj_c.specs.Inside.Results.{FinishesLoad, KeepsFault, KeepsLoad, KeepsResult, AreStatements}
 pub use Rattle.nj_ask.specs.MadeFrom.{TellMadeFrom}
 pub use Rattle.nj_c.specs.MadeFrom.{FlagsKeptUnlessDone, GivesMadeFrom}
-pub use Rattle.nj_agreement.specs.Graphs.{SameGraph}
-pub use Rattle.nj_c.specs.OneAnswer.{SameAnswer, IfStated, SameBuffer, InMemory, OfAnyGraph, Equal, SameChange, SameNeeded, graph_of, UnlessReported, SameContents, SameOptions}
+pub use Rattle.nj_c.specs.OneAnswer.{SameAnswer, graph_of, Equal, SameChange, SameNeeded, IfStated, SameBuffer, InMemory, OfAnyGraph}
+pub use Rattle.nj_c.specs.OneAnswer.{SameContents, SameOptions, UnlessReported}
+pub use Rattle.std.specs.List.{list_any, IsDistinct, flat_map, filter}
 pub use Rattle.nj_edges.specs.Needs.{makers_of_inputs}
 pub use Rattle.nj_cycles.specs.Cycles.{IsAcyclic}
-pub use Rattle.std.specs.List.{IsDistinct, flat_map, list_any, filter}
+pub use Rattle.nj_agreement.specs.Graphs.{SameGraph}
 pub use Rattle.nj_needs.specs.Graphs.{makers_of, row_of}
 pub use Rattle.nj_needs.specs.Marks.{is_valid}
 pub use Rattle.nj_c.specs.Paths.{numbered_step, GivesPath, StepsKeptUnlessDone}
 pub use Rattle.nj_c.specs.Targets.{PicksFile}
-pub use Rattle.std.specs.Str.{is_utf8}
 pub use Rattle.nj_c.specs.Inside.RunsHeld.{empty_memory, FinishesRun, KeepsRun, NoFailures, NoRun, Ran, WordsRefused}
+pub use Rattle.std.specs.Str.{is_utf8}
 pub use Rattle.nj_scope.specs.Sources.{outcome_bytes}
 pub use Rattle.nj_c.specs.Inside.SuppliedHeld.{read_bytes, wanted_of}
 pub use Rattle.nj_c.specs.UndeclaredInputs.{numbered_input, GivesInputs, GivesUndeclared, InputsKeptUnlessDone}

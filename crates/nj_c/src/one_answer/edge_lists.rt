@@ -54,10 +54,7 @@ pub fn needed_twice(
     ensures { SameChange Equal (SameNeeded (graph_of one.old.kept) files.now) result.0 result.1
         one.new.kept other.new.kept }
 {
-    (
-        nx_needed(alloc, one, files),
-        nx_needed(alloc, other, files),
-    )
+    (nx_needed(alloc, one, files), nx_needed(alloc, other, files))
 }
 
 /// `nx_page`. Free: whether memory lacks; the room of the lists.

@@ -143,7 +143,15 @@ pub fn inputs_twice(
     graph_is_sound(alloc, one);
     (
         nx_inputs(alloc, one, edge, from, files, kinds, count),
-        nx_inputs(alloc, other, edge, from, files_other, kinds_other, count_other),
+        nx_inputs(
+            alloc,
+            other,
+            edge,
+            from,
+            files_other,
+            kinds_other,
+            count_other,
+        ),
     )
 }
 

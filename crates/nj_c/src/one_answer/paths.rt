@@ -32,6 +32,14 @@ pub fn path_between_twice(
     graph_is_sound(alloc, one);
     (
         nx_path_between(alloc, one, from, to, with_validations, steps, count),
-        nx_path_between(alloc, other, from, to, with_validations, steps_other, count_other),
+        nx_path_between(
+            alloc,
+            other,
+            from,
+            to,
+            with_validations,
+            steps_other,
+            count_other,
+        ),
     )
 }

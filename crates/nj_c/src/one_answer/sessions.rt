@@ -59,10 +59,7 @@ pub fn open_twice(
 ) -> (i32, i32)
     ensures { SameChange Equal Equal result.0 result.1 one.new.kept other.new.kept }
 {
-    (
-        nx_open(alloc, one, key),
-        nx_open(alloc, other, key_other),
-    )
+    (nx_open(alloc, one, key), nx_open(alloc, other, key_other))
 }
 
 /// `nx_version`. Nothing is free.
