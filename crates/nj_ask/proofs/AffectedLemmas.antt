@@ -13,7 +13,7 @@ use Rattle.nj_ask.specs.Answers.AnswersAffected.{no_path, no_rule, reported}
 use Rattle.nj_ask.specs.Endings.{program_line, refused}
 use Rattle.nj_ask.specs.Inside.Failures.{Gives}
 use Rattle.nj_ask.specs.Inside.Failures.{FailsBy}
-use Rattle.nj_ask.specs.Given.{given_paths, pattern_line, LeavesPaths, MisusesAffected, folder_misuse}
+use Rattle.nj_ask.specs.Given.{given_paths, LeavesPaths, MisusesAffected, folder_misuse}
 use Rattle.nj_ask.specs.Given.MisusesAffected.{no_folder, no_glob}
 use Rattle.nj_ask.specs.Inside.AnswerParts.{SaysPattern}
 use Rattle.nj_changes.specs.Ignored.{IsPatternFault}
