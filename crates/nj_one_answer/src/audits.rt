@@ -1,7 +1,7 @@
 //! The calls of `nj_audit`.
 
 ghost use Rattle.std.specs.Prelude.{◌≡◌, OnOk};
-ghost use Rattle.nj_one_answer.specs.Cited.{AgreeBoth, AgreeIfOk, OfStatements, SameKinds};
+ghost use Rattle.nj_one_answer.specs.Cited.{AgreeBoth, AgreeIfOk, OfEdge, OfStatements, SameKinds, edge_of};
 
 use nj_audit::{Findings, Kind, Kinds};
 use nj_graph::{Edge, Graph, PlaceRef, UndeclaredInput};
@@ -69,6 +69,20 @@ pub fn findings_extend<'a>(
     ensures { OnOk result.0 (OnOk result.1 (one.new ≡ other.new)) }
 {
     (one.extend(others), other.extend(others))
+}
+
+/// For a graph of statements. Free: whether memory lacks.
+pub fn has_generator<'g>(
+    alloc: Global,
+    edge: Edge<'g>,
+) -> (Result<bool, AllocError>, Result<bool, AllocError>)
+    ensures { OfEdge (edge_of edge.entry) (λ entries number.
+        AgreeIfOk (λ one other. one ≡ other) result.0 result.1) }
+{
+    (
+        nj_audit::has_generator(alloc, edge),
+        nj_audit::has_generator(alloc, edge),
+    )
 }
 
 /// Nothing is free.

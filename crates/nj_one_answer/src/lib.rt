@@ -23,7 +23,9 @@ pub use asks::{
     ask_read_words, ask_words, made_from, refuse_folder, refuse_input, refuse_words,
     report_out_of_memory, with_discovered,
 };
-pub use audits::{audit, findings_extend, findings_push, findings_push_at, kinds_from_words};
+pub use audits::{
+    audit, findings_extend, findings_push, findings_push_at, has_generator, kinds_from_words,
+};
 pub use deps::{deps_log_read, deps_log_read_with_keys};
 pub use graph::edge_values::{
     edge_append_variable, edge_command, edge_command_with_rsp, edge_variable, graph_command,
