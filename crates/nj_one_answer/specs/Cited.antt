@@ -10,8 +10,8 @@ pub use Rattle.nj_one_answer.specs.Runs.{AskWordsAlike, ReadAlike, SameErrors, S
 pub use Rattle.nj_agreement.specs.Sources.{DeclareSame, TellAll, UnlessFails}
 pub use Rattle.nj_agreement.specs.Memory.{IsGraphOutOfMemory, IsLogOutOfMemory, IsUnread, IsMarkOutOfMemory}
 pub use Rattle.nj_one_answer.specs.Discovered.{SameDiscovered}
+pub use Rattle.nj_graph.specs.Handles.{OfEdge, edge_of, edges_in, files_in, file_of}
 pub use Rattle.nj_one_answer.specs.AuditKinds.{SameKinds}
-pub use Rattle.nj_graph.specs.Handles.{edge_of, OfEdge, edges_in, files_in, file_of}
 pub use Rattle.nj_scope.specs.Scopes.{IsScope, parent_at}
 pub use Rattle.nj_agreement.specs.Graphs.{SameDiscoveries, SameGraph, SameLoaded, SameButTies}
 pub use Rattle.std.specs.List.{IsDistinct}
