@@ -27,7 +27,7 @@ module _ (before after : Kept) (bytes : List ℕ) (log : LogModel) (is : IsLogOf
       → JoinsDeps before after bytes status
   keeps (Ok joined) status edges files origins joins (kept, done) =
       subst (JoinsDeps before after bytes) (sym done)
-          (g, was, (joined, log, is, kept, (edges, files, origins), joins))
+      (g, was, (joined, log, is, kept, (edges, files, origins), joins))
   keeps (Err fault) status edges files origins joins (inl (failed, other, kept)) =
       subst (JoinsDeps before after bytes) (sym failed) (g, was, (fault, log, is, kept, other, joins))
   keeps (Err fault) status edges files origins joins (inr (failed, kept)) =

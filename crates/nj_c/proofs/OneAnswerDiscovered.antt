@@ -192,7 +192,7 @@ module _ (h : Supplied) (g : GraphModel) (stated : List ReadStatement) (graph : 
         none-in-range (depfile_at stated) (is_lacking h) 0 (length (edges_of g)) e (omega arith)
         (omega (arith, below, count-is)) depfile counts (no-once
         (filter (is_lacking h) (filter_map (depfile_at stated) (range_with_len 0 (length (edges_of g)))))
-            none)
+        none)
         in
         supplied-or (is_utf8 depfile) (is_some (supplied_for h depfile)) utf8 lacks
 

@@ -182,7 +182,7 @@ module _ (before between between2 after after2 : Supplied) (loaded loaded2 : Loa
     (alike : AreLoadedAlike loaded loaded2)
     (read : between.read ≡ between2.read)
     (supply : supplied_for between ≡ supplied_for before)
-        (supply2 : supplied_for between2 ≡ supplied_for before)
+    (supply2 : supplied_for between2 ≡ supplied_for before)
     (joined joined2 : Result LoadedModel GraphFault)
     (joins : Joins alike.entries loaded.files (supplied_state between) (supplied_state after) joined)
     (joins2 : Joins alike.entries loaded.files (supplied_state between2) (supplied_state after2) joined2)
@@ -314,7 +314,7 @@ module _ (kept : Supplied) (main : List ℕ) (joins : Bool) where
           by (Err e) (Ok l2) alike at at2 gives gives2 = absurd alike
           by (Err e) (Err f) alike at at2 gives gives2 =
               subst (λ r. SameResult r result2) (sym gives.1)
-                  (subst (SameResult (Err e)) (sym gives2.1) alike)
+              (subst (SameResult (Err e)) (sym gives2.1) alike)
 
 -- ---- what is wanted
 
@@ -325,7 +325,7 @@ module _ (kept : Kept) (main : List ℕ) (joins : Bool) where
       is.are ∙ to-load-alike kept.files new.files new2.files main is.loaded also.loaded is.loads also.loads
       (all-found kept.files new.files main is.loaded is.loads is.found)
       (all-found kept.files new2.files main also.loaded also.loads also.found) is.in_memory also.in_memory
-          joins
+      joins
       ∙ sym also.are
 
   pub loaded-or-wanted : (after : Supplied) (new : Kept) (result : Result GraphModel GraphFault)

@@ -188,7 +188,7 @@ module _ (h : Supplied) (file : List ℕ) where
           → Stages after2 files2 b → Agree a b
       stages-agree _ _ memory memory2 (early f is) (early e is2) =
           by (first-agrees (supplied_state after) (supplied_state after2) files files2 are are2 (Err f)
-              (Err e)
+          (Err e)
           is is2)
         where
           by : Escapes begun (supplied_state after) (ends-in f)
@@ -579,12 +579,12 @@ module _ (law : OneEnding) (before before2 after after2 : Option Kept) (one othe
         )))
         (λ kept new new2 status status2 at left left2 is also runs runs2 memory memory2.
         unless-open after new (UnlessReported after2 SameLeft) left
-            (λ told. unless-open after2 new2 SameLeft left2
+        (λ told. unless-open after2 new2 SameLeft left2
         (λ told2.
         let mine = comes kept new text old exit status (λ e. memory (is ∙ ap code_of e)) runs.2 in
         let theirs = comes kept new2 text old2 exit2 status2 (λ e. memory2 (also ∙ ap code_of e)) runs2.2 in
         let agree = come-alike law kept new new2 text exit exit2 runs.0 runs2.0 runs.1 runs2.1 told told2
-            status
+        status
         status2 mine theirs in (
           record {
             status = is ∙ ap code_of agree.0 ∙ sym also;

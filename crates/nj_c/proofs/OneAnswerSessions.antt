@@ -32,10 +32,10 @@ pub opens-agree : (before before2 after after2 : Option Kept) (one other : ℤ) 
     → Opens before2 after2 other → SameChange Equal Equal one other after after2
 opens-agree before before2 after after2 one other (inl (kept, is, left, empty))
     (inl (kept2, also, left2, empty2)) _ _ = (
-  is ∙ sym also,
-  both-some (SameContents Equal Equal) after after2 kept kept2 left left2
-      (empty-agree kept kept2 empty empty2),
-)
+      is ∙ sym also,
+      both-some (SameContents Equal Equal) after after2 kept kept2 left left2
+          (empty-agree kept kept2 empty empty2),
+    )
 opens-agree before before2 after after2 one other (inl is) (inr lacks) _ memory = absurd (memory lacks.0)
 opens-agree before before2 after after2 one other (inr lacks) also memory _ = absurd (memory lacks.0)
 

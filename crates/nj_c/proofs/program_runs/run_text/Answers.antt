@@ -9,7 +9,7 @@ returns-in-Ok c =
     runs-kept c.args.kept.now c.forget_run.new.kept c.run_over.new.kept c.args.text.now
     (map string_bytes c.deref.result.now) c.args.exit.now c.run_over.new.exit c.run_over.result
     c.in-Ok.ensures.text begun.files begun.load
-        (ap (map string_bytes) c.deref.ensures.value ∙ c.in-Ok.ensures.words) over.files
+    (ap (map string_bytes) c.deref.ensures.value ∙ c.in-Ok.ensures.words) over.files
     over.load over.ends
 
 pub returns-in-Err : goal.returns-in-Err

@@ -12,11 +12,11 @@ returns c =
     let fits : SFits w32 c.nx_dirtied.result = search rules in
     let fits2 : SFits w32 c.nx_dirtied-2.result = search rules in
     passed (λ r s. SameChange Equal Equal r s c.nx_dirtied.new.session.kept c.nx_dirtied-2.new.session.kept)
-        fits
+    fits
     fits2 (same-change Equal Equal c.args.one.now.kept c.args.other.now.kept c.nx_dirtied.new.session.kept
     c.nx_dirtied-2.new.session.kept c.nx_dirtied.result c.nx_dirtied-2.result c.requires
     (λ kept after. ListsDirty kept after c.args.files.now)
     (λ kept after. ListsDirty kept after c.args.files.now)
     (λ kept new new2 status status2 at memory memory2 is also.
     dirty-agree c.args.files.now kept new new2 status status2 memory memory2 is also) c.nx_dirtied.ensures
-        c.nx_dirtied-2.ensures)
+    c.nx_dirtied-2.ensures)

@@ -15,7 +15,7 @@ returns-clause-same c =
     c.args.other.now.kept c.requires.kept c.nx_run_errors.result c.nx_run_errors-2.result c.args.buffer.now
     c.args.buffer_other.now c.nx_run_errors.new.buffer c.nx_run_errors-2.new.buffer c.nx_run_errors.new.needed
     c.nx_run_errors-2.new.needed c.requires.buffer c.nx_run_errors.ensures.buffer
-        c.nx_run_errors-2.ensures.buffer
+    c.nx_run_errors-2.ensures.buffer
     errors_in c.nx_run_errors.ensures.text c.nx_run_errors-2.ensures.text)
 
 pub returns-clause-kept : goal.returns-clause-kept

@@ -13,7 +13,7 @@ returns c =
     let fits2 : SFits w32 c.nx_add_absent-2.result = search rules in
     let path = c.args.path.now in
     passed (λ r s. SameChange Equal Equal r s c.nx_add_absent.new.session.kept
-        c.nx_add_absent-2.new.session.kept) fits fits2
+    c.nx_add_absent-2.new.session.kept) fits fits2
     (same-change Equal Equal c.args.one.now.kept c.args.other.now.kept c.nx_add_absent.new.session.kept
     c.nx_add_absent-2.new.session.kept c.nx_add_absent.result c.nx_add_absent-2.result c.requires
     (λ kept after. TakesPath kept after path None) (λ kept after. TakesPath kept after path None)

@@ -13,12 +13,12 @@ returns c =
     let fits2 : SFits w32 c.nx_add_file-2.result = search rules in
     let path = c.args.path.now in
     passed (λ r s. SameChange Equal Equal r s c.nx_add_file.new.session.kept c.nx_add_file-2.new.session.kept)
-        fits fits2
+    fits fits2
     (same-change Equal Equal c.args.one.now.kept c.args.other.now.kept c.nx_add_file.new.session.kept
     c.nx_add_file-2.new.session.kept c.nx_add_file.result c.nx_add_file-2.result c.requires
     (λ kept after. TakesPath kept after path (Some c.args.bytes.now))
-        (λ kept after. TakesPath kept after path (Some c.args.bytes.now))
+    (λ kept after. TakesPath kept after path (Some c.args.bytes.now))
     (λ kept new new2 status status2 at memory memory2 is also.
     supplies-agree kept path (Some c.args.bytes.now) new new2 status status2 memory memory2 is also)
-        c.nx_add_file.ensures
+    c.nx_add_file.ensures
     c.nx_add_file-2.ensures)
