@@ -16,6 +16,8 @@ WANTED = b"<wanted>\n"
 MARKED = re.compile(rb"<([0-9a-fA-F]*)>")
 # The blocks that each row of a section has.
 OF_SECTION = "file", "unended", "log", "repeat"
+# Those that say what standard input is.
+INPUTS = "input", "unended-input"
 # The settings for one row alone.
 LIMITS = "reading-fails", "built-reading-fails", "output-takes", "error-takes", "folder"
 
@@ -119,8 +121,8 @@ def rows_of(text, most_repeated=None):
             files = {**files, block.rest: block.text if is_whole else block.text.removesuffix(b"\n")}
         elif block.kind == "log":
             files = {**files, block.rest: log_of(block.text)}
-        elif block.kind == "input":
-            given = block.text
+        elif block.kind in INPUTS:
+            given = block.text if block.kind == "input" else block.text.removesuffix(b"\n")
         elif block.kind == "repeat":
             files = dict(files)
             repeat(files, block, most_repeated)
@@ -151,7 +153,7 @@ def single_rows(text):
             section, own = [chunk], []
         elif kind in OF_SECTION:
             section.append(chunk)
-        elif kind in (*LIMITS, "input"):
+        elif kind in (*LIMITS, *INPUTS):
             own.append(chunk)
         else:
             line = chunk.partition("\n")[0]
