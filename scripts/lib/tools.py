@@ -268,6 +268,7 @@ GRAPH_TOOLS = {
     ),
     "audit": Tool(
         {"--all": None, "--only": "KIND", "--except": "KIND", "--json": None, "--list": None},
+        ("--only=missing-source",),
         looks=((LINES, NOTHING), (ANYTHING, NOT_LOOKED_UP)),
     ),
     "draw": Tool({"--affected": None, "--fold": None, "--limit": "N", "--inputs": "K"}),

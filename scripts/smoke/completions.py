@@ -85,7 +85,8 @@ def graph_lines():
     """These lines, and the options of each subcommand."""
     yield from GRAPH_LINES
     for name, (options, _) in SUBCOMMANDS.items():
-        yield [name, "--"], " ".join([*options, "--dyndep", "--deps", "--deps-log-file", "--help"])
+        long = [option for option in options if option.startswith("--")]
+        yield [name, "--"], " ".join([*long, "--dyndep", "--deps", "--deps-log-file", "--help"])
 
 
 def links(folder, programs):

@@ -167,7 +167,7 @@ LOGGED = {".ninja_deps": deps_log({"a": ["h", "d"]})}
 ON_NESTED = [
     ["affected"],
     ["affected", "--rule", "deep", "--no-phony"],
-    ["audit"],
+    ["audit", "--only=missing-source"],
     ["audit", "--all"],
     ["draw"],
     ["draw", "--affected", "--fold", "d"],
