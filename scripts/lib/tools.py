@@ -392,6 +392,8 @@ GRAPH_NESTED = (
     "affected --rule deep --prefix a --no-phony --source-dir . < d",
     "affected --deps --ignore-unknown < h f7",
     "affected --allow-empty",
+    "affected -z --ignore none < d",
+    "audit --all",
     "audit --deps-log-file log --only unused-output --except missing-source --json",
     "audit --list",
     "audit",

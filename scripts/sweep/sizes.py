@@ -314,9 +314,12 @@ def graph_of_chain():
     yield "affected --prefix e9 < e7", done(paths(nines))
     yield f"affected < {' '.join(f'e{n}' for n in ALL)}", done(paths(ALL[1:]))
     yield f"affected < {' '.join(f'x{n}' for n in ALL)}", (LOOK, "", lines(f"x{n}" for n in ALL))
+    yield "affected --ignore none < e7", done(after)
+    yield "affected -z < e7", (LOOK, "", "e7\n\n")
     yield "affected", (LOOK, "", "ninja-graph: no changed path was given\n")
     yield "affected --allow-empty", done("")
     yield "audit", done("")
+    yield "audit --all", done("")
     yield "audit --json --only unused-variable --except unused-rule", done("")
     listed = [(kind, "on" if is_default else "off") for kind, is_default in audit.KINDS.items()]
     yield "audit --list", done(listed), listed_kinds
