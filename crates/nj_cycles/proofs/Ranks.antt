@@ -10,12 +10,24 @@ use Rattle.std.proofs.lemmas.List.{length-drop, get_or-drop}
 use Rattle.std.proofs.lemmas.List.Sums.{fails_before_first, passes_at_first}
 use Rattle.std.proofs.lemmas.List.Elements.{Contains-append_left}
 use Rattle.nj_cycles.specs.Cycles.{Needs, NeedsByChain, IsOnCycle, FallsAlongNeeds, IsAcyclic, IsFirstOnCycle}
+use Rattle.nj_cycles.specs.Cycles.{AreAfterNeeds}
 use Rattle.nj_cycles.specs.Cycles.{FallingRanksLeaveNoCycle}
 use Rattle.nj_cycles.specs.Cycles.Chain.{one, more}
 use Rattle.nj_cycles.specs.Inside.Walks.{Reaches, IsFalling, Walked}
 use Rattle.nj_cycles.specs.Inside.Marks.{IsMarked, AreMarks, IsLeastOf}
 use Rattle.nj_cycles.proofs.Chains.{comes_then, then_comes}
 use Rattle.nj_cycles.proofs.Places.{index_of, contains_at, index_before}
+
+-- ---- the law
+
+rank_falls : (makers : ℕ → List (Option ℕ)) (rank : ℕ → ℕ) → FallsAlongNeeds makers rank → (e f : ℕ)
+    → NeedsByChain makers e f → rank f < rank e
+rank_falls makers rank falls e f (one needs) = falls e f needs
+rank_falls makers rank falls e f (more {g = h} needs chain) =
+    omega (arith, falls e h needs, rank_falls makers rank falls h f chain)
+
+pub falling_ranks_leave_no_cycle : FallingRanksLeaveNoCycle
+falling_ranks_leave_no_cycle makers rank falls e on = grind (arith, rank_falls makers rank falls e e on)
 
 -- ---- a rank
 
@@ -55,6 +67,17 @@ module _ (makers : ℕ → List (Option ℕ)) (count : ℕ) (order : List ℕ) (
     | inr r ↦ absurd (none (slice_index order a) (contains_at order a (slice_index order a) lt refl)
         (then_comes (Needs makers) (slice_index order a) f (slice_index order a) (one needs) r))
   ]
+
+  -- so does each edge of a graph without cycles
+  pub after_needs : IsAcyclic makers count → AreAfterNeeds makers count order
+  after_needs acyclic =
+      let falling = falls (λ e _ on. falling_ranks_leave_no_cycle makers acyclic.0 acyclic.1.falls e on) in
+      record {
+        all = w.all;
+        within = w.within;
+        once = w.once;
+        after = λ turn f lt needs. index_before order turn f (omega (arith, lt)) (falling turn f lt needs);
+      }
 
   -- ---- an edge that needs one at its place or after it
 
@@ -148,14 +171,3 @@ least_more makers edges e l least on is h = grind arith
 pub stepped : (order : List ℕ) (index : ℕ) → 0 < index → index ≤ length order
     → drop (index - 1) order ≡ slice_index order (index - 1) ∷ drop index order
 stepped order index low high = grind (arith, common_steps)
-
--- ---- the law
-
-rank_falls : (makers : ℕ → List (Option ℕ)) (rank : ℕ → ℕ) → FallsAlongNeeds makers rank → (e f : ℕ)
-    → NeedsByChain makers e f → rank f < rank e
-rank_falls makers rank falls e f (one needs) = falls e f needs
-rank_falls makers rank falls e f (more {g = h} needs chain) =
-    omega (arith, falls e h needs, rank_falls makers rank falls h f chain)
-
-pub falling_ranks_leave_no_cycle : FallingRanksLeaveNoCycle
-falling_ranks_leave_no_cycle makers rank falls e on = grind (arith, rank_falls makers rank falls e e on)

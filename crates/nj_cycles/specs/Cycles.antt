@@ -1,6 +1,6 @@
 -- Dependency cycles. The edges of a build graph (its build statements) are numbered from 0, and `makers` has for
 -- each edge the makers of its inputs, in their order: the edge that makes an input, or None for a source.
-use Rattle.std.specs.Prelude.{ℕ, ◌<◌, List, Option, None, Some, Contains}
+use Rattle.std.specs.Prelude.{◌≡◌, ◌≢◌, ℕ, ◌<◌, List, Option, None, Some, length, slice_index, Contains}
 
 -- edge e needs edge f directly: f makes an input of e
 abbrev pub Needs : (makers : ℕ → List (Option ℕ)) → ℕ → ℕ → Type 0
@@ -50,3 +50,11 @@ IsFirstOnCycle makers edge_count (Some e) = IsLeastOnCycle makers e
 abbrev pub FallingRanksLeaveNoCycle : Type 0
 FallingRanksLeaveNoCycle =
     (makers : ℕ → List (Option ℕ)) (rank : ℕ → ℕ) → FallsAlongNeeds makers rank → (e : ℕ) → ¬ IsOnCycle makers e
+
+-- an order of all edges, without duplicates, in which each comes after those that it needs
+pub record AreAfterNeeds (makers : ℕ → List (Option ℕ)) (edge_count : ℕ) (order : List ℕ) : Type 0 where
+  pub all : (e : ℕ) → e < edge_count → Contains order e
+  pub within : (turn : ℕ) → turn < length order → slice_index order turn < edge_count
+  pub once : (turn later : ℕ) → turn < later → later < length order → slice_index order turn ≢ slice_index order later
+  pub after : (turn f : ℕ) → turn < length order → Needs makers (slice_index order turn) f
+      → (earlier : ℕ) × (earlier < turn) × (slice_index order earlier ≡ f)

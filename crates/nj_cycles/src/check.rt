@@ -1,6 +1,6 @@
 //! The cycle check.
 ghost use Rattle.std.specs.Prelude.{IfOk};
-ghost use Rattle.nj_cycles.specs.Cited.{IsFirstOnCycle, FallingRanksLeaveNoCycle};
+ghost use Rattle.nj_cycles.specs.Cited.{AreAfterNeeds, IsAcyclic, IsFirstOnCycle, FallingRanksLeaveNoCycle};
 
 use crate::finishing_order::finish_all;
 use crate::maker_lists::EdgeInputs;
@@ -22,6 +22,18 @@ pub fn first_on_cycle<I: EdgeInputs>(alloc: Global, inputs: &I) -> Result<Option
     }
     let users = users_of_edges(alloc, inputs)?;
     least_on_cycle(alloc, inputs, &users, &finished.order)
+}
+
+/// All edges of a graph without dependency cycles, without duplicates, each after those that it
+/// needs. Takes time in proportion to the edges and their inputs, and memory for each edge. Fails
+/// only if it runs out of memory.
+pub fn makers_first<I: EdgeInputs>(alloc: Global, inputs: &I) -> Result<Vec<usize>, AllocError>
+    requires { IsAcyclic (I.makers inputs.now) (I.count inputs.now) }
+    ensures { IfOk result (λ order.
+        AreAfterNeeds (I.makers inputs.now) (I.count inputs.now) order.items) }
+{
+    let finished = finish_all(alloc, inputs)?;
+    Ok(finished.order)
 }
 
 /// The purpose of a rank: where one falls along every need, no edge needs itself by a chain.

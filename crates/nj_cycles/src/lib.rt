@@ -7,5 +7,5 @@ mod maker_lists;
 mod on_cycle;
 mod reversed;
 
-pub use check::{acyclic_law, first_on_cycle};
+pub use check::{acyclic_law, first_on_cycle, makers_first};
 pub use maker_lists::EdgeInputs;
