@@ -1,5 +1,6 @@
 -- Files that are found one by one.
-use Rattle.std.proofs.Common.{◌≡◌, ℕ, Bool, true, false, cond, Option, Some, None, List, [], ◌∷◌, ◌++◌, refl}
+use Rattle.std.proofs.Common.{◌≡◌, ℕ, Bool, true, false, cond, Option, Some, None, List, [], ◌∷◌, ◌++◌, map}
+use Rattle.std.proofs.Common.{refl}
 use Rattle.std.proofs.Common.{sym, ap, ◌∙◌}
 use Rattle.std.proofs.Common.{append-nil, append_assoc}
 use Rattle.std.specs.Prelude.{option_and_then}
@@ -8,7 +9,9 @@ use Rattle.std.proofs.lemmas.List.Elements.{filter_map-append}
 use Rattle.nj_graph.specs.Graph.{GraphModel, files_of}
 use Rattle.nj_graph.specs.Handles.{GraphFile, file_in}
 use Rattle.nj_audit.specs.Audit.{path_of}
-use Rattle.nj_audit.specs.NamedPaths.{after_letter, after_sign, number_at, path_named, word_names}
+use Rattle.nj_audit.specs.NamedPaths.{SeenName, after_letter, after_sign, number_at, path_seen, seen_from}
+use Rattle.nj_audit.specs.NamedPaths.{word_names}
+use Rattle.nj_audit.specs.ReadWords.{names_in_word}
 use Rattle.nj_audit.specs.UnorderedFiles.{file_if_meant, file_named, is_meant}
 use Rattle.nj_audit.specs.Inside.FilesNamed.{AddsFiles}
 use Rattle.nj_audit.specs.Inside.Handles.{files_numbered}
@@ -20,48 +23,62 @@ cons-is : {A : Type 0} (o : Option A) (xs : List A) → cons_option o xs ≡ con
 cons-is None xs = refl
 cons-is (Some x) xs = refl
 
-pub names-are : (word : List ℕ)
+word-names-are : (word : List ℕ)
     → word_names word ≡ ((word ∷ []) ++ cons_option (after_sign word) [])
     ++ cons_option (after_letter word) []
-names-are word = ap (λ names. word ∷ names) (cons-is (after_sign word) (cons_option (after_letter word) []))
+word-names-are word =
+    ap (λ names. word ∷ names) (cons-is (after_sign word) (cons_option (after_letter word) []))
+
+pub names-are : (folder word : List ℕ)
+    → names_in_word folder word
+    ≡ (map (seen_from folder) (word ∷ []) ++ map (seen_from folder) (cons_option (after_sign word) []))
+    ++ map (seen_from folder) (cons_option (after_letter word) [])
+names-are folder word =
+    ap (map (seen_from folder)) (word-names-are word)
+    ∙ map-append (seen_from folder) ((word ∷ []) ++ cons_option (after_sign word) [])
+    (cons_option (after_letter word) [])
+    ∙ ap (λ names. names ++ map (seen_from folder) (cons_option (after_letter word) []))
+    (map-append (seen_from folder) (word ∷ []) (cons_option (after_sign word) []))
 
 -- ---- files
 
 -- the file at the path of a name, if it is meant
-file-if : (g : GraphModel) (folder name path : List ℕ) (number : ℕ) (b : Bool)
-    → path_named folder name ≡ Some path → number_at (files_of g) path ≡ Some number
-    → is_meant g name (path_of g number) ≡ b → file_named g folder name ≡ cond b (Some number) None
-file-if g folder name path number b p n m =
-    ap (λ o. option_and_then (file_if_meant g name) (option_and_then (number_at (files_of g)) o)) p
-    ∙ ap (option_and_then (file_if_meant g name)) n ∙ ap (λ b. cond b (Some number) None) m
+file-if : (g : GraphModel) (folder : List ℕ) (seen : SeenName) (path : List ℕ) (number : ℕ) (b : Bool)
+    → path_seen folder seen ≡ Some path → number_at (files_of g) path ≡ Some number
+    → is_meant g seen.name (path_of g number) ≡ b → file_named g folder seen ≡ cond b (Some number) None
+file-if g folder seen path number b p n m =
+    ap (λ o. option_and_then (file_if_meant g seen.name) (option_and_then (number_at (files_of g)) o)) p
+    ∙ ap (option_and_then (file_if_meant g seen.name)) n ∙ ap (λ b. cond b (Some number) None) m
 
-pub adds-meant : (g : GraphModel) (folder name path : List ℕ) (number : ℕ) (old new : List GraphFile)
-    → path_named folder name ≡ Some path → number_at (files_of g) path ≡ Some number
-    → is_meant g name (path_of g number) ≡ true → new ≡ old ++ file_in g (path_of g number) ∷ []
-    → AddsFiles g folder (name ∷ []) old new
-adds-meant g folder name path number old new p n m is =
+pub adds-meant : (g : GraphModel) (folder : List ℕ) (seen : SeenName) (path : List ℕ) (number : ℕ)
+    (old new : List GraphFile)
+    → path_seen folder seen ≡ Some path → number_at (files_of g) path ≡ Some number
+    → is_meant g seen.name (path_of g number) ≡ true → new ≡ old ++ file_in g (path_of g number) ∷ []
+    → AddsFiles g folder (seen ∷ []) old new
+adds-meant g folder seen path number old new p n m is =
     is ∙ ap (λ o. old ++ files_numbered g (cons_option o []))
-    (sym (file-if g folder name path number true p n m))
+    (sym (file-if g folder seen path number true p n m))
 
-pub adds-unmeant : (g : GraphModel) (folder name path : List ℕ) (number : ℕ) (old : List GraphFile)
-    → path_named folder name ≡ Some path → number_at (files_of g) path ≡ Some number
-    → is_meant g name (path_of g number) ≡ false → AddsFiles g folder (name ∷ []) old old
-adds-unmeant g folder name path number old p n m =
+pub adds-unmeant : (g : GraphModel) (folder : List ℕ) (seen : SeenName) (path : List ℕ) (number : ℕ)
+    (old : List GraphFile)
+    → path_seen folder seen ≡ Some path → number_at (files_of g) path ≡ Some number
+    → is_meant g seen.name (path_of g number) ≡ false → AddsFiles g folder (seen ∷ []) old old
+adds-unmeant g folder seen path number old p n m =
     sym (append-nil old) ∙ ap (λ o. old ++ files_numbered g (cons_option o []))
-    (sym (file-if g folder name path number false p n m))
+    (sym (file-if g folder seen path number false p n m))
 
 module _ (g : GraphModel) (folder : List ℕ) where
   -- the files that these names mean
-  abbrev pub files_at : List (List ℕ) → List GraphFile
+  abbrev pub files_at : List SeenName → List GraphFile
   files_at names = files_numbered g (filter_map (file_named g folder) names)
 
-  pub files-append : (names more : List (List ℕ)) → files_at (names ++ more) ≡ files_at names ++ files_at more
+  pub files-append : (names more : List SeenName) → files_at (names ++ more) ≡ files_at names ++ files_at more
   files-append names more =
       ap (files_numbered g) (filter_map-append (file_named g folder) names more)
       ∙ map-append (λ n. file_in g (path_of g n)) (filter_map (file_named g folder) names)
       (filter_map (file_named g folder) more)
 
-  pub adds-then : (names more : List (List ℕ)) (first old new : List GraphFile)
+  pub adds-then : (names more : List SeenName) (first old new : List GraphFile)
       → AddsFiles g folder names first old → AddsFiles g folder more old new
       → AddsFiles g folder (names ++ more) first new
   adds-then names more first old new a b =

@@ -12,6 +12,8 @@ pub mod MarkLemmas
 pub mod KindLemmas
 mod KindRows
 mod PathLemmas
-mod PlainLemmas
+pub mod RoleLemmas
+pub mod PlainLemmas
 pub mod ShellLemmas
 mod ShellRows
+mod ReadRows

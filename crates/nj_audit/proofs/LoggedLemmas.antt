@@ -2,15 +2,19 @@
 use Rattle.std.proofs.Common.{◌≡◌, ◌&&◌, ◌++◌, ◌∷◌, ◌↔◌, Bool, true, false, cond, Option, Some, None, List}
 use Rattle.std.proofs.Common.{[], ℕ, length, map, refl, sym, ap, subst, ◌∙◌, append-nil, append_assoc}
 use Rattle.std.proofs.Common.{true≢false}
-use Rattle.std.specs.Prelude.{nat_lt}
+use Rattle.std.specs.Prelude.{nat_lt, not}
 use Rattle.std.specs.List.{cons_option}
 use Rattle.nj_scope.specs.ReadingList.{ReadStatement}
+use Rattle.nj_graph.specs.Edges.{maker_of}
 use Rattle.nj_graph.specs.Graph.{GraphModel, edges_of, files_of}
 use Rattle.nj_graph.specs.Undeclared.{AreThose, InputOfEdge, input_of_edge}
 use Rattle.nj_graph.specs.Undeclared.AreThose.{none, has_it, lacks_it}
 use Rattle.nj_graph.specs.declared.undeclared.UndeclaredInput.{UndeclaredInput as LoggedInput}
 use Rattle.nj_audit.specs.Findings.{FindingModel}
-use Rattle.nj_audit.specs.LoggedInputs.{AreFoundIf, IsNamedUnordered, finding_of_input, input_in}
+use Rattle.nj_audit.specs.LoggedInputs.{AreFoundIf, IsLoggedAlone, IsNamedUnordered, finding_of_input}
+use Rattle.nj_audit.specs.LoggedInputs.{input_in}
+use Rattle.nj_audit.specs.Roles.{makes_opened}
+use Rattle.nj_audit.specs.UnorderedFiles.{is_looked_at}
 use Rattle.nj_audit.specs.Inside.LoggedFound.{AddsLogged}
 use Rattle.nj_audit.specs.declared.kinds.Kind.TheVariants.{UndeclaredInput}
 use Rattle.nj_audit.proofs.KindLemmas.{AreOf, of-none, of-undeclared}
@@ -18,23 +22,23 @@ use Rattle.nj_audit.proofs.ListLemmas.{map-append}
 
 module _ (g : GraphModel) (entries : List ReadStatement) (folder : List ℕ) where
   abbrev IsNew : InputOfEdge → Type 0
-  IsNew input = ¬ IsNamedUnordered g entries folder input
+  IsNew input = IsLoggedAlone g entries folder input
 
   pub logged-none : (base : List FindingModel) → AddsLogged g entries folder [] base base
   logged-none base = record { others = []; are_others = none; found = sym (append-nil base) }
 
   module _ (input : InputOfEdge) (old new : List FindingModel) where
-    pub logged-one : (b : Bool) → (b ≡ true) ↔ IsNamedUnordered g entries folder input
-        → new ≡ old ++ cond b [] (finding_of_input g input ∷ [])
+    pub logged-one : (b : Bool) → (b ≡ true) ↔ IsLoggedAlone g entries folder input
+        → new ≡ old ++ cond b (finding_of_input g input ∷ []) []
         → AddsLogged g entries folder (input ∷ []) old new
-    logged-one true named is = record {
-      others = [];
-      are_others = lacks_it (λ fresh. fresh (named.0 refl)) none;
+    logged-one true alone is = record {
+      others = input ∷ [];
+      are_others = has_it (alone.0 refl) none;
       found = is;
     }
-    logged-one false named is = record {
-      others = input ∷ [];
-      are_others = has_it (λ was. true≢false (sym (named.1 was))) none;
+    logged-one false alone is = record {
+      others = [];
+      are_others = lacks_it (λ was. true≢false (sym (alone.1 was))) none;
       found = is;
     }
 
@@ -59,6 +63,40 @@ module _ (g : GraphModel) (entries : List ReadStatement) (folder : List ℕ) whe
           ∙ ap (λ (t : List FindingModel). base ++ t)
           (sym (map-append (finding_of_input g) first.others then.others));
     }
+
+-- ---- whether a log alone names an input
+
+module _ (g : GraphModel) (entries : List ReadStatement) (folder : List ℕ) (input : InputOfEdge) where
+  abbrev TellsAlone : Bool → Type 0
+  TellsAlone b = (b ≡ true) ↔ IsLoggedAlone g entries folder input
+
+  pub alone-unlooked : is_looked_at g entries input.edge ≡ false → TellsAlone false
+  alone-unlooked unlooked = (
+    λ is. absurd (true≢false (sym is)),
+    λ alone. absurd (true≢false (sym alone.is_looked_at ∙ unlooked)),
+  )
+
+  pub alone-in-manifest : makes_opened g (maker_of (edges_of g) input.path) ≡ true → TellsAlone false
+  alone-in-manifest made = (
+    λ is. absurd (true≢false (sym is)),
+    λ alone. absurd (true≢false (sym made ∙ alone.is_no_manifest)),
+  )
+
+  pub alone-tells : is_looked_at g entries input.edge ≡ true
+      → makes_opened g (maker_of (edges_of g) input.path) ≡ false → (named : Bool)
+      → (named ≡ true) ↔ IsNamedUnordered g entries folder input → TellsAlone (not named)
+  alone-tells looked other true named = (
+    λ is. absurd (true≢false (sym is)),
+    λ alone. absurd (alone.is_new (named.0 refl)),
+  )
+  alone-tells looked other false named = (
+    λ is. record {
+      is_looked_at = looked;
+      is_no_manifest = other;
+      is_new = λ was. true≢false (sym (named.1 was));
+    },
+    λ alone. refl,
+  )
 
 -- ---- whether an input is of the graph
 
@@ -99,11 +137,11 @@ module _ (g : GraphModel) (input : LoggedInput) where
         (logged-none g entries folder old)
 
     pub both-there : has-edge ≡ true → has-file ≡ true → (b : Bool)
-        → (b ≡ true) ↔ IsNamedUnordered g entries folder (input_of_edge (files_of g) input)
-        → new ≡ old ++ cond b [] (finding_of_input g (input_of_edge (files_of g) input) ∷ [])
+        → (b ≡ true) ↔ IsLoggedAlone g entries folder (input_of_edge (files_of g) input)
+        → new ≡ old ++ cond b (finding_of_input g (input_of_edge (files_of g) input) ∷ []) []
         → Adds (input_in g input) new
-    both-there edge file b named is = subst (λ found. Adds found new) (sym (in-both true true edge file))
-        (logged-one g entries folder (input_of_edge (files_of g) input) old new b named is)
+    both-there edge file b alone is = subst (λ found. Adds found new) (sym (in-both true true edge file))
+        (logged-one g entries folder (input_of_edge (files_of g) input) old new b alone is)
 
 -- ---- those that are looked for
 

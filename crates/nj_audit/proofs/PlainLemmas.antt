@@ -1,68 +1,113 @@
 -- The bytes of a word that are taken at once.
 use Rattle.std.proofs.Common.{◌≡◌, ◌||◌, ◌==◌, arith, not, ℕ, suc, ◌+◌, ◌-◌, ◌≤◌, Bool, true, false, cond}
 use Rattle.std.proofs.Common.{true≢false, Some, None, List, [], ◌∷◌, ◌++◌, take, drop, length, refl, sym, ap}
-use Rattle.std.proofs.Common.{subst, ◌∙◌, append-nil, append_assoc}
+use Rattle.std.proofs.Common.{map, subst, ◌∙◌, append-nil, append_assoc}
 use Rattle.std.specs.Prelude.{position, nat_lt}
 use Rattle.std.proofs.lemmas.Bool.{ltb-false}
 use Rattle.std.proofs.lemmas.List.{length-drop, take_all}
 use Rattle.std.specs.List.{position_or_len}
-use Rattle.nj_audit.specs.declared.shell_words.Quoting.TheVariants.{Bare, Escaped, Single, Double}
-use Rattle.nj_audit.specs.ShellWords.{is_cut, is_dropped, kept, next_quoting, read_text, words_after}
+use Rattle.nj_audit.specs.declared.shell_words.Quoting.TheVariants.{Between, Bare, Escaped, Single, Double}
+use Rattle.nj_audit.specs.declared.shell_words.Quoting.TheVariants.{Comment}
+use Rattle.nj_audit.specs.ShellWords.{is_cut, is_dropped, kept, next_bare, next_quoting, read_text}
+use Rattle.nj_audit.specs.ShellWords.{tokens_after, tokens_of}
+use Rattle.nj_audit.specs.ShellWords.ReadByte.{Kept, Cut}
 use Rattle.nj_audit.specs.Inside.PlainBytes.{is_special}
-use Rattle.nj_audit.proofs.ShellLemmas.{words-inside}
+use Rattle.nj_audit.proofs.ShellLemmas.{tokens-begin, words-inside}
 
 neither : (x y : Bool) → (x || y) ≡ false → (x ≡ false) × (y ≡ false)
 neither false y none = (refl, none)
 neither true y none = absurd (true≢false none)
 
-stays-bare : (x y z : Bool) → (x || y || z) ≡ false
-    → cond x Escaped (cond y Single (cond z Double Bare)) ≡ Bare
-stays-bare true y z none = absurd (true≢false none)
-stays-bare false true z none = absurd (true≢false none)
-stays-bare false false true none = absurd (true≢false none)
-stays-bare false false false none = refl
+stays-bare : (x y z cut : Bool) → x ≡ false → y ≡ false → z ≡ false → cut ≡ false
+    → cond x Escaped (cond y Single (cond z Double (cond cut Between Bare))) ≡ Bare
+stays-bare true y z cut bad _ _ _ = absurd (true≢false bad)
+stays-bare false true z cut _ bad _ _ = absurd (true≢false bad)
+stays-bare false false true cut _ _ bad _ = absurd (true≢false bad)
+stays-bare false false false true _ _ _ bad = absurd (true≢false bad)
+stays-bare false false false false _ _ _ _ = refl
+
+either-none : (x y z : Bool) → x ≡ false → y ≡ false → z ≡ false → (x || y || z) ≡ false
+either-none true y z bad _ _ = absurd (true≢false bad)
+either-none false true z _ bad _ = absurd (true≢false bad)
+either-none false false true _ _ bad = absurd (true≢false bad)
+either-none false false false _ _ _ = refl
 
 module _ (b : ℕ) (plain : is_special b ≡ false) where
-  both : (is_cut b ≡ false) × (is_dropped Bare b ≡ false)
-  both = neither (is_cut b) (is_dropped Bare b) plain
+  both : (is_cut b ≡ false) × (is_dropped Between b ≡ false)
+  both = neither (is_cut b) (is_dropped Between b) plain
+
+  no-double : (b == 35 || b == 92 || b == 39 ≡ false) × ((b == 34) ≡ false)
+  no-double = neither (b == 35 || b == 92 || b == 39) (b == 34) both.1
+
+  no-single : (b == 35 || b == 92 ≡ false) × ((b == 39) ≡ false)
+  no-single = neither (b == 35 || b == 92) (b == 39) no-double.0
+
+  no-sign : ((b == 35) ≡ false) × ((b == 92) ≡ false)
+  no-sign = neither (b == 35) (b == 92) no-single.0
 
   keeps : kept Bare b ≡ b ∷ []
-  keeps = ap (λ e. cond e [] (b ∷ [])) both.1
+  keeps = ap (λ e. cond e [] (b ∷ []))
+      (either-none (b == 92) (b == 39) (b == 34) no-sign.1 no-single.1 no-double.1)
 
   stays : next_quoting Bare b ≡ Bare
-  stays = stays-bare (b == 92) (b == 39) (b == 34) both.1
+  stays = stays-bare (b == 92) (b == 39) (b == 34) (is_cut b) no-sign.1 no-single.1 no-double.1 both.0
 
-  plain-byte : (word text : List ℕ) → words_after word (read_text Bare (b ∷ text))
-      ≡ words_after (word ++ b ∷ []) (read_text Bare text)
+  plain-byte : (word text : List ℕ) → tokens_after word (read_text Bare (b ∷ text))
+      ≡ tokens_after (word ++ b ∷ []) (read_text Bare text)
   plain-byte word text =
       words-inside Bare word b text both.0 ∙ ap
-      (λ bytes. words_after (word ++ bytes) (read_text (next_quoting Bare b) text)) keeps
-      ∙ ap (λ q. words_after (word ++ b ∷ []) (read_text q text)) stays
+      (λ bytes. tokens_after (word ++ bytes) (read_text (next_quoting Bare b) text)) keeps
+      ∙ ap (λ q. tokens_after (word ++ b ∷ []) (read_text q text)) stays
+
+-- outside of words only a `#` is read otherwise
+pub between-bare : (b : ℕ) (text : List ℕ) → (b == 35) ≡ false
+    → read_text Between (b ∷ text) ≡ read_text Bare (b ∷ text)
+unfolding read_text
+between-bare b text other = ap (λ h. cond (is_cut b) (Cut b ∷ [])
+    (map Kept (cond (h || b == 92 || b == 39 || b == 34) [] (b ∷ [])))
+    ++ read_text (cond h Comment (next_bare b)) text) other
 
 pub plain-bytes : (word text : List ℕ)
-    → words_after (word ++ take (position_or_len is_special text) text)
-    (read_text Bare (drop (position_or_len is_special text) text)) ≡ words_after word (read_text Bare text)
-plain-bytes word [] = ap (λ w. words_after w (read_text Bare [])) (append-nil word)
+    → tokens_after (word ++ take (position_or_len is_special text) text)
+    (read_text Bare (drop (position_or_len is_special text) text)) ≡ tokens_after word (read_text Bare text)
+plain-bytes word [] = ap (λ w. tokens_after w (read_text Bare [])) (append-nil word)
 plain-bytes word (b ∷ text) = by (is_special b) refl (plain-bytes (word ++ b ∷ []) text) where
   Next : ℕ → Type 0
-  Next n = words_after ((word ++ b ∷ []) ++ take n text) (read_text Bare (drop n text))
-      ≡ words_after (word ++ b ∷ []) (read_text Bare text)
+  Next n = tokens_after ((word ++ b ∷ []) ++ take n text) (read_text Bare (drop n text))
+      ≡ tokens_after (word ++ b ∷ []) (read_text Bare text)
 
   Plain : ℕ → Type 0
-  Plain n = words_after (word ++ take n (b ∷ text)) (read_text Bare (drop n (b ∷ text)))
-      ≡ words_after word (read_text Bare (b ∷ text))
+  Plain n = tokens_after (word ++ take n (b ∷ text)) (read_text Bare (drop n (b ∷ text)))
+      ≡ tokens_after word (read_text Bare (b ∷ text))
 
   one-more : suc (position_or_len is_special text) ≡ 1 + position_or_len is_special text
   one-more = omega arith
 
   by : (special : Bool) → is_special b ≡ special → Next (position_or_len is_special text)
       → Plain (cond (not special) (1 + position_or_len is_special text) 0)
-  by true is next = ap (λ w. words_after w (read_text Bare (b ∷ text))) (append-nil word)
+  by true is next = ap (λ w. tokens_after w (read_text Bare (b ∷ text))) (append-nil word)
   by false is next =
       subst Plain one-more
-      (ap (λ w. words_after w (read_text Bare (drop (position_or_len is_special text) text)))
+      (ap (λ w. tokens_after w (read_text Bare (drop (position_or_len is_special text) text)))
       (sym (append_assoc word (b ∷ []) (take (position_or_len is_special text) text)))
       ∙ next ∙ sym (plain-byte b is word text))
+
+-- some bytes of a word at the beginning
+pub begun : (text : List ℕ) → (position_or_len is_special text ≡ 0 → ⊥)
+    → tokens_after (take (position_or_len is_special text) text)
+    (read_text Bare (drop (position_or_len is_special text) text)) ≡ tokens_of text
+begun [] some = absurd (some refl)
+begun (b ∷ text) some = by (is_special b) refl some (plain-bytes [] (b ∷ text)) where
+  by : (special : Bool) → is_special b ≡ special
+      → (cond (not special) (1 + position_or_len is_special text) 0 ≡ 0 → ⊥)
+      → tokens_after (take (position_or_len is_special (b ∷ text)) (b ∷ text))
+      (read_text Bare (drop (position_or_len is_special (b ∷ text)) (b ∷ text)))
+      ≡ tokens_after [] (read_text Bare (b ∷ text))
+      → tokens_after (take (position_or_len is_special (b ∷ text)) (b ∷ text))
+      (read_text Bare (drop (position_or_len is_special (b ∷ text)) (b ∷ text))) ≡ tokens_of (b ∷ text)
+  by true is some bytes = absurd (some refl)
+  by false is some bytes =
+      bytes ∙ ap (tokens_after []) (sym (between-bare b text (no-sign b is).0)) ∙ tokens-begin (b ∷ text)
 
 -- what is left of a text after some bytes
 pub rest-is : (n : ℕ) (text : List ℕ) → take (length text - n) (drop n text) ≡ drop n text

@@ -2,14 +2,17 @@
 use Rattle.std.proofs.Common.{◌≡◌, ◌≢◌, ℕ, ◌==◌, Bool, true, false, cond, List, [], ◌∷◌, ◌++◌, map, refl, sym}
 use Rattle.std.proofs.Common.{ap, ◌∙◌, append-nil, append_assoc, true≢false, inl, inr}
 use Rattle.std.specs.Prelude.{◌&&◌, ◌||◌}
-use Rattle.std.specs.List.{AllByRecursion, flat_map, join_with_byte, list_all}
+use Rattle.std.specs.List.{AllByRecursion, filter_map, flat_map, join_with_byte, list_all}
 use Rattle.std.proofs.lemmas.Bool.Decides.{eqb_tells}
 use Rattle.nj_text.specs.Quotes.{in_quotes, is_plain_byte, is_quote, quoted, within_quotes}
 use Rattle.nj_audit.specs.Laws.{QuotedPathsAreWords}
 use Rattle.nj_audit.specs.declared.shell_words.Quoting.{Quoting}
-use Rattle.nj_audit.specs.declared.shell_words.Quoting.TheVariants.{Bare, Escaped, Single, Double}
-use Rattle.nj_audit.specs.ShellWords.{is_cut, kept, next_quoting, read_text, with_word, words_after}
-use Rattle.nj_audit.proofs.ShellLemmas.{words-begin, words-end, words-inside, words-last}
+use Rattle.nj_audit.specs.declared.shell_words.Quoting.TheVariants.{Between, Bare, Escaped, Single, Double}
+use Rattle.nj_audit.specs.ShellWords.{TokenModel, is_cut, kept, next_quoting, read_text, tokens_after}
+use Rattle.nj_audit.specs.ShellWords.{tokens_of, with_word, word_in}
+use Rattle.nj_audit.specs.ShellWords.TokenModel.{Word}
+use Rattle.nj_audit.proofs.PlainLemmas.{between-bare}
+use Rattle.nj_audit.proofs.ShellLemmas.{no-tokens, tokens-begin, words-end, words-inside, words-last}
 
 both-true : (s t : Bool) → (s && t) ≡ true → (s ≡ true) × (t ≡ true)
 both-true true t is = (refl, is)
@@ -22,8 +25,8 @@ differs p b n lacks has = elim (eqb_tells b n) [
   | inr other ↦ other.0
 ]
 
-abbrev read : (word : List ℕ) → Quoting → (text : List ℕ) → List (List ℕ)
-read word quoting text = words_after word (read_text quoting text)
+abbrev read : (word : List ℕ) → Quoting → (text : List ℕ) → List TokenModel
+read word quoting text = tokens_after word (read_text quoting text)
 
 -- ---- plain bytes
 
@@ -58,9 +61,11 @@ module _ (b : ℕ) (plain : is_plain_byte b ≡ true) where
 
   plain-next : next_quoting Bare b ≡ Bare
   plain-next =
-      ap (λ e. cond e Escaped (cond (b == 39) Single (cond (b == 34) Double Bare))) (other 92 refl)
-      ∙ ap (λ e. cond e Single (cond (b == 34) Double Bare)) (other 39 refl)
-      ∙ ap (λ e. cond e Double Bare) (other 34 refl)
+      ap (λ e. cond e Escaped (cond (b == 39) Single (cond (b == 34) Double (cond (is_cut b) Between Bare))))
+      (other 92 refl)
+      ∙ ap (λ e. cond e Single (cond (b == 34) Double (cond (is_cut b) Between Bare))) (other 39 refl)
+      ∙ ap (λ e. cond e Double (cond (is_cut b) Between Bare)) (other 34 refl)
+      ∙ ap (λ e. cond e Between Bare) (plain-stays b plain)
 
 plain-byte : (word : List ℕ) (b : ℕ) (text : List ℕ) → is_plain_byte b ≡ true
     → read word Bare (b ∷ text) ≡ read (word ++ b ∷ []) Bare text
@@ -138,24 +143,51 @@ quoted-path path word text false other =
     ∙ ap (read word Single) (append_assoc (flat_map within_quotes path) (39 ∷ []) text)
     ∙ path-in-quotes path word (39 ∷ text) ∙ closes (word ++ path) text
 
-with-path : (path : List ℕ) (words : List (List ℕ)) → path ≢ [] → with_word path words ≡ path ∷ words
-with-path [] words some = absurd (some refl)
-with-path (b ∷ path) words some = refl
+with-path : (path : List ℕ) (tokens : List TokenModel) → path ≢ []
+    → with_word path tokens ≡ Word path ∷ tokens
+with-path [] tokens some = absurd (some refl)
+with-path (b ∷ path) tokens some = refl
 
-words-of-all : (paths : List (List ℕ)) → AllByRecursion (λ path. path ≢ []) paths
-    → read [] Bare (join_with_byte 32 (map quoted paths)) ≡ paths
-words-of-all [] all = words-last Bare []
-words-of-all (path ∷ []) all =
-    ap (read [] Bare) (sym (append-nil (quoted path)))
+-- a quoted path begins a word, and no comment
+begins-plain : (path text : List ℕ) → list_all is_plain_byte path ≡ true → path ≢ []
+    → tokens_of (path ++ text) ≡ read [] Bare (path ++ text)
+begins-plain [] text plain some = absurd (some refl)
+begins-plain (b ∷ path) text plain some =
+    sym (tokens-begin (b ∷ (path ++ text)))
+    ∙ ap (tokens_after []) (between-bare b (path ++ text) (differs is_plain_byte b 35 refl
+    (both-true (is_plain_byte b) (list_all is_plain_byte path) plain).0))
+
+begins : (path text : List ℕ) (plain : Bool) → list_all is_plain_byte path ≡ plain → path ≢ []
+    → tokens_of (quoted path ++ text) ≡ read [] Bare (quoted path ++ text)
+unfolding quoted
+begins path text true plain some =
+    ap (λ p. tokens_of (cond p path (in_quotes path) ++ text)) plain ∙ begins-plain path text plain some
+    ∙ sym (ap (λ p. read [] Bare (cond p path (in_quotes path) ++ text)) plain)
+begins path text false other some =
+    ap (λ p. tokens_of (cond p path (in_quotes path) ++ text)) other
+    ∙ sym (tokens-begin (in_quotes path ++ text))
+    ∙ ap (tokens_after []) (between-bare 39 ((flat_map within_quotes path ++ 39 ∷ []) ++ text) refl)
+    ∙ sym (ap (λ p. read [] Bare (cond p path (in_quotes path) ++ text)) other)
+
+tokens-of-all : (paths : List (List ℕ)) → AllByRecursion (λ path. path ≢ []) paths
+    → tokens_of (join_with_byte 32 (map quoted paths)) ≡ map Word paths
+tokens-of-all [] all = no-tokens
+tokens-of-all (path ∷ []) all =
+    ap tokens_of (sym (append-nil (quoted path)))
+    ∙ begins path [] (list_all is_plain_byte path) refl all.0
     ∙ quoted-path path [] [] (list_all is_plain_byte path) refl ∙ words-last Bare path
     ∙ with-path path [] all.0
-words-of-all (path ∷ next ∷ paths) all =
+tokens-of-all (path ∷ next ∷ paths) all =
     let rest = join_with_byte 32 (map quoted (next ∷ paths)) in
-    quoted-path path [] (32 ∷ rest) (list_all is_plain_byte path) refl
-    ∙ words-end Bare path 32 rest refl ∙ ap (with_word path)
-    (sym (words-begin rest) ∙ words-of-all (next ∷ paths) all.1)
-    ∙ with-path path (next ∷ paths) all.0
+    begins path (32 ∷ rest) (list_all is_plain_byte path) refl all.0
+    ∙ quoted-path path [] (32 ∷ rest) (list_all is_plain_byte path) refl
+    ∙ words-end Bare path 32 rest refl
+    ∙ ap (with_word path) (tokens-of-all (next ∷ paths) all.1)
+    ∙ with-path path (map Word (next ∷ paths)) all.0
+
+words-in-all : (paths : List (List ℕ)) → filter_map word_in (map Word paths) ≡ paths
+words-in-all [] = refl
+words-in-all (path ∷ paths) = ap (λ ps. path ∷ ps) (words-in-all paths)
 
 pub quoted-paths-are-words : QuotedPathsAreWords
-quoted-paths-are-words paths all = sym (words-begin (join_with_byte 32 (map quoted paths)))
-    ∙ words-of-all paths all
+quoted-paths-are-words paths all = ap (filter_map word_in) (tokens-of-all paths all) ∙ words-in-all paths

@@ -2,32 +2,32 @@
 use Rattle.std.proofs.Common.{◌≡◌, true, false, Some, [], ◌∷◌, ◌++◌, codes, refl}
 use Rattle.nj_text.specs.Paths.{clean_path_of, without_leftmost_pair}
 use Rattle.nj_audit.specs.NamedPaths.{is_bare, path_named, word_names}
-use Rattle.nj_audit.specs.ShellWords.{read_text, words_after, words_of}
+use Rattle.nj_audit.specs.ShellWords.{read_text, tokens_after, tokens_of, words_of}
 
 blanks : words_of (codes "  cc -c  a.c  -o a.o ")
     ≡ codes "cc" ∷ codes "-c" ∷ codes "a.c" ∷ codes "-o" ∷ codes "a.o" ∷ []
-unfolding words_of read_text words_after
+unfolding tokens_of read_text tokens_after
 blanks = refl
 
 operators : words_of (codes "(./gen<in>out)&&mv out a;:|tee")
     ≡ codes "./gen" ∷ codes "in" ∷ codes "out" ∷ codes "mv" ∷ codes "out" ∷ codes "a" ∷ codes ":" ∷ codes
     "tee" ∷ []
-unfolding words_of read_text words_after
+unfolding tokens_of read_text tokens_after
 operators = refl
 
 -- quotes are taken off, and the text between them is of one word
 quotes : words_of (codes "'a b'c \"d;e\"'f' '' \"\"") ≡ codes "a bc" ∷ codes "d;ef" ∷ []
-unfolding words_of read_text words_after
+unfolding tokens_of read_text tokens_after
 quotes = refl
 
 backslashes : words_of (codes "a\\ b 'c\\' \"d\\$\\e\\\\\"")
     ≡ codes "a b" ∷ codes "c\\" ∷ codes "d$\\e\\" ∷ []
-unfolding words_of read_text words_after
+unfolding tokens_of read_text tokens_after
 backslashes = refl
 
 -- a line that goes on after a backslash
 long_line : words_of (codes "a\\" ++ 10 ∷ codes "b" ++ 10 ∷ codes "c") ≡ codes "ab" ∷ codes "c" ∷ []
-unfolding words_of read_text words_after
+unfolding tokens_of read_text tokens_after
 long_line = refl
 
 -- ---- paths

@@ -6,5 +6,7 @@ pub mod FilesNamed
 pub mod UnorderedFound
 pub mod LoggedFound
 pub mod References
+pub mod RolesHeld
+pub mod Tokens
 pub mod PlainBytes
 pub mod Served

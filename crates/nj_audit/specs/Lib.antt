@@ -6,6 +6,8 @@ pub mod Kinds
 pub mod Laws
 pub mod LoggedInputs
 pub mod NamedPaths
+pub mod ReadWords
+pub mod Roles
 pub mod Serving
 pub mod ShellWords
 pub mod UnorderedFiles

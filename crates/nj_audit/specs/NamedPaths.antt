@@ -1,8 +1,7 @@
--- The names in a command, and the paths that they may mean.
-use Rattle.std.specs.Prelude.{ℕ, ◌+◌, ◌==◌, Bool, nat_eq, ◌||◌, not, if◌then◌else◌, Option, Some, None, option_map, unwrap_or, List, [], ◌∷◌, codes, drop, length, position, bytes_eq}
-use Rattle.std.specs.List.{cons_option, flat_map, list_any, starts_with}
-use Rattle.nj_text.specs.Paths.{clean_path_of}
-use Rattle.nj_audit.specs.ShellWords.{words_of}
+-- The names in a word, and the paths that they may mean.
+use Rattle.std.specs.Prelude.{ℕ, ◌+◌, ◌==◌, Bool, nat_eq, ◌||◌, not, if◌then◌else◌, Option, Some, None, option_map, unwrap_or, List, [], ◌∷◌, ◌++◌, codes, drop, length, position, bytes_eq}
+use Rattle.std.specs.List.{cons_option, list_any, starts_with}
+use Rattle.nj_text.specs.Paths.{clean_path_of, is_absolute}
 
 -- the text after the first `=` of a word
 abbrev pub after_sign : (word : List ℕ) → Option (List ℕ)
@@ -32,9 +31,26 @@ abbrev pub path_named : (folder name : List ℕ) → Option (List ℕ)
 path_named folder [] = None
 path_named folder (b ∷ name) = Some (without_folder folder (clean_path_of (b ∷ name)))
 
--- the names in the words of a command
-abbrev pub command_names : (command : List ℕ) → List (List ℕ)
-command_names command = flat_map word_names (words_of command)
+-- a name, and the directory from which a command sees it: one that `cd` entered, or empty
+pub record SeenName : Type 0 where
+  pub folder : List ℕ
+  pub name : List ℕ
+
+-- a name, as seen from a directory
+abbrev pub seen_from : (folder name : List ℕ) → SeenName
+seen_from folder name = record { folder = folder; name = name }
+
+-- a path is absolute, or there is no directory to read it in
+abbrev pub stands_alone : (folder path : List ℕ) → Bool
+stands_alone folder path = length folder == 0 || is_absolute path
+
+-- a path that is read in a directory, if there is one
+abbrev pub path_below : (folder path : List ℕ) → List ℕ
+path_below folder path = if stands_alone folder path then path else folder ++ 47 ∷ path
+
+-- the path of a name, as seen from the directory of the build
+abbrev pub path_seen : (folder : List ℕ) → SeenName → Option (List ℕ)
+path_seen folder seen = if length seen.name == 0 then None else path_named folder (path_below seen.folder seen.name)
 
 -- a name without `/` and `.`, as `clean` in `ninja clean`
 abbrev pub is_bare : (name : List ℕ) → Bool

@@ -1,13 +1,16 @@
 -- Files that the commands of edges name, and that other edges make, unordered with them.
 use Rattle.std.specs.Prelude.{◌≡◌, ℕ, ◌==◌, Bool, true, false, ◌&&◌, ◌||◌, not, if◌then◌else◌, Option, None, Some, option_and_then, List, [], ◌∷◌, ◌++◌, codes, length, map}
 use Rattle.std.specs.List.{filter_map}
+use Rattle.nj_names.specs.NumberSets.{has}
 use Rattle.nj_scope.specs.ReadingList.{ReadStatement}
 use Rattle.nj_edges.specs.Changes.{IsOrNeeds}
 use Rattle.nj_graph.specs.Edges.{inputs_of, is_among, maker_of, users_of}
 use Rattle.nj_graph.specs.Graph.{GraphModel, edges_of, files_of, late_text_of}
 use Rattle.nj_audit.specs.Audit.{command_of, has_command, has_generator, path_of, paths_at, rule_number}
 use Rattle.nj_audit.specs.Findings.{FindingModel, edge_finding}
-use Rattle.nj_audit.specs.NamedPaths.{command_names, is_bare, number_at, path_named}
+use Rattle.nj_audit.specs.NamedPaths.{SeenName, is_bare, number_at, path_seen}
+use Rattle.nj_audit.specs.ReadWords.{command_names}
+use Rattle.nj_audit.specs.Roles.{is_run_by_hand, makers_of_opened}
 use Rattle.nj_audit.specs.declared.kinds.Kind.TheVariants.{UndeclaredInput}
 
 -- ---- files that an edge names
@@ -18,7 +21,7 @@ response_of entries edge =
     if length (late_text_of entries edge (codes "rspfile")) == 0 then [] else late_text_of entries edge (codes "rspfile_content")
 
 -- the names in the command of an edge and in its response file
-abbrev pub names_at : List ReadStatement → (edge : ℕ) → List (List ℕ)
+abbrev pub names_at : List ReadStatement → (edge : ℕ) → List SeenName
 names_at entries edge = command_names (command_of entries edge) ++ command_names (response_of entries edge)
 
 -- some edge has the path as an input
@@ -34,13 +37,13 @@ abbrev pub file_if_meant : GraphModel → (name : List ℕ) → (file : ℕ) →
 file_if_meant g name file = if is_meant g name (path_of g file) then Some file else None
 
 -- the file that a name means, as seen from the directory: the one at its path
-abbrev pub file_named : GraphModel → (folder name : List ℕ) → Option ℕ
-file_named g folder name =
-    option_and_then (file_if_meant g name) (option_and_then (number_at (files_of g)) (path_named folder name))
+abbrev pub file_named : GraphModel → (folder : List ℕ) → SeenName → Option ℕ
+file_named g folder seen =
+    option_and_then (file_if_meant g seen.name) (option_and_then (number_at (files_of g)) (path_seen folder seen))
 
--- an edge runs a command, which does not regenerate the build: that reads and writes what it likes
+-- An edge runs a command in a build, which does not regenerate the build: that reads and writes what it likes.
 abbrev pub is_looked_at : GraphModel → List ReadStatement → (edge : ℕ) → Bool
-is_looked_at g entries edge = has_command g edge && not (has_generator entries edge)
+is_looked_at g entries edge = has_command g edge && not (has_generator entries edge) && not (is_run_by_hand g entries edge)
 
 -- the files that the command of an edge and its response file may name, as seen from the directory
 abbrev pub files_named : GraphModel → List ReadStatement → (folder : List ℕ) → (edge : ℕ) → List ℕ
@@ -54,13 +57,14 @@ pub record IsTwin (g : GraphModel) (edge other : ℕ) : Type 0 where
   pub rule : rule_number g edge ≡ rule_number g other
   pub inputs : inputs_of (paths_at g edge) ≡ inputs_of (paths_at g other)
 
--- an edge has a command, and is no twin
+-- An edge has a command, is no twin, and makes no file of the manifest: Ninja makes those before it runs any other command.
 pub record IsOther (g : GraphModel) (edge other : ℕ) : Type 0 where
   pub is_no_phony : (paths_at g other).is_phony ≡ false
+  pub makes_no_manifest : has (makers_of_opened g) other ≡ false
   pub is_no_twin : ¬ IsTwin g edge other
 
--- A file is unordered with an edge, so that it may come too late: another edge makes it that has a command and is no twin, and neither of
--- the two needs the other through any chain of inputs.
+-- A file is unordered with an edge, so that it may come too late: another edge makes it that has a command, is no twin and makes no file of
+-- the manifest, and neither of the two needs the other through any chain of inputs.
 pub record IsUnordered (g : GraphModel) (edge : ℕ) (path : List ℕ) : Type 0 where
   pub maker : ℕ
   pub made : maker_of (edges_of g) path ≡ Some maker

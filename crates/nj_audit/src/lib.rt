@@ -15,6 +15,8 @@ mod named_paths;
 mod names;
 mod outputs;
 mod pools;
+mod read_words;
+mod roles;
 mod rules;
 mod serving;
 mod shell_words;

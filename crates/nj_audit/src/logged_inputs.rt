@@ -1,11 +1,12 @@
 //! Inputs that a deps log names, beside those that commands name.
 
 ghost use Rattle.std.specs.Prelude.{◌≡◌, ◌↔◌, [], if◌then◌else◌, IfOk, IsTrue, None, OnOk, Some, length, map, nat_lt, option_map, Contains};
-ghost use Rattle.nj_audit.specs.Cited.{OfEdge, OfStatements, cons_option, edge_of, file_in, file_of, edges_of, files_of, path_at, path_of, files_named, AreUndeclaredFindings, IsNamedUnordered, AddsLogged, AreIn, input_in, input_of, inputs_in};
+ghost use Rattle.nj_audit.specs.Cited.{OfEdge, OfStatements, cons_option, edge_of, file_in, file_of, maker_of, makes_opened, edges_of, files_of, path_at, path_of, files_named, AreUndeclaredFindings, IsLoggedAlone, IsNamedUnordered, AddsLogged, HasRoles, AreIn, input_in, input_of, inputs_in};
 
 use crate::findings::Findings;
 use crate::kinds::Kind;
-use crate::unordered_files::{find_unordered_files, is_unordered, named_files};
+use crate::roles::Roles;
+use crate::unordered_files::{find_unordered_files, is_looked_at, is_unordered, named_files};
 use nj_graph::{Edge, File, FileNo, Graph, NeedsSearch, UndeclaredInput};
 use std::alloc::{AllocError, Global};
 
@@ -22,8 +23,9 @@ pub fn find_undeclared_inputs<'a>(
         IfOk result (AreUndeclaredFindings graph.now entries folder.now
         (inputs_in graph.now logged.now))) }
 {
-    let mut found = find_unordered_files(alloc, graph, folder)?;
-    push_logged(alloc, graph, folder, logged, &mut found)?;
+    let roles = Roles::new(alloc, graph)?;
+    let mut found = find_unordered_files(alloc, graph, folder, &roles)?;
+    push_logged(alloc, graph, folder, logged, &roles, &mut found)?;
     Ok(found)
 }
 
@@ -34,8 +36,10 @@ fn push_logged<'a>(
     graph: &'a Graph,
     folder: &[u8],
     logged: &[UndeclaredInput],
+    roles: &Roles,
     found: &mut Findings<'a>,
 ) -> Result<(), AllocError>
+    requires { HasRoles graph.now roles.now }
     ensures { OfStatements graph.entry.now (λ entries.
         OnOk result (AddsLogged graph.entry.now entries folder.now
         (inputs_in graph.entry.now logged.now) found.old found.new)) }
@@ -43,7 +47,16 @@ fn push_logged<'a>(
     let mut makers = NeedsSearch::new(alloc, graph);
     let mut users = NeedsSearch::new(alloc, graph);
     'inputs: for input in logged {
-        push_input(alloc, graph, folder, *input, &mut makers, &mut users, found)?;
+        push_input(
+            alloc,
+            graph,
+            folder,
+            *input,
+            roles,
+            &mut makers,
+            &mut users,
+            found,
+        )?;
     }
     Ok(())
 }
@@ -55,10 +68,12 @@ fn push_input<'a>(
     graph: &'a Graph,
     folder: &[u8],
     input: UndeclaredInput,
+    roles: &Roles,
     makers: &mut NeedsSearch<'_>,
     users: &mut NeedsSearch<'_>,
     found: &mut Findings<'a>,
 ) -> Result<(), AllocError>
+    requires roles { HasRoles graph.now roles.now }
     requires makers { makers.old ≡ edges_of graph.now }
     requires users { users.old ≡ edges_of graph.now }
     ensures found { OfStatements graph.entry.now (λ entries.
@@ -73,7 +88,7 @@ fn push_input<'a>(
     let Some(file) = file_numbered(graph, input.file) else {
         return Ok(());
     };
-    if !is_named_unordered(alloc, folder, edge, file, makers, users)? {
+    if is_logged_alone(alloc, folder, edge, file, roles, makers, users)? {
         found.push_at(edge, Kind::UndeclaredInput, file.path())?;
     }
     Ok(())
@@ -91,16 +106,60 @@ fn file_numbered(graph: &Graph, number: FileNo) -> Option<File<'_>>
     }
 }
 
+/// Whether an input of an edge that a log names is a finding of its own.
+fn is_logged_alone(
+    alloc: Global,
+    folder: &[u8],
+    edge: Edge<'_>,
+    file: File<'_>,
+    roles: &Roles,
+    makers: &mut NeedsSearch<'_>,
+    users: &mut NeedsSearch<'_>,
+) -> Result<bool, AllocError>
+    requires graph { (file_of file).graph ≡ (edge_of edge).graph }
+    requires roles { HasRoles (edge_of edge).graph roles.now }
+    requires makers { makers.old ≡ edges_of (edge_of edge).graph }
+    requires users { users.old ≡ edges_of (edge_of edge).graph }
+    ensures alone { OfEdge (edge_of edge.entry) (λ entries number.
+        IfOk result (λ is_alone. IsTrue is_alone ↔ IsLoggedAlone (edge_of edge.entry).graph
+        entries folder.now (input_of number (file_of file.entry)))) }
+    ensures makers { OnOk result (makers.new ≡ makers.old) }
+    ensures users { OnOk result (users.new ≡ users.old) }
+{
+    if !is_looked_at(alloc, edge, roles)? {
+        return Ok(false);
+    }
+    if is_of_manifest(file, roles) {
+        return Ok(false);
+    }
+    let is_named = is_named_unordered(alloc, folder, edge, file, roles, makers, users)?;
+    Ok(!is_named)
+}
+
+/// Whether an edge that makes the manifest makes a file.
+fn is_of_manifest(file: File<'_>, roles: &Roles) -> bool
+    requires { HasRoles (file_of file).graph roles.now }
+    ensures { result ≡ makes_opened (file_of file.entry).graph
+        (maker_of (edges_of (file_of file.entry).graph) (file_of file.entry).path) }
+{
+    match file.maker() {
+        Some(maker) => roles.makes_opened(maker),
+        None => false,
+    }
+}
+
 /// Whether the command of an edge names an input that is unordered with the edge.
 fn is_named_unordered(
     alloc: Global,
     folder: &[u8],
     edge: Edge<'_>,
     file: File<'_>,
+    roles: &Roles,
     makers: &mut NeedsSearch<'_>,
     users: &mut NeedsSearch<'_>,
 ) -> Result<bool, AllocError>
     requires graph { (file_of file).graph ≡ (edge_of edge).graph }
+    requires roles { HasRoles (edge_of edge).graph roles.now }
     requires makers { makers.old ≡ edges_of (edge_of edge).graph }
     requires users { users.old ≡ edges_of (edge_of edge).graph }
     ensures named { OfEdge (edge_of edge.entry) (λ entries number.
@@ -109,8 +168,8 @@ fn is_named_unordered(
     ensures makers { OnOk result (makers.new ≡ makers.old) }
     ensures users { OnOk result (users.new ≡ users.old) }
 {
-    if is_unordered(edge, file, makers, users)? {
-        return names_file(alloc, folder, edge, file);
+    if is_unordered(edge, file, roles, makers, users)? {
+        return names_file(alloc, folder, edge, file, roles);
     }
     Ok(false)
 }
@@ -121,14 +180,16 @@ fn names_file(
     folder: &[u8],
     edge: Edge<'_>,
     file: File<'_>,
+    roles: &Roles,
 ) -> Result<bool, AllocError>
-    requires { (file_of file).graph ≡ (edge_of edge).graph }
+    requires graph { (file_of file).graph ≡ (edge_of edge).graph }
+    requires roles { HasRoles (edge_of edge).graph roles.now }
     ensures { OfEdge (edge_of edge.entry) (λ entries number.
         IfOk result (λ names. IsTrue names ↔ Contains (map (path_of (edge_of edge.entry).graph)
         (files_named (edge_of edge.entry).graph entries folder.now number))
         (file_of file.entry).path)) }
 {
-    let files = named_files(alloc, folder, edge)?;
+    let files = named_files(alloc, folder, edge, roles)?;
     Ok(has_file(&files, file))
 }
 

@@ -1,14 +1,15 @@
 //! The files that commands may name.
 
 ghost use Rattle.std.specs.Prelude.{◌≡◌, [], OnOk, map, option_copied};
-ghost use Rattle.nj_audit.specs.Cited.{command_names, cons_option, file_of, is_bare, is_meant, word_names, AddsFiles};
+ghost use Rattle.nj_audit.specs.Cited.{after_token, after_word, command_names, cons_option, file_of, is_bare, is_meant, names_in_word, names_of_next, names_of_token, seen_from, token_model, AddsFiles};
 
-use crate::named_paths::{after_letter, after_sign, path_named};
-use crate::shell_words::take_word;
+use crate::named_paths::{PathBuffers, after_letter, after_sign, path_seen};
+use crate::read_words::NextWord;
+use crate::shell_words::{Token, take_token};
 use nj_graph::{File, Graph};
 use std::alloc::AllocError;
 
-/// Appends the files of a graph that the words of a command may name.
+/// Appends the files of a graph that the words of a command may name, as far as it reads them.
 pub fn add_named_files<'g>(
     files: &mut Vec<File<'g>>,
     graph: &'g Graph,
@@ -19,48 +20,110 @@ pub fn add_named_files<'g>(
         (map file_of files.old.items) (map file_of files.new.items)) }
 {
     let mut word = Vec::new(*files.allocator());
-    let mut buffer = Vec::new(*files.allocator());
+    let mut buffers = PathBuffers::new(*files.allocator());
+    let mut next = NextWord::first(*files.allocator());
     let mut rest = command;
-    'words: while let Some(after) = take_word(&mut word, rest)? {
-        add_files_in_word(files, &mut buffer, graph, folder, &word)?;
-        rest = after;
+    'tokens: while let Some(taken) = take_token(&mut word, rest)? {
+        add_token(
+            files,
+            &mut buffers,
+            graph,
+            folder,
+            &mut next,
+            taken.0,
+            &word,
+        )?;
+        rest = taken.1;
     }
     Ok(())
 }
 
-/// Appends the files that a word may name. The buffer is for paths.
-fn add_files_in_word<'g>(
+/// Appends the files that the next token of a command may name. The word is that of a token that is
+/// one.
+fn add_token<'g>(
     files: &mut Vec<File<'g>>,
-    buffer: &mut Vec<u8>,
+    buffers: &mut PathBuffers,
     graph: &'g Graph,
     folder: &[u8],
+    next: &mut NextWord,
+    token: Token,
     word: &[u8],
 ) -> Result<(), AllocError>
-    ensures { OnOk result (AddsFiles graph.entry.now folder.now (word_names word.now)
+    ensures files { OnOk result (AddsFiles graph.entry.now folder.now
+        (names_of_token next.old (token_model word.now token))
+        (map file_of files.old.items) (map file_of files.new.items)) }
+    ensures next { OnOk result (next.new ≡ after_token next.old (token_model word.now token)) }
+{
+    match token {
+        Token::Word => {
+            add_next(files, buffers, graph, folder, next, word)?;
+            Ok(())
+        }
+        Token::Operator(byte) => {
+            next.pass_operator(byte);
+            Ok(())
+        }
+    }
+}
+
+/// Appends the files that the next word of a command may name, which is this, if it is read.
+fn add_next<'g>(
+    files: &mut Vec<File<'g>>,
+    buffers: &mut PathBuffers,
+    graph: &'g Graph,
+    folder: &[u8],
+    next: &mut NextWord,
+    word: &[u8],
+) -> Result<(), AllocError>
+    ensures files { OnOk result (AddsFiles graph.entry.now folder.now
+        (names_of_next next.old word.now)
+        (map file_of files.old.items) (map file_of files.new.items)) }
+    ensures next { OnOk result (next.new ≡ after_word next.old word.now) }
+{
+    if !next.is_read(word) {
+        next.pass_word(word)?;
+        return Ok(());
+    }
+    add_files_in_word(files, buffers, graph, folder, next.folder(), word)?;
+    next.pass_word(word)?;
+    Ok(())
+}
+
+/// Appends the files that a word may name, as seen from a directory that `cd` entered.
+fn add_files_in_word<'g>(
+    files: &mut Vec<File<'g>>,
+    buffers: &mut PathBuffers,
+    graph: &'g Graph,
+    folder: &[u8],
+    within: &[u8],
+    word: &[u8],
+) -> Result<(), AllocError>
+    ensures { OnOk result (AddsFiles graph.entry.now folder.now (names_in_word within.now word.now)
         (map file_of files.old.items) (map file_of files.new.items)) }
 {
-    add_file(files, buffer, graph, folder, Some(word))?;
-    add_file(files, buffer, graph, folder, after_sign(word))?;
-    add_file(files, buffer, graph, folder, after_letter(word))?;
+    add_file(files, buffers, graph, folder, within, Some(word))?;
+    add_file(files, buffers, graph, folder, within, after_sign(word))?;
+    add_file(files, buffers, graph, folder, within, after_letter(word))?;
     Ok(())
 }
 
 /// Appends the file that a name means, if there is a name and a file.
 fn add_file<'g>(
     files: &mut Vec<File<'g>>,
-    buffer: &mut Vec<u8>,
+    buffers: &mut PathBuffers,
     graph: &'g Graph,
     folder: &[u8],
+    within: &[u8],
     name: Option<&[u8]>,
 ) -> Result<(), AllocError>
     ensures { OnOk result (AddsFiles graph.entry.now folder.now
-        (cons_option (option_copied name.entry) [])
+        (map (seen_from within.now) (cons_option (option_copied name.entry) []))
         (map file_of files.old.items) (map file_of files.new.items)) }
 {
     let Some(name) = name else {
         return Ok(());
     };
-    let Some(path) = path_named(buffer, folder, name)? else {
+    let Some(path) = path_seen(buffers, folder, within, name)? else {
         return Ok(());
     };
     let Some(number) = graph.file_named(path) else {

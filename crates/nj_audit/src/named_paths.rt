@@ -1,10 +1,29 @@
 //! The paths that a word may name.
 
-ghost use Rattle.std.specs.Prelude.{◌≡◌, ℕ, ◌==◌, ◌<◌, length, position, IfOk, IfSome, option_copied};
-ghost use Rattle.nj_audit.specs.Cited.{after_letter, after_sign, after_slash, path_named, without_folder};
+ghost use Rattle.std.specs.Prelude.{◌≡◌, ℕ, ◌==◌, ◌<◌, ◌++◌, length, position, IfOk, IfSome, OnOk, option_copied};
+ghost use Rattle.nj_audit.specs.Cited.{after_letter, after_sign, after_slash, is_absolute, path_below, path_named, path_seen, seen_from, stands_alone, without_folder};
 
 use nj_text::{TextFault, clean_into, is_clean};
-use std::alloc::AllocError;
+use std::alloc::{AllocError, Global};
+
+/// Room for paths.
+#[derive(Drop)]
+pub struct PathBuffers {
+    /// For a path below a directory.
+    pub joined: Vec<u8>,
+    /// For its clean path.
+    pub clean: Vec<u8>,
+}
+
+impl PathBuffers {
+    /// Nothing is in them.
+    pub fn new(alloc: Global) -> PathBuffers {
+        PathBuffers {
+            joined: Vec::new(alloc),
+            clean: Vec::new(alloc),
+        }
+    }
+}
 
 /// The text after the first `=` of a word.
 pub fn after_sign(word: &[u8]) -> Option<&[u8]>
@@ -33,6 +52,56 @@ pub fn after_letter(word: &[u8]) -> Option<&[u8]>
         [b'-'] => Some(b""),
         _ => None,
     }
+}
+
+/// The path of a name that a command sees from a directory, as seen from that of the build, in the
+/// buffers where it is another text; `None` for an empty name.
+pub fn path_seen<'a>(
+    buffers: &'a mut PathBuffers,
+    folder: &[u8],
+    within: &[u8],
+    name: &'a [u8],
+) -> Result<Option<&'a [u8]>, AllocError>
+    ensures { IfOk result (λ path. option_copied path
+        ≡ path_seen folder.now (seen_from within.now name.now)) }
+{
+    if name.is_empty() {
+        return Ok(None);
+    }
+    if within.is_empty() {
+        return path_named(&mut buffers.clean, folder, name);
+    }
+    buffers.joined.clear();
+    push_below(&mut buffers.joined, within, name)?;
+    path_named(&mut buffers.clean, folder, &buffers.joined)
+}
+
+/// Appends a path that is read in a directory, if there is one.
+pub fn push_below(out: &mut Vec<u8>, folder: &[u8], path: &[u8]) -> Result<(), AllocError>
+    ensures { OnOk result (out.new.items ≡ out.old.items ++ path_below folder.now path.now) }
+{
+    if !stands_alone(folder, path) {
+        out.extend_from_slice(folder)?;
+        out.push(b'/')?;
+        out.extend_from_slice(path)?;
+        return Ok(());
+    }
+    out.extend_from_slice(path)?;
+    Ok(())
+}
+
+/// Whether no directory is put in front of a path.
+fn stands_alone(folder: &[u8], path: &[u8]) -> bool
+    ensures { result ≡ stands_alone folder.now path.now }
+{
+    folder.is_empty() || is_absolute(path)
+}
+
+/// Whether a path begins with a slash.
+fn is_absolute(path: &[u8]) -> bool
+    ensures { result ≡ is_absolute path.now }
+{
+    matches!(path, [b'/', ..])
 }
 
 /// The path of a name, as seen from the directory, in the buffer where it is another text; `None`

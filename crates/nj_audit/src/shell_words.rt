@@ -1,14 +1,16 @@
-//! The words of a command, as `sh` cuts them.
+//! The words and the operators of a command, as `sh` cuts them.
 
 ghost use Rattle.std.specs.Prelude.{◌≡◌, ◌≤◌, ◌∷◌, ◌++◌, [], IfOk, MatchOption, OnOk, length, position};
-ghost use Rattle.nj_audit.specs.Cited.{position_or_len, ends_at, is_cut, is_dropped, keeps_backslash, kept, next_quoting, read_text, words_after, words_of, is_special, Bare};
+ghost use Rattle.nj_audit.specs.Cited.{position_or_len, ends_at, is_cut, is_gap, is_dropped, keeps_backslash, kept, next_bare, next_quoting, read_text, token_model, tokens_after, tokens_of, is_special, Bare, Between};
 
 use std::alloc::AllocError;
 
 /// How a byte of a command is read ("Quoting" in the standard of `sh`).
 #[derive(Clone, Copy)]
 pub enum Quoting {
-    /// Outside quotes.
+    /// Between two words.
+    Between,
+    /// In a word, outside quotes.
     Bare,
     /// After a backslash outside quotes.
     Escaped,
@@ -18,42 +20,79 @@ pub enum Quoting {
     Double,
     /// After a backslash in double quotes.
     DoubleEscaped,
+    /// In a comment.
+    Comment,
 }
 
-/// Puts the first word of a command, without its quotes, in place of `word`, and returns the text
-/// after it; `None` if there is no word.
-pub fn take_word<'a>(word: &mut Vec<u8>, text: &'a [u8]) -> Result<Option<&'a [u8]>, AllocError>
-    ensures { IfOk result (λ rest. MatchOption rest (words_of text.now ≡ [])
-        (λ rest. words_of text.now ≡ word.new.items ∷ words_of rest.now)) }
+/// A word, or a byte of an operator.
+#[derive(Clone, Copy)]
+pub enum Token {
+    /// The word in the buffer.
+    Word,
+    Operator(u8),
+}
+
+/// The first word or operator of a command, and the text after it; `None` if there is none. A word is
+/// put in place of `word`, without its quotes.
+pub fn take_token<'a>(
+    word: &mut Vec<u8>,
+    text: &'a [u8],
+) -> Result<Option<(Token, &'a [u8])>, AllocError>
+    ensures { IfOk result (λ taken. MatchOption taken (tokens_of text.now ≡ [])
+        (λ taken. tokens_of text.now
+        ≡ token_model word.new.items taken.0 ∷ tokens_of taken.1.now)) }
 {
-    word.clear();
-    let mut quoting = Quoting::Bare;
-    let mut rest = push_plain(word, text)?;
+    let (mut quoting, mut rest) = begin_word(word, text)?;
     'bytes: while let Some((byte, after)) = rest.split_first() {
-        rest = after;
         if ends_at(quoting, *byte) {
             if !word.as_slice().is_empty() {
-                return Ok(Some(rest));
+                return Ok(Some((Token::Word, rest)));
             }
+            if !is_gap(*byte) {
+                return Ok(Some((Token::Operator(*byte), after)));
+            }
+            quoting = Quoting::Between;
+            rest = after;
         } else {
             push_kept(word, quoting, *byte)?;
             quoting = next_quoting(quoting, *byte);
+            rest = after;
         }
     }
     if word.as_slice().is_empty() {
         return Ok(None);
     }
-    Ok(Some(b""))
+    Ok(Some((Token::Word, b"")))
 }
 
-/// Appends the bytes before the first one that ends a word or quotes others, and returns the rest.
-fn push_plain<'a>(word: &mut Vec<u8>, text: &'a [u8]) -> Result<&'a [u8], AllocError>
-    ensures { IfOk result (λ rest. words_after word.new.items (read_text Bare rest.now)
-        ≡ words_after word.old.items (read_text Bare text.now)) }
+/// Skips spaces and tabs, and puts the bytes before the next one that ends a word or quotes others in
+/// place of `word`. Returns how the rest is read.
+fn begin_word<'a>(word: &mut Vec<u8>, text: &'a [u8]) -> Result<(Quoting, &'a [u8]), AllocError>
+    ensures { IfOk result (λ begun.
+        tokens_after word.new.items (read_text begun.0 begun.1.now) ≡ tokens_of text.now) }
 {
+    let text = after_gap(text);
     let count = plain_count(text);
+    word.clear();
+    if count == 0 {
+        return Ok((Quoting::Between, text));
+    }
     word.extend_from_slice(&text[..count])?;
-    Ok(&text[count..])
+    Ok((Quoting::Bare, &text[count..]))
+}
+
+/// A text without the spaces and tabs in front.
+fn after_gap(text: &[u8]) -> &[u8]
+    ensures { tokens_of result.now ≡ tokens_of text.now }
+{
+    let mut rest = text;
+    'bytes: while let Some((byte, after)) = rest.split_first() {
+        if !is_gap(*byte) {
+            return rest;
+        }
+        rest = after;
+    }
+    rest
 }
 
 /// How many bytes come before the first one that ends a word or quotes others.
@@ -74,11 +113,11 @@ fn special_position(text: &[u8]) -> Option<usize>
     text.iter().position(|byte| is_special(*byte))
 }
 
-/// Whether a byte outside quotes ends a word or quotes others.
+/// Whether a byte outside quotes ends a word, quotes others or begins a comment.
 fn is_special(byte: u8) -> bool
     ensures { result ≡ is_special byte }
 {
-    is_cut(byte) || is_dropped(Quoting::Bare, byte)
+    is_cut(byte) || is_dropped(Quoting::Between, byte)
 }
 
 /// How the byte after one is read.
@@ -86,12 +125,11 @@ fn next_quoting(quoting: Quoting, byte: u8) -> Quoting
     ensures { result ≡ next_quoting quoting byte }
 {
     match quoting {
-        Quoting::Bare => match byte {
-            b'\\' => Quoting::Escaped,
-            b'\'' => Quoting::Single,
-            b'"' => Quoting::Double,
-            _ => Quoting::Bare,
+        Quoting::Between => match byte {
+            b'#' => Quoting::Comment,
+            _ => next_bare(byte),
         },
+        Quoting::Bare => next_bare(byte),
         Quoting::Escaped => Quoting::Bare,
         Quoting::Single => match byte {
             b'\'' => Quoting::Bare,
@@ -103,15 +141,38 @@ fn next_quoting(quoting: Quoting, byte: u8) -> Quoting
             _ => Quoting::Double,
         },
         Quoting::DoubleEscaped => Quoting::Double,
+        Quoting::Comment => match byte {
+            b'\n' => Quoting::Between,
+            _ => Quoting::Comment,
+        },
     }
 }
 
-/// Whether a byte ends a word.
+/// How the byte after one outside quotes is read.
+fn next_bare(byte: u8) -> Quoting
+    ensures { result ≡ next_bare byte }
+{
+    match byte {
+        b'\\' => Quoting::Escaped,
+        b'\'' => Quoting::Single,
+        b'"' => Quoting::Double,
+        _ => {
+            if is_cut(byte) {
+                Quoting::Between
+            } else {
+                Quoting::Bare
+            }
+        }
+    }
+}
+
+/// Whether a byte ends a word or a comment.
 fn ends_at(quoting: Quoting, byte: u8) -> bool
     ensures { result ≡ ends_at quoting byte }
 {
     match quoting {
-        Quoting::Bare => is_cut(byte),
+        Quoting::Between | Quoting::Bare => is_cut(byte),
+        Quoting::Comment => byte == b'\n',
         _ => false,
     }
 }
@@ -124,6 +185,13 @@ fn is_cut(byte: u8) -> bool
         byte,
         b' ' | b'\t' | b'\n' | b'&' | b'(' | b')' | b';' | b'<' | b'>' | b'|'
     )
+}
+
+/// Whether a byte is a space or a tab.
+fn is_gap(byte: u8) -> bool
+    ensures { result ≡ is_gap byte }
+{
+    matches!(byte, b' ' | b'\t')
 }
 
 /// Appends the bytes that a word keeps of a byte.
@@ -140,17 +208,19 @@ fn push_kept(word: &mut Vec<u8>, quoting: Quoting, byte: u8) -> Result<(), Alloc
     Ok(())
 }
 
-/// Whether a word keeps nothing of a byte: of a quote, of a backslash before another byte, and of
-/// the end of a line after a backslash.
+/// Whether a word keeps nothing of a byte: of a quote, of a backslash before another byte, of the end
+/// of a line after a backslash, and of a comment.
 fn is_dropped(quoting: Quoting, byte: u8) -> bool
     ensures { result ≡ is_dropped quoting byte }
 {
     match quoting {
+        Quoting::Between => matches!(byte, b'#' | b'\\' | b'\'' | b'"'),
         Quoting::Bare => matches!(byte, b'\\' | b'\'' | b'"'),
         Quoting::Escaped => byte == b'\n',
         Quoting::Single => byte == b'\'',
         Quoting::Double => matches!(byte, b'\\' | b'"'),
         Quoting::DoubleEscaped => byte == b'\n',
+        Quoting::Comment => true,
     }
 }
 

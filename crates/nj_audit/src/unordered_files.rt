@@ -1,12 +1,13 @@
 //! Files that the commands of edges name, and that other edges make, unordered with them.
 
 ghost use Rattle.std.specs.Prelude.{◌≡◌, ◌↔◌, ℕ, List, [], Some, IfOk, IfSome, IsTrue, OnOk, map, option_map};
-ghost use Rattle.nj_audit.specs.Cited.{OfEdge, OfStatements, edge_of, file_of, inputs_of, maker_of, paths_of, edges_of, edge_numbers, AreNamedUnordered, IsOther, IsTwin, IsUnordered, files_named, has_generator, is_looked_at, response_of, with_name, AreIn, AddsUnordered, AddsOnce, HaveNumbers};
+ghost use Rattle.nj_audit.specs.Cited.{OfEdge, OfStatements, edge_of, file_of, inputs_of, maker_of, paths_of, edges_of, edge_numbers, AreNamedUnordered, IsOther, IsTwin, IsUnordered, files_named, has_generator, is_looked_at, response_of, with_name, AreIn, AddsUnordered, AddsOnce, HaveNumbers, HasRoles};
 
 use crate::file_set::FileSet;
 use crate::findings::Findings;
 use crate::kinds::Kind;
 use crate::named_files::add_named_files;
+use crate::roles::Roles;
 use nj_graph::{Edge, File, Graph, NeedsSearch};
 use std::alloc::{AllocError, Global};
 
@@ -17,7 +18,9 @@ pub fn find_unordered_files<'a>(
     alloc: Global,
     graph: &'a Graph,
     folder: &[u8],
+    roles: &Roles,
 ) -> Result<Findings<'a>, AllocError>
+    requires { HasRoles graph.now roles.now }
     ensures { OfStatements graph.now (λ entries.
         IfOk result (AreNamedUnordered graph.now entries folder.now (edge_numbers graph.now))) }
 {
@@ -26,8 +29,16 @@ pub fn find_unordered_files<'a>(
     let mut makers = NeedsSearch::new(alloc, graph);
     let mut users = NeedsSearch::new(alloc, graph);
     'edges: for edge in graph.edges() {
-        let files = named_files(alloc, folder, edge)?;
-        push_unordered(edge, &files, &mut seen, &mut makers, &mut users, &mut found)?;
+        let files = named_files(alloc, folder, edge, roles)?;
+        push_unordered(
+            edge,
+            &files,
+            roles,
+            &mut seen,
+            &mut makers,
+            &mut users,
+            &mut found,
+        )?;
     }
     Ok(found)
 }
@@ -37,7 +48,9 @@ pub fn named_files<'g>(
     alloc: Global,
     folder: &[u8],
     edge: Edge<'g>,
+    roles: &Roles,
 ) -> Result<Vec<File<'g>>, AllocError>
+    requires { HasRoles (edge_of edge).graph roles.now }
     ensures named { OfEdge (edge_of edge.entry) (λ entries number.
         IfOk result (λ files. HaveNumbers (edge_of edge.entry).graph (map file_of files.items)
         (files_named (edge_of edge.entry).graph entries folder.now number))) }
@@ -45,7 +58,7 @@ pub fn named_files<'g>(
         (λ files. AreIn (edge_of edge.entry).graph (map file_of files.items)) }
 {
     let mut files = Vec::new(alloc);
-    if !is_looked_at(alloc, edge)? {
+    if !is_looked_at(alloc, edge, roles)? {
         return Ok(files);
     }
     let graph = edge.graph();
@@ -56,8 +69,9 @@ pub fn named_files<'g>(
     Ok(files)
 }
 
-/// Whether an edge runs a command that does not regenerate the build.
-fn is_looked_at(alloc: Global, edge: Edge<'_>) -> Result<bool, AllocError>
+/// Whether an edge runs a command in a build that does not regenerate the build.
+pub fn is_looked_at(alloc: Global, edge: Edge<'_>, roles: &Roles) -> Result<bool, AllocError>
+    requires { HasRoles (edge_of edge).graph roles.now }
     ensures { OfEdge (edge_of edge.entry) (λ entries number.
         IfOk result (λ is. is ≡ is_looked_at (edge_of edge.entry).graph entries number)) }
 {
@@ -65,7 +79,7 @@ fn is_looked_at(alloc: Global, edge: Edge<'_>) -> Result<bool, AllocError>
         return Ok(false);
     }
     let has_generator = has_generator(alloc, edge)?;
-    Ok(!has_generator)
+    Ok(!has_generator && !roles.is_run_by_hand(edge))
 }
 
 /// Whether the value of `generator` for an edge is not empty.
@@ -93,12 +107,14 @@ fn response(alloc: Global, edge: Edge<'_>) -> Result<Vec<u8>, AllocError>
 fn push_unordered<'a>(
     edge: Edge<'a>,
     files: &[File<'a>],
+    roles: &Roles,
     seen: &mut FileSet<'_>,
     makers: &mut NeedsSearch<'_>,
     users: &mut NeedsSearch<'_>,
     found: &mut Findings<'a>,
 ) -> Result<(), AllocError>
     requires files { AreIn (edge_of edge).graph (map file_of files.now) }
+    requires roles { HasRoles (edge_of edge).graph roles.now }
     requires seen { seen.old.graph ≡ (edge_of edge).graph }
     requires makers { makers.old ≡ edges_of (edge_of edge).graph }
     requires users { users.old ≡ edges_of (edge_of edge).graph }
@@ -111,7 +127,7 @@ fn push_unordered<'a>(
 {
     seen.clear();
     'files: for file in files {
-        if is_unordered(edge, *file, makers, users)? {
+        if is_unordered(edge, *file, roles, makers, users)? {
             push_once(edge, *file, seen, found)?;
         }
     }
@@ -139,10 +155,12 @@ fn push_once<'a>(
 pub fn is_unordered(
     edge: Edge<'_>,
     file: File<'_>,
+    roles: &Roles,
     makers: &mut NeedsSearch<'_>,
     users: &mut NeedsSearch<'_>,
 ) -> Result<bool, AllocError>
     requires graph { (file_of file).graph ≡ (edge_of edge).graph }
+    requires roles { HasRoles (edge_of edge).graph roles.now }
     requires makers { makers.old ≡ edges_of (edge_of edge).graph }
     requires users { users.old ≡ edges_of (edge_of edge).graph }
     ensures unordered { IfOk result (λ is_unordered. IsTrue is_unordered ↔ IsUnordered
@@ -150,7 +168,7 @@ pub fn is_unordered(
     ensures makers { OnOk result (makers.new ≡ makers.old) }
     ensures users { OnOk result (users.new ≡ users.old) }
 {
-    let Some(maker) = other_maker(edge, file) else {
+    let Some(maker) = other_maker(edge, file, roles) else {
         return Ok(false);
     };
     if makers.is_or_needs(edge.number(), maker.number())? {
@@ -160,16 +178,17 @@ pub fn is_unordered(
     Ok(!is_user)
 }
 
-/// The edge that makes a file, if that has a command and is no twin.
-fn other_maker<'g>(edge: Edge<'_>, file: File<'g>) -> Option<Edge<'g>>
-    requires { (file_of file).graph ≡ (edge_of edge).graph }
+/// The edge that makes a file, if that has a command, is no twin and makes no file of the manifest.
+fn other_maker<'g>(edge: Edge<'_>, file: File<'g>, roles: &Roles) -> Option<Edge<'g>>
+    requires graph { (file_of file).graph ≡ (edge_of edge).graph }
+    requires roles { HasRoles (edge_of edge).graph roles.now }
     ensures graph { IfSome result (λ maker. (edge_of maker).graph ≡ (edge_of edge.entry).graph) }
     ensures maker { (maker : ℕ) → (option_map (λ maker. (edge_of maker).number) result ≡ Some maker)
         ↔ ((maker_of (edges_of (edge_of edge.entry).graph) (file_of file.entry).path ≡ Some maker)
         × IsOther (edge_of edge.entry).graph (edge_of edge.entry).number maker) }
 {
     let maker = file.maker()?;
-    if maker.is_phony() || is_twin(edge, maker) {
+    if maker.is_phony() || roles.makes_opened(maker) || is_twin(edge, maker) {
         None
     } else {
         Some(maker)

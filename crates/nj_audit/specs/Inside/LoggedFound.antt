@@ -4,11 +4,11 @@ use Rattle.nj_scope.specs.ReadingList.{ReadStatement}
 use Rattle.nj_graph.specs.Graph.{GraphModel}
 use Rattle.nj_graph.specs.Undeclared.{AreThose, InputOfEdge}
 use Rattle.nj_audit.specs.Findings.{FindingModel}
-use Rattle.nj_audit.specs.LoggedInputs.{IsNamedUnordered, finding_of_input}
+use Rattle.nj_audit.specs.LoggedInputs.{IsLoggedAlone, finding_of_input}
 
--- the findings about those of some inputs that commands do not name come after the others
+-- the findings about those of some inputs that a log alone names come after the others
 pub record AddsLogged (g : GraphModel) (entries : List ReadStatement) (folder : List ℕ) (logged : List InputOfEdge)
     (old new : List FindingModel) : Type 0 where
   pub others : List InputOfEdge
-  pub are_others : AreThose (λ input. ¬ IsNamedUnordered g entries folder input) logged others
+  pub are_others : AreThose (IsLoggedAlone g entries folder) logged others
   pub found : new ≡ old ++ map (finding_of_input g) others

@@ -1,23 +1,34 @@
 use Rattle.std.proofs.Common.{◌≡◌, ◌∷◌, ◌++◌, map, sym, ap, ◌∙◌, append_assoc}
-use Rattle.std.specs.List.{flat_map}
 use Rattle.nj_graph.specs.Handles.{file_of}
-use Rattle.nj_audit.specs.NamedPaths.{command_names, word_names}
-use Rattle.nj_audit.specs.ShellWords.{words_of}
+use Rattle.nj_audit.specs.ReadWords.{after_token, names_after, names_of_token}
+use Rattle.nj_audit.specs.ShellWords.{tokens_of}
+use Rattle.nj_audit.specs.Inside.Tokens.{token_model}
 use Rattle.nj_audit.proofs.FileLemmas.{files_at, files-append}
 use Rattle.nj_audit.proofs.named_files.add_named_files.Goals as goal
 
-pub words-preserved : goal.words-preserved
-words-preserved c =
+pub tokens-init : goal.tokens-init
+tokens-init c = ap (λ next. map file_of c.args.files.now.items ++ files_at c.args.graph.now c.args.folder.now
+    (names_after next (tokens_of c.args.command.now))) c.first-next.ensures
+
+pub tokens-preserved : goal.tokens-preserved
+tokens-preserved c =
     let g = c.args.graph.now in
     let folder = c.args.folder.now in
-    let word = c.take_word.new.word.items in
-    let after = c.in-Some.after.now in
-    let old = map file_of c.words.files.items in
-    let first : words_of c.words.rest.now ≡ word ∷ words_of after = rw c.in-Some.is at c.in_ok-after.ensures
-    in
-    ap (λ fs. fs ++ files_at g folder (command_names after)) c.in_ok-add_files_in_word.ensures
-    ∙ ap (λ w. (old ++ files_at g folder (word_names w)) ++ files_at g folder (command_names after))
-    c.deref.ensures.value
-    ∙ append_assoc old (files_at g folder (word_names word)) (files_at g folder (command_names after))
-    ∙ ap (λ fs. old ++ fs) (sym (files-append g folder (word_names word) (command_names after)))
-    ∙ ap (λ ws. old ++ files_at g folder (flat_map word_names ws)) (sym first) ∙ c.words.invariant
+    let word = c.take_token.new.word.items in
+    let taken = c.in-Some.taken in
+    let token = token_model word taken.0 in
+    let after = tokens_of taken.1.now in
+    let old = map file_of c.tokens.files.items in
+    let next = c.tokens.next in
+    let first : tokens_of c.tokens.rest.now ≡ token ∷ after = rw c.in-Some.is at c.in_ok-taken.ensures in
+    ap (λ fs. fs ++ files_at g folder (names_after c.add_token.new.next after))
+    c.in_ok-add_token.ensures.files
+    ∙ ap (λ n. (old ++ files_at g folder (names_of_token next (token_model c.deref.result.now taken.0)))
+    ++ files_at g folder (names_after n after)) c.in_ok-add_token.ensures.next
+    ∙ ap (λ w. (old ++ files_at g folder (names_of_token next (token_model w taken.0)))
+    ++ files_at g folder (names_after (after_token next (token_model w taken.0)) after)) c.deref.ensures.value
+    ∙ append_assoc old (files_at g folder (names_of_token next token))
+    (files_at g folder (names_after (after_token next token) after))
+    ∙ ap (λ fs. old ++ fs)
+    (sym (files-append g folder (names_of_token next token) (names_after (after_token next token) after)))
+    ∙ ap (λ ts. old ++ files_at g folder (names_after next ts)) (sym first) ∙ c.tokens.invariant

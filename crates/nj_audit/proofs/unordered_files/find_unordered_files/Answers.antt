@@ -3,6 +3,7 @@ use Rattle.nj_graph.specs.Graph.{GraphModel, IsGraphOf, edges_of}
 use Rattle.nj_graph.specs.Handles.{GraphEdge, edge_of, file_of}
 use Rattle.nj_audit.specs.Audit.{numbers}
 use Rattle.nj_audit.specs.Inside.FileSets.{FileSetModel}
+use Rattle.nj_audit.specs.Inside.RolesHeld.{HasRoles}
 use Rattle.nj_audit.specs.Inside.UnorderedFound.{AddsUnordered}
 use Rattle.nj_audit.specs.UnorderedFiles.{AreNamedUnordered, files_named}
 use Rattle.nj_audit.specs.UnorderedFiles.AreNamedUnordered.{no_edges, one_more}
@@ -25,6 +26,20 @@ edges-init c =
       found = λ entries graph. subst (AreNamedUnordered g entries c.args.folder.now [])
           (sym c.new-found.ensures) no_edges;
     }
+
+pub named_files-requires : goal.named_files-requires
+named_files-requires c =
+    let held = c.edges.invariant in
+    let next = next-from c.args.graph.now (edge_of c.in-Some.edge) c.edges.edge-iterator c.next.new.self
+    c.in-Some.ensures.steps held.place held.of in
+    subst (λ (e : GraphEdge). HasRoles e.graph c.args.roles.now) (sym next.0) c.requires
+
+pub push_unordered-requires-clause-roles : goal.push_unordered-requires-clause-roles
+push_unordered-requires-clause-roles c =
+    let held = c.edges.invariant in
+    let next = next-from c.args.graph.now (edge_of c.in-Some.edge) c.edges.edge-iterator c.next.new.self
+    c.in-Some.ensures.steps held.place held.of in
+    subst (λ (e : GraphEdge). HasRoles e.graph c.args.roles.now) (sym next.0) c.requires
 
 pub edges-preserved : goal.edges-preserved
 edges-preserved c =

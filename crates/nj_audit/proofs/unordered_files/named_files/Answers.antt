@@ -1,11 +1,11 @@
-use Rattle.std.proofs.Common.{[], ◌++◌, cond, map, not, sym, ap, subst, ◌∙◌}
+use Rattle.std.proofs.Common.{[], ◌++◌, cond, map, sym, ap, subst, ◌∙◌}
 use Rattle.std.specs.List.{filter_map}
 use Rattle.nj_graph.specs.Graph.{GraphModel}
 use Rattle.nj_graph.specs.Handles.{file_of}
 use Rattle.nj_audit.specs.Audit.{command_of}
 use Rattle.nj_audit.specs.Inside.FilesNamed.{AddsFiles}
 use Rattle.nj_audit.specs.Inside.Handles.{AreIn, files_numbered}
-use Rattle.nj_audit.specs.NamedPaths.{command_names}
+use Rattle.nj_audit.specs.ReadWords.{command_names}
 use Rattle.nj_audit.specs.UnorderedFiles.{file_named, response_of}
 use Rattle.nj_audit.proofs.FileLemmas.{adds-then, files_at}
 use Rattle.nj_audit.proofs.HandleLemmas.{numbered-in}

@@ -1,0 +1,52 @@
+-- Names that small commands read, worked out on the definitions.
+use Rattle.std.proofs.Common.{◌≡◌, [], ◌∷◌, ◌++◌, Some, None, codes, map, refl}
+use Rattle.nj_text.specs.Paths.{clean_path_of, without_leftmost_pair}
+use Rattle.nj_audit.specs.NamedPaths.{path_seen, seen_from}
+use Rattle.nj_audit.specs.ReadWords.{command_names}
+use Rattle.nj_audit.specs.ShellWords.{read_text, tokens_after, tokens_of}
+
+-- what comes after `>`, `>>` and `2>` is written
+outputs : command_names (codes "gen a>b 2> c >>d <e")
+    ≡ map (seen_from []) (codes "gen" ∷ codes "a" ∷ codes "2" ∷ codes "e" ∷ [])
+unfolding tokens_of read_text tokens_after
+outputs = refl
+
+-- and what comes after `-o`, or is joined to it
+options : command_names (codes "cc -o a.o -ob.o c.c")
+    ≡ map (seen_from []) (codes "cc" ∷ codes "c.c" ∷ [])
+unfolding tokens_of read_text tokens_after
+options = refl
+
+copies : command_names (codes "gen | tee -a b c && use d")
+    ≡ map (seen_from []) (codes "gen" ∷ codes "tee" ∷ codes "use" ∷ codes "d" ∷ [])
+unfolding tokens_of read_text tokens_after
+copies = refl
+
+-- a comment ends with its line
+comments : command_names (codes "gen a#b # it's c" ++ 10 ∷ codes "use '#d'")
+    ≡ map (seen_from []) (codes "gen" ∷ codes "a#b" ∷ codes "use" ∷ codes "#d" ∷ [])
+unfolding tokens_of read_text tokens_after
+comments = refl
+
+-- two directories add up
+directories : command_names (codes "cd sub && gen a; cd ../b && use")
+    ≡ seen_from [] (codes "cd") ∷ seen_from [] (codes "sub") ∷ seen_from (codes "sub") (codes "gen")
+    ∷ seen_from (codes "sub") (codes "a") ∷ seen_from (codes "sub") (codes "cd")
+    ∷ seen_from (codes "sub") (codes "../b") ∷ seen_from (codes "sub/../b") (codes "use") ∷ []
+unfolding tokens_of read_text tokens_after
+directories = refl
+
+above : path_seen (codes "/w") (seen_from (codes "sub") (codes "../a.h")) ≡ Some (codes "a.h")
+unfolding clean_path_of without_leftmost_pair
+above = refl
+
+in_folder : path_seen (codes "/w") (seen_from (codes "/w/sub") (codes "b.h")) ≡ Some (codes "sub/b.h")
+unfolding clean_path_of without_leftmost_pair
+in_folder = refl
+
+absolute : path_seen (codes "/w") (seen_from (codes "sub") (codes "/w/b.h")) ≡ Some (codes "b.h")
+unfolding clean_path_of without_leftmost_pair
+absolute = refl
+
+nothing : path_seen (codes "/w") (seen_from (codes "sub") []) ≡ None
+nothing = refl

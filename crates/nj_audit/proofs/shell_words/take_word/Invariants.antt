@@ -1,9 +1,0 @@
-use Rattle.std.proofs.Common.{◌≡◌, length}
-use Rattle.nj_audit.specs.ShellWords.{read_text, words_after, words_of}
-use Rattle.nj_audit.proofs.shell_words.take_word.Given as goal
-
-abbrev pub invariant-bytes : goal.invariant-bytes
-invariant-bytes l = words_after l.word.items (read_text l.quoting l.rest) ≡ words_of l.text
-
-abbrev pub decreases-bytes : goal.decreases-bytes
-decreases-bytes l = length l.rest

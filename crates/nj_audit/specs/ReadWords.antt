@@ -1,0 +1,117 @@
+-- The words of a command that name files which it reads, and where it reads them: not what it writes, and below the directory that `cd`
+-- entered.
+use Rattle.std.specs.Prelude.{ℕ, ◌==◌, Bool, true, false, nat_eq, nat_le, ◌&&◌, ◌||◌, not, if◌then◌else◌, List, [], ◌∷◌, ◌++◌, bytes_eq, codes, length, map}
+use Rattle.std.specs.List.{ends_with, starts_with}
+use Rattle.nj_audit.specs.ShellWords.{TokenModel, tokens_of}
+use Rattle.nj_audit.specs.ShellWords.TokenModel.{Word, Operator}
+use Rattle.nj_audit.specs.NamedPaths.{word_names, SeenName, path_below, seen_from}
+use Rattle.nj_audit.specs.declared.read_words.Part.{Part}
+use Rattle.nj_audit.specs.declared.read_words.Part.TheVariants.{Program, Directory, Copy, Argument}
+
+-- What is known of the next word: its part in the command, whether the command writes the file that it names, and the directory that `cd`
+-- entered before it, empty before the first `cd`.
+pub record NextWordModel : Type 0 where
+  pub part : Part
+  pub is_written : Bool
+  pub folder : List ℕ
+
+-- a word begins with `-`
+abbrev pub is_option : (word : List ℕ) → Bool
+is_option word = starts_with nat_eq word (codes "-")
+
+-- a word is `-o`, after which the output comes
+abbrev pub is_output_option : (word : List ℕ) → Bool
+is_output_option word = bytes_eq word (codes "-o")
+
+-- a word begins with `-o`, so that it is that or has the output in it
+abbrev pub names_output : (word : List ℕ) → Bool
+names_output word = starts_with nat_eq word (codes "-o")
+
+-- ---- after an operator
+
+-- A command begins. The directory stays the same.
+abbrev pub begins_command : NextWordModel → NextWordModel
+begins_command next = record { part = Program; is_written = false; folder = next.folder }
+
+-- After `>` the command writes, and after `<` it reads; `>&` and `>|` are like `>`. After any other operator a command begins.
+abbrev pub after_operator : NextWordModel → (byte : ℕ) → NextWordModel
+after_operator next b =
+    if b == 62 then record next { is_written = true }
+    else (if b == 60 then record next { is_written = false }
+    else (if next.is_written && (b == 38 || b == 124) then next else begins_command next))
+
+-- ---- after a word
+
+-- a word is `cd`
+abbrev pub is_cd : (word : List ℕ) → Bool
+is_cd word = bytes_eq word (codes "cd")
+
+-- the program `tee` writes the files that it is given
+abbrev pub is_tee : (program : List ℕ) → Bool
+is_tee program = bytes_eq program (codes "tee") || ends_with nat_eq program (codes "/tee")
+
+-- the part of the words after a program
+abbrev pub part_after : (program : List ℕ) → Part
+part_after program = if is_cd program then Directory else (if is_tee program then Copy else Argument)
+
+-- the bytes that a path may have for the system
+abbrev pub longest_path : ℕ
+longest_path = 4096
+
+-- the directory after `cd`: the one of this name, as seen from the directory before; one with too long a path is not entered
+abbrev pub entered : (folder name : List ℕ) → List ℕ
+entered folder name = if nat_le (length (path_below folder name)) longest_path then path_below folder name else folder
+
+-- after a word that the command does not write
+abbrev pub after_part : Part → NextWordModel → (word : List ℕ) → NextWordModel
+after_part Program next word = record next { part = part_after word }
+after_part Directory next word =
+    if is_option word then next else record next { part = Argument; folder = entered next.folder word }
+after_part Copy next word = next
+after_part Argument next word = record next { is_written = is_output_option word }
+
+-- After a word. What comes after `-o` is written.
+abbrev pub after_word : NextWordModel → (word : List ℕ) → NextWordModel
+after_word next word = if next.is_written then record next { is_written = false } else after_part next.part next word
+
+-- ---- which words are read
+
+-- the arguments of `tee`
+abbrev pub is_copy : Part → Bool
+is_copy Copy = true
+is_copy part = false
+
+-- A word may name what is read: neither comes it after `>` or `-o`, nor is it an argument of `tee`, nor does it begin with `-o`.
+abbrev pub is_read : NextWordModel → (word : List ℕ) → Bool
+is_read next word = not (next.is_written || is_copy next.part || names_output word)
+
+-- the names in a word, as seen from a directory
+abbrev pub names_in_word : (folder word : List ℕ) → List SeenName
+names_in_word folder word = map (seen_from folder) (word_names word)
+
+-- those of the next word, if it is read
+abbrev pub names_of_next : NextWordModel → (word : List ℕ) → List SeenName
+names_of_next next word = if is_read next word then names_in_word next.folder word else []
+
+-- those of a token
+abbrev pub names_of_token : NextWordModel → TokenModel → List SeenName
+names_of_token next (Word word) = names_of_next next word
+names_of_token next (Operator b) = []
+
+-- what is known of the next word after a token
+abbrev pub after_token : NextWordModel → TokenModel → NextWordModel
+after_token next (Word word) = after_word next word
+after_token next (Operator b) = after_operator next b
+
+-- the names in these words and operators
+abbrev pub names_after : NextWordModel → List TokenModel → List SeenName
+names_after next [] = []
+names_after next (token ∷ tokens) = names_of_token next token ++ names_after (after_token next token) tokens
+
+-- what is known of the first word of a command
+abbrev pub first_word : NextWordModel
+first_word = record { part = Program; is_written = false; folder = [] }
+
+-- the names in the words of a command that it reads
+abbrev pub command_names : (command : List ℕ) → List SeenName
+command_names command = names_after first_word (tokens_of command)
