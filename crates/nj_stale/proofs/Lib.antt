@@ -5,5 +5,6 @@ pub mod FoundLemmas
 pub mod PathLemmas
 pub mod TimeLemmas
 pub mod NeededLemmas
+pub mod OrderLemmas
 pub mod TouchLemmas
 pub mod StaleRows

@@ -8,5 +8,7 @@ pub use Rattle.nj_stale.specs.Inside.Held.{state_held}
 pub use Rattle.nj_stale.specs.Laws.{SomeStateFits, OneStateFits, StaleEdgesHaveReasons}
 pub use Rattle.nj_stale.specs.Touches.{TouchesMakeDirtyEdgesStale}
 pub use Rattle.nj_stale.specs.Needed.{OtherTimesSayNothing}
-pub use Rattle.nj_stale.specs.Numbered.{AreReasonsOf, IsKnown, IsMakersFirst, evidence_of}
+pub use Rattle.nj_cycles.specs.Cycles.{AreAfterNeeds, IsAcyclic}
+pub use Rattle.nj_stale.specs.Numbered.{IsOrderOfAll, AreReasonsOf, IsKnown, IsMakersFirst, evidence_of}
+pub use Rattle.nj_edges.specs.Needs.{makers_of_inputs}
 pub use Rattle.std.specs.List.{IsDistinct}

@@ -1,5 +1,5 @@
 -- What is known of a graph whose files and edges have numbers, and the reasons of its edges by their numbers.
-use Rattle.std.specs.Prelude.{◌≡◌, ℕ, ◌<◌, if◌then◌else◌, Option, Some, List, [], ◌∷◌, length, bytes_eq, slice_get, slice_index, Contains}
+use Rattle.std.specs.Prelude.{◌≡◌, ◌≢◌, ℕ, ◌<◌, if◌then◌else◌, Option, Some, List, [], ◌∷◌, length, bytes_eq, slice_get, slice_index, Contains}
 use Rattle.nj_edges.specs.EdgeGraphs.{EdgeGraph}
 use Rattle.nj_edges.specs.Edges.{EdgePaths, edge_at, counted_inputs_of, maker_of}
 use Rattle.nj_build_log.specs.Logs.{LineModel}
@@ -29,6 +29,12 @@ pub record IsMakersFirst (edges : List EdgePaths) (order : List ℕ) : Type 0 wh
   pub first : (turn maker : ℕ) (path : List ℕ) → turn < length order
       → Contains (counted_inputs_of (edge_at edges (slice_index order turn))) path → maker_of edges path ≡ Some maker
       → (earlier : ℕ) × (earlier < turn) × (slice_index order earlier ≡ maker)
+
+-- such an order of all edges, without duplicates
+pub record IsOrderOfAll (edges : List EdgePaths) (order : List ℕ) : Type 0 where
+  pub makers_first : IsMakersFirst edges order
+  pub all : (edge : ℕ) → edge < length edges → Contains order edge
+  pub once : (turn later : ℕ) → turn < later → later < length order → slice_index order turn ≢ slice_index order later
 
 -- For each edge of the order, this is its reason in the state of the build.
 abbrev pub AreReasonsOf : Evidence → (order : List ℕ) → (reasons : List (Option Reason)) → Type 0

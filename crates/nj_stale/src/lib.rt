@@ -9,6 +9,7 @@ mod evidence;
 mod files;
 mod judging;
 mod laws;
+mod order;
 mod reason;
 mod reasons;
 
@@ -17,5 +18,6 @@ pub use laws::{
     one_state_fits, other_times_say_nothing, some_state_fits, stale_edges_have_reasons,
     touches_make_dirty_edges_stale,
 };
+pub use order::makers_first;
 pub use reason::Reason;
 pub use reasons::reasons_of;

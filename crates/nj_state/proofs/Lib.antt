@@ -1,0 +1,4 @@
+pub mod FactLemmas
+pub mod TimeLemmas
+pub mod ReasonLemmas
+pub mod LineLemmas

@@ -1,0 +1,16 @@
+//! What Ninja would run now, and why: the needed edges that are stale, by a graph with its
+//! discovered inputs, the times of its files and a build log.
+#![tactic(auto)]
+
+mod commands;
+mod facts;
+mod file_times;
+mod lines;
+mod state_fault;
+
+pub use commands::{StaleEdge, stale_edges};
+pub use facts::facts_of;
+pub use file_times::times_of;
+pub use lines::{push_stale_line, stale_lines};
+pub use nj_stale::Reason;
+pub use state_fault::StateFault;
