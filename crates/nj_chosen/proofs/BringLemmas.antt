@@ -23,7 +23,7 @@ use Rattle.nj_chosen.specs.Inside.Bringing.{answers, fixture_rows, test_at, test
 use Rattle.nj_chosen.proofs.AnswerLemmas.{answers-below}
 use Rattle.nj_chosen.proofs.FindLemmas.{finds-then, found-stays}
 
--- the test of a number
+-- the test with the given number
 test-got : (tests : List TestModel) (n : ℕ) → n < length tests → slice_get tests n ≡ Some (test_at tests n)
 test-got tests n below = slice_get-get_or tests n _ below
 

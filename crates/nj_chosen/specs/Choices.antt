@@ -34,7 +34,7 @@ abbrev pub why_by : (reason : Option Why) → (is_affected is_chosen : Bool) →
 why_by (Some why) is_affected is_chosen = Some (Own why)
 why_by None is_affected is_chosen = if is_affected then Some Follows else if is_chosen then Some Needed else None
 
--- why the test of a number is chosen
+-- why the test with the given number is chosen
 abbrev pub why_chosen : ChosenModel → (number : ℕ) → Option WhyChosen
 why_chosen m number = why_by (slice_index_or m.reasons number None) (has m.affected number) (has m.chosen number)
 

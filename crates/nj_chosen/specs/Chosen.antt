@@ -9,7 +9,7 @@ use Rattle.nj_chosen.specs.declared.brought.Way.TheVariants.{Later, Needed}
 -- ---- how a test brings others
 
 -- A test calls others by fixtures and by names of tests, and those answer. `Later`: it calls by the fixtures that it sets up and by its
--- name; the tests that require such a fixture, or come after a test of that name, answer. `Needed`: it calls by the fixtures that it
+-- name; the tests that require such a fixture, or come after a test with the given name, answer. `Needed`: it calls by the fixtures that it
 -- requires and the tests that it comes after; the tests that set up or clean up such a fixture, or have such a name, answer.
 
 -- the fixtures by which a test calls

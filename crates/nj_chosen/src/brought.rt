@@ -181,7 +181,7 @@ fn answers_of(
     Ok(answers)
 }
 
-/// Adds the test of a number under the names to which it answers.
+/// Adds the test with the given number under the names to which it answers.
 fn add_answers(
     alloc: Global,
     way: Way,

@@ -64,7 +64,7 @@ impl ChosenTests {
         self.reasons.len()
     }
 
-    /// Why the test of a number is chosen; `None` if it is not.
+    /// Why the test with the given number is chosen; `None` if it is not.
     pub fn choice(&self, number: usize) -> Option<Choice<'_>>
         requires { number < length self.now.reasons }
         ensures { option_map choice_model result ≡ why_chosen self.now number }

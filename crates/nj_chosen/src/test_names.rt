@@ -24,7 +24,7 @@ pub(crate) fn names_of_test(
     Ok(names)
 }
 
-/// The bytes of a text, if there is one.
+/// The bytes of a text, if any.
 fn bytes_of(text: &Option<String>) -> Option<&[u8]>
     ensures { option_copied result ≡ option_map string_bytes text.now }
 {

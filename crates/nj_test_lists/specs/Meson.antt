@@ -79,7 +79,7 @@ extra_paths test = strings_or_none (given (codes "extra_paths") test)
 abbrev pub built_before : TargetsModel → (test : Data) → Option (List (List ℕ))
 built_before targets test = option_and_then (joined (files_of targets)) (items_at (codes "depends") test)
 
--- the working directory, if there is one
+-- the working directory, if any
 abbrev pub folder_of_test : (test : Data) → Option (Option (List ℕ))
 folder_of_test test = optional as_str (given (codes "workdir") test)
 

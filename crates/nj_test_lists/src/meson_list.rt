@@ -148,7 +148,7 @@ fn read_command(
     Ok(nonempty(words))
 }
 
-// Words, if there are any.
+// Words, if any.
 fn nonempty(words: Vec<String>) -> Option<Vec<String>>
     ensures { option_map (λ words. map string_bytes words.items) result
         ≡ nonempty (map string_bytes words.items) }
@@ -276,7 +276,7 @@ fn copied(alloc: Global, strings: &[String]) -> Result<Vec<String>, AllocError>
     Ok(again)
 }
 
-// The working directory of a test, if there is one.
+// The working directory of a test, if any.
 fn read_folder(alloc: Global, value: &Value, wrong: ListFault) -> Result<Option<String>, ListFault>
     ensures folder { IfOk result (λ o.
         folder_of_test (view value.now) ≡ Some (option_map string_bytes o)) }

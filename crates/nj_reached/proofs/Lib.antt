@@ -1,0 +1,4 @@
+pub mod FillingLemmas
+pub mod HandleLemmas
+pub mod NoticedLemmas
+pub mod TableLemmas

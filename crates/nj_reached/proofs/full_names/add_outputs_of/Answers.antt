@@ -1,0 +1,28 @@
+use Rattle.std.proofs.Common.{◌++◌, ap}
+use Rattle.nj_names.specs.NameTables.{is_among}
+use Rattle.nj_graph.specs.Edges.{outputs_of}
+use Rattle.nj_graph.specs.Handles.{edge_of, paths_of}
+use Rattle.nj_reached.specs.GraphChanges.{full_paths}
+use Rattle.nj_reached.specs.Inside.Handles.{full_outputs}
+use Rattle.nj_reached.proofs.TableLemmas.{all-added, step}
+use Rattle.nj_reached.proofs.full_names.add_outputs_of.Goals as goal
+
+pub edges-init : goal.edges-init
+edges-init c name =
+    ap (λ edges. is_among (c.args.names.now ++ full_outputs c.args.folder.now edges) name)
+    c.into_iter-edge-iterator.ensures.into_iter_gives
+
+pub edges-preserved : goal.edges-preserved
+edges-preserved c =
+    let folder = c.args.folder.now in
+    step c.edges.names c.add_outputs.new.names
+    (full_paths folder (outputs_of (paths_of (edge_of c.in-Some.edge))))
+    (full_outputs folder c.edges.edge-iterator) (full_outputs folder c.next.new.self)
+    (c.args.names.now ++ full_outputs folder c.args.edges)
+    (ap (full_outputs folder) c.in-Some.ensures.steps) c.in_ok-add_outputs.ensures c.edges.invariant
+
+pub returns : goal.returns
+returns c =
+    all-added c.args.names.now c.edges.names (full_outputs c.args.folder.now c.args.edges)
+    (full_outputs c.args.folder.now c.edges.edge-iterator)
+    (ap (full_outputs c.args.folder.now) c.in-None.ensures.steps.0) c.edges.invariant

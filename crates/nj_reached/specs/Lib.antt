@@ -1,0 +1,6 @@
+-- the definitions to believe
+pub mod GraphChanges
+-- how the code does that
+pub mod Inside
+-- what the contracts cite
+pub mod Cited

@@ -1,0 +1,4 @@
+-- the definitions to believe
+pub mod TestTexts
+-- what the contracts cite
+pub mod Cited
