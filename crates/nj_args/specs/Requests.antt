@@ -66,8 +66,8 @@ style_of rows = record {
 
 -- ---- the request
 
--- The action of the tool of this name, by options that go with it. `inputs` takes any number of targets, `query` one file or more, `rules`
--- no arguments, and `compdb` any number of rules; the working directory is its directory where no other is given.
+-- The action of the tool with the given name, by options that go with it. `inputs` takes any number of targets, `query` one file or more,
+-- `rules` no arguments, and `compdb` any number of rules; the working directory is its directory where no other is given.
 abbrev pub asked_of : Tool → (name : List ℕ) → List Row → Result ActionModel UsageFault
 asked_of tool.Commands name rows = commands_of rows
 asked_of tool.Inputs name rows = Ok (inputs (words_in rows) (is_on (codes "--validations") rows) (style_of rows))

@@ -10,7 +10,7 @@ use Rattle.nj_args.specs.declared.usage_fault.ToolOption.TheVariants.{Single, De
 use Rattle.nj_args.specs.declared.tools.Tool.{Tool}
 use Rattle.nj_args.specs.declared.tools.Tool.TheVariants.{Commands, Inputs, Targets, Query, Rules, Compdb}
 
--- the tool of this name
+-- the tool with the given name
 abbrev pub tool_named : (name : List ℕ) → Option Tool
 tool_named name =
     if bytes_eq name (codes "commands") then Some Commands

@@ -86,7 +86,7 @@ fn request_in(alloc: Global, matches: &ArgMatches<'_>) -> Result<Request, UsageF
     })
 }
 
-// The action of the tool of this name.
+// The action of the tool with the given name.
 fn action_of(alloc: Global, name: &str, matches: &ArgMatches<'_>) -> Result<Action, UsageFault>
     ensures ok { IfOk result (λ action.
         action_of name.now (rows_in matches.now) ≡ Ok (action_model action)) }

@@ -18,7 +18,7 @@ pub enum Tool {
     Compdb,
 }
 
-/// The tool of this name.
+/// The tool with the given name.
 pub fn tool_named(name: &str) -> Option<Tool>
     ensures { result ≡ tool_named name.now }
 {

@@ -109,7 +109,7 @@ pub enum UsageFault {
     /// tool is given. The argument after an option is not a value if it begins with `-`, but `-`
     /// itself is.
     Unparsed,
-    /// There is no tool of this name ("Extra tools").
+    /// There is no tool with the given name ("Extra tools").
     UnknownTool(Word),
     /// The option does not go with the tool, or not with `-s`.
     ForeignOption { option: ToolOption, tool: Word },
@@ -119,7 +119,8 @@ pub enum UsageFault {
     /// The text is not a mark, or not a mark of such a run: with `--validations` it begins with
     /// `v`.
     BadMark(Word),
-    /// The tool of this name does not take the arguments given beside the options ("Extra tools").
+    /// The tool with the given name does not take the arguments given beside the options ("Extra
+    /// tools").
     BadWords(Word),
     /// An allocation failed.
     OutOfMemory,

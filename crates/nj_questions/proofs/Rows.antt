@@ -6,8 +6,9 @@ use Rattle.clap.proofs.OnLiterals.{clap_on_literals}
 use Rattle.nj_questions.specs.CommandLine.{command}
 use Rattle.nj_questions.specs.QuestionOf.{RefusalModel, question_of, old_option, shows_help, unparsed}
 use Rattle.nj_questions.specs.Questions.{AskedGraph, AffectedModel, AuditModel, DrawModel, KeysModel}
-use Rattle.nj_questions.specs.Questions.{WhyModel}
-use Rattle.nj_questions.specs.Questions.{QuestionModel, SubjectModel, affected, audit, draw, json, keys, why}
+use Rattle.nj_questions.specs.Questions.{StaleModel, TestsModel, WhyModel}
+use Rattle.nj_questions.specs.Questions.{QuestionModel, SubjectModel, affected, audit, draw, json, keys}
+use Rattle.nj_questions.specs.Questions.{stale, tests, why}
 
 -- the graph without options
 abbrev plain : AskedGraph
@@ -19,7 +20,7 @@ asks subject = Ok (record { folder = None; graph = plain; subject = subject })
 -- `affected` without options
 abbrev changed : AffectedModel
 changed = record {
-  source_dir = None;
+  source_dirs = [];
   zero_ended = false;
   ignored = [];
   rules = [];
@@ -41,9 +42,22 @@ abbrev keyed : (bases : List (List ℕ)) (take : Option ℕ) (resume : Option (L
     → KeysModel
 keyed bases take resume targets = record { bases = bases; take = take; resume = resume; targets = targets }
 
+-- `stale`, which takes what builds discovered
+abbrev judges : (targets : List (List ℕ)) (reasons no_manifest : Bool) → Result QuestionModel RefusalModel
+judges targets reasons no_manifest = Ok (record {
+  folder = None;
+  graph = record plain { deps = true };
+  subject = stale (record { targets = targets; why = reasons; no_manifest = no_manifest });
+})
+
 abbrev chain : (start end : List ℕ) (validations no_order_only : Bool) → WhyModel
 chain start end validations no_order_only =
     record { start = start; end = end; validations = validations; no_order_only = no_order_only }
+
+-- `tests` without options, by the list in this file
+abbrev reached : (ctest : List ℕ) → TestsModel
+reached ctest =
+    record { change = changed; ctest = ctest; format = None; why = false; json = false; unnamed = None }
 
 -- ---- each subcommand
 
@@ -67,6 +81,21 @@ keys_row : question_of (codes "keys" ∷ []) ≡ asks (keys (keyed [] None None 
 unfolding question_of command clap_on_literals
 keys_row = refl
 
+stale_row : question_of (codes "stale" ∷ []) ≡ judges [] false false
+unfolding question_of command clap_on_literals
+stale_row = refl
+
+stale_options_row : question_of (codes "stale" ∷ codes "app" ∷ codes "--no-manifest" ∷ codes "--why" ∷ codes
+    "lib" ∷ [])
+    ≡ judges (codes "app" ∷ codes "lib" ∷ []) true true
+unfolding question_of command clap_on_literals
+stale_options_row = refl
+
+tests_row : question_of (codes "tests" ∷ codes "--ctest" ∷ codes "list" ∷ [])
+    ≡ asks (tests (reached (codes "list")))
+unfolding question_of command clap_on_literals
+tests_row = refl
+
 why_row : question_of (codes "why" ∷ codes "a" ∷ codes "b" ∷ [])
     ≡ asks (why (chain (codes "a") (codes "b") false false))
 unfolding question_of command clap_on_literals
@@ -76,8 +105,8 @@ why_row = refl
 
 affected_options_row : question_of (codes "affected" ∷ codes "--source-dir" ∷ codes ".." ∷ codes "--rule" ∷
     codes "cc" ∷ codes "--prefix" ∷ codes "bin/" ∷ codes "--rule=ld" ∷ codes "--no-phony" ∷ codes
-    "--ignore-unknown" ∷ codes "--allow-empty" ∷ []) ≡ asks (affected (record {
-      source_dir = Some (codes "..");
+    "--ignore-unknown" ∷ codes "--source-dir=/s" ∷ codes "--allow-empty" ∷ []) ≡ asks (affected (record {
+      source_dirs = codes ".." ∷ codes "/s" ∷ [];
       zero_ended = false;
       ignored = [];
       rules = codes "cc" ∷ codes "ld" ∷ [];
@@ -126,6 +155,29 @@ keys_options_row : question_of (codes "keys" ∷ codes "--take" ∷ codes "5" �
     codes "app" ∷ []) ≡ asks (keys (keyed [] (Some 5) (Some (codes "0.1")) (codes "app" ∷ [])))
 unfolding question_of command clap_on_literals
 keys_options_row = refl
+
+tests_options_row : question_of (codes "tests" ∷ codes "--source-dir" ∷ codes ".." ∷ codes "-z" ∷ codes
+    "--ctest=list" ∷ codes "--ignore=*.md" ∷ codes "--format=ctest" ∷ codes "--unnamed" ∷ codes "skip" ∷ codes
+    "--ignore-unknown" ∷ codes "--allow-empty" ∷ codes "--source-dir=/s" ∷ [])
+    ≡ asks (tests (record (reached (codes "list")) {
+      change = record changed {
+        source_dirs = codes ".." ∷ codes "/s" ∷ [];
+        zero_ended = true;
+        ignored = codes "*.md" ∷ [];
+        ignore_unknown = true;
+        allow_empty = true;
+      };
+      format = Some (codes "ctest");
+      unnamed = Some (codes "skip");
+    }))
+unfolding question_of command clap_on_literals
+tests_options_row = refl
+
+tests_texts_row : question_of (codes "tests" ∷ codes "--ctest" ∷ codes "list" ∷ codes "--why" ∷ codes "--json"
+    ∷ [])
+    ≡ asks (tests (record (reached (codes "list")) { why = true; json = true }))
+unfolding question_of command clap_on_literals
+tests_texts_row = refl
 
 why_options_row : question_of (codes "why" ∷ codes "--validations" ∷ codes "a" ∷ codes "--no-order-only" ∷
     codes "b" ∷ []) ≡ asks (why (chain (codes "a") (codes "b") true true))
@@ -285,6 +337,15 @@ twice_row = refl
 stray_row : question_of (codes "json" ∷ codes "a" ∷ []) ≡ Err unparsed
 unfolding question_of command clap_on_literals
 stray_row = refl
+
+listless_row : question_of (codes "tests" ∷ []) ≡ Err unparsed
+unfolding question_of command clap_on_literals
+listless_row = refl
+
+ruled_row : question_of (codes "tests" ∷ codes "--ctest" ∷ codes "list" ∷ codes "--rule=cc" ∷ [])
+    ≡ Err unparsed
+unfolding question_of command clap_on_literals
+ruled_row = refl
 
 fileless_row : question_of (codes "why" ∷ []) ≡ Err unparsed
 unfolding question_of command clap_on_literals

@@ -86,7 +86,8 @@ all_topics : AreTopics (built command).subs
 unfolding command clap_on_literals
 all_topics =
     also (λ rows. refl) (also (λ rows. refl) (also (λ rows. refl)
-    (also (λ rows. refl) (also (λ rows. refl) (also (λ rows. refl) tt)))))
+    (also (λ rows. refl) (also (λ rows. refl) (also (λ rows. refl) (also (λ rows. refl)
+    (also (λ rows. refl) tt)))))))
 
 required : (built command).top.subcommand_required ≡ true
 unfolding command clap_on_literals

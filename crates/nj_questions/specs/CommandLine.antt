@@ -23,7 +23,11 @@ flag name = record (new_rule name) { long = Some name; action = Some SetTrue }
 abbrev pub long_option : (name : List ℕ) → Rule
 long_option name = record (new_rule name) { long = Some name; value_names = 1 }
 
--- the same, which may be given more than once
+-- the same, which has to be there
+abbrev pub required_option : (name : List ℕ) → Rule
+required_option name = record (long_option name) { required = true }
+
+-- `--NAME VALUE`, which may be given more than once
 abbrev pub repeated : (name : List ℕ) → Rule
 repeated name = record (long_option name) { action = Some Append }
 
@@ -54,7 +58,7 @@ subcommand name options = record (new_shape name) { rules = options ++ graph_opt
 
 -- the options of `affected`; a subcommand's words that are not options are among its options
 abbrev pub affected_options : List Rule
-affected_options = long_option (codes "source-dir") ∷ short_flag (codes "zero-ended") 122 ∷ repeated (codes "ignore")
+affected_options = repeated (codes "source-dir") ∷ short_flag (codes "zero-ended") 122 ∷ repeated (codes "ignore")
     ∷ repeated (codes "rule") ∷ long_option (codes "prefix") ∷ flag (codes "no-phony") ∷ flag (codes "ignore-unknown") ∷ flag (codes "allow-empty") ∷ []
 
 -- the options of `audit`
@@ -71,6 +75,16 @@ draw_options = flag (codes "affected") ∷ flag (codes "fold") ∷ number (codes
 abbrev pub keys_options : List Rule
 keys_options = repeated (codes "base") ∷ number (codes "take") ∷ long_option (codes "resume") ∷ words (codes "targets") ∷ []
 
+-- the options of `stale`
+abbrev pub stale_options : List Rule
+stale_options = flag (codes "why") ∷ flag (codes "no-manifest") ∷ words (codes "targets") ∷ []
+
+-- the options of `tests`
+abbrev pub tests_options : List Rule
+tests_options = required_option (codes "ctest") ∷ repeated (codes "source-dir") ∷ short_flag (codes "zero-ended") 122
+    ∷ repeated (codes "ignore") ∷ flag (codes "ignore-unknown") ∷ flag (codes "allow-empty") ∷ long_option (codes "format")
+    ∷ flag (codes "why") ∷ flag (codes "json") ∷ long_option (codes "unnamed") ∷ []
+
 -- the options of `why`
 abbrev pub why_options : List Rule
 why_options = flag (codes "validations") ∷ flag (codes "no-order-only") ∷ word (codes "A") ∷ word (codes "B") ∷ []
@@ -79,7 +93,8 @@ why_options = flag (codes "validations") ∷ flag (codes "no-order-only") ∷ wo
 abbrev pub subcommands : List Shape
 subcommands = subcommand (codes "affected") affected_options ∷ subcommand (codes "audit") audit_options
     ∷ subcommand (codes "draw") draw_options ∷ subcommand (codes "json") []
-    ∷ subcommand (codes "keys") keys_options ∷ subcommand (codes "why") why_options ∷ []
+    ∷ subcommand (codes "keys") keys_options ∷ subcommand (codes "stale") stale_options
+    ∷ subcommand (codes "tests") tests_options ∷ subcommand (codes "why") why_options ∷ []
 
 -- ---- the program
 

@@ -8,26 +8,30 @@ use Rattle.clap.specs.declared.error.kind.ErrorKind.{ErrorKind}
 use Rattle.clap.specs.declared.error.kind.ErrorKind.TheVariants.{DisplayHelp, DisplayVersion}
 use Rattle.nj_questions.specs.CommandLine.{command}
 use Rattle.nj_questions.specs.Fields.{is_on, number_in, text_or, values_in}
-use Rattle.nj_questions.specs.Questions.{AskedGraph, AffectedModel, AuditModel, DrawModel, KeysModel, WhyModel, QuestionModel}
-use Rattle.nj_questions.specs.Questions.{SubjectModel, affected, audit, draw, json, keys, why}
+use Rattle.nj_questions.specs.Questions.{AskedGraph, AffectedModel, AuditModel, DrawModel, KeysModel, StaleModel, TestsModel}
+use Rattle.nj_questions.specs.Questions.{WhyModel, QuestionModel, SubjectModel, affected, audit, draw, json, keys, stale, tests, why}
 use Rattle.nj_questions.specs.declared.refusals.Refusal.{Refusal}
 use Rattle.nj_questions.specs.declared.refusals.Refusal.TheVariants as refusal
 
 -- ---- the question of a subcommand and its rows
 
--- the options that name the graph
-abbrev pub graph_in : List Row → AskedGraph
-graph_in rows = record {
+-- `stale` takes the inputs that builds discovered without being told to
+abbrev pub takes_deps : (name : List ℕ) → Bool
+takes_deps name = bytes_eq name (codes "stale")
+
+-- the options that name the graph, of the subcommand with the given name
+abbrev pub graph_in : (name : List ℕ) → List Row → AskedGraph
+graph_in name rows = record {
   file = text_or (codes "file") (codes "build.ninja") rows;
   dyndep = is_on (codes "dyndep") rows;
-  deps = is_on (codes "deps") rows;
+  deps = takes_deps name || is_on (codes "deps") rows;
   log = first_of (codes "deps-log-file") rows;
 }
 
 -- the options of `affected`
 abbrev pub affected_in : List Row → AffectedModel
 affected_in rows = record {
-  source_dir = first_of (codes "source-dir") rows;
+  source_dirs = values_in (codes "source-dir") rows;
   zero_ended = is_on (codes "zero-ended") rows;
   ignored = values_in (codes "ignore") rows;
   rules = values_in (codes "rule") rows;
@@ -66,6 +70,25 @@ keys_in rows = record {
   targets = values_in (codes "targets") rows;
 }
 
+-- the options of `stale`
+abbrev pub stale_in : List Row → StaleModel
+stale_in rows = record {
+  targets = values_in (codes "targets") rows;
+  why = is_on (codes "why") rows;
+  no_manifest = is_on (codes "no-manifest") rows;
+}
+
+-- the options of `tests`, among them those of a change, as `affected` has them
+abbrev pub tests_in : List Row → TestsModel
+tests_in rows = record {
+  change = affected_in rows;
+  ctest = text_or (codes "ctest") [] rows;
+  format = first_of (codes "format") rows;
+  why = is_on (codes "why") rows;
+  json = is_on (codes "json") rows;
+  unnamed = first_of (codes "unnamed") rows;
+}
+
 -- the options of `why`
 abbrev pub why_in : List Row → WhyModel
 why_in rows = record {
@@ -83,14 +106,16 @@ subject_in name rows =
     else if bytes_eq name (codes "draw") then Some (draw (draw_in rows))
     else if bytes_eq name (codes "json") then Some json
     else if bytes_eq name (codes "keys") then Some (keys (keys_in rows))
+    else if bytes_eq name (codes "stale") then Some (stale (stale_in rows))
+    else if bytes_eq name (codes "tests") then Some (tests (tests_in rows))
     else if bytes_eq name (codes "why") then Some (why (why_in rows))
     else None
 
--- the question of the subcommand of this name
+-- the question of the subcommand with the given name
 abbrev pub question_in : (name : List ℕ) → List Row → Option QuestionModel
 question_in name rows = option_map (λ subject. record {
   folder = first_of (codes "folder") rows;
-  graph = graph_in rows;
+  graph = graph_in name rows;
   subject = subject;
 }) (subject_in name rows)
 

@@ -8,6 +8,8 @@ use Rattle.nj_questions.specs.declared.questions.AffectedOptions.{AffectedOption
 use Rattle.nj_questions.specs.declared.questions.AuditOptions.{AuditOptions}
 use Rattle.nj_questions.specs.declared.questions.DrawOptions.{DrawOptions}
 use Rattle.nj_questions.specs.declared.questions.KeysOptions.{KeysOptions}
+use Rattle.nj_questions.specs.declared.questions.StaleOptions.{StaleOptions}
+use Rattle.nj_questions.specs.declared.questions.TestsOptions.{TestsOptions}
 use Rattle.nj_questions.specs.declared.questions.WhyOptions.{WhyOptions}
 
 -- ---- the graph
@@ -21,10 +23,10 @@ pub record AskedGraph : Type 0 where
 
 -- ---- what is asked
 
--- `affected`: changed paths are each ended by a zero byte, or else are lines; `ignored` are patterns of globs; without `rules`, outputs
--- of edges with any rule
+-- `affected`: changed paths are each ended by a zero byte, or else are lines, and are in the `source_dirs`, if any; `ignored` are
+-- patterns of globs; without `rules`, outputs of edges with any rule
 pub record AffectedModel : Type 0 where
-  pub source_dir : Option (List ℕ)
+  pub source_dirs : List (List ℕ)
   pub zero_ended : Bool
   pub ignored : List (List ℕ)
   pub rules : List (List ℕ)
@@ -56,6 +58,21 @@ pub record KeysModel : Type 0 where
   pub resume : Option (List ℕ)
   pub targets : List (List ℕ)
 
+-- `stale`: `why` asks for reasons; `no_manifest` leaves out what the manifest itself is made from
+pub record StaleModel : Type 0 where
+  pub targets : List (List ℕ)
+  pub why : Bool
+  pub no_manifest : Bool
+
+-- `tests`: of a change, by the list of tests in the file `ctest`; `format` and `unnamed` are words
+pub record TestsModel : Type 0 where
+  pub change : AffectedModel
+  pub ctest : List ℕ
+  pub format : Option (List ℕ)
+  pub why : Bool
+  pub json : Bool
+  pub unnamed : Option (List ℕ)
+
 -- `why`: the file that needs another, and that other one
 pub record WhyModel : Type 0 where
   pub start : List ℕ
@@ -70,6 +87,8 @@ pub data SubjectModel : Type 0 where
   draw : DrawModel → SubjectModel
   json : SubjectModel
   keys : KeysModel → SubjectModel
+  stale : StaleModel → SubjectModel
+  tests : TestsModel → SubjectModel
   why : WhyModel → SubjectModel
 
 -- `folder` is the directory to change to first
@@ -89,14 +108,17 @@ reads_nothing other = false
 abbrev pub entered_folder : QuestionModel → Option (List ℕ)
 entered_folder question = if reads_nothing question.subject then None else question.folder
 
--- `affected` takes standard input
+-- `affected` and `tests` take standard input
 abbrev pub takes_input : SubjectModel → Bool
 takes_input (affected options) = true
+takes_input (tests options) = true
 takes_input other = false
 
--- `audit` takes the path of the working directory, unless nothing is read
+-- `affected` and `tests` take the path of the working directory, and so does `audit`, unless nothing is read
 abbrev pub takes_folder : SubjectModel → Bool
+takes_folder (affected options) = true
 takes_folder (audit options) = not options.list
+takes_folder (tests options) = true
 takes_folder other = false
 
 -- ---- the values of the code
@@ -113,7 +135,7 @@ asked_graph graph = record {
 -- the options of `affected`
 abbrev pub affected_model : AffectedOptions → AffectedModel
 affected_model options = record {
-  source_dir = option_map string_bytes options.source_dir;
+  source_dirs = map string_bytes options.source_dirs.items;
   zero_ended = options.zero_ended;
   ignored = map string_bytes options.ignored.items;
   rules = map string_bytes options.rules.items;
@@ -152,6 +174,25 @@ keys_model options = record {
   targets = map string_bytes options.targets.items;
 }
 
+-- the options of `stale`
+abbrev pub stale_model : StaleOptions → StaleModel
+stale_model options = record {
+  targets = map string_bytes options.targets.items;
+  why = options.why;
+  no_manifest = options.no_manifest;
+}
+
+-- the options of `tests`
+abbrev pub tests_model : TestsOptions → TestsModel
+tests_model options = record {
+  change = affected_model options.change;
+  ctest = string_bytes options.ctest;
+  format = option_map string_bytes options.format;
+  why = options.why;
+  json = options.json;
+  unnamed = option_map string_bytes options.unnamed;
+}
+
 -- the options of `why`
 abbrev pub why_model : WhyOptions → WhyModel
 why_model options = record {
@@ -168,6 +209,8 @@ subject_model (subject.Audit options) = audit (audit_model options)
 subject_model (subject.Draw options) = draw (draw_model options)
 subject_model subject.Json = json
 subject_model (subject.Keys options) = keys (keys_model options)
+subject_model (subject.Stale options) = stale (stale_model options)
+subject_model (subject.Tests options) = tests (tests_model options)
 subject_model (subject.Why options) = why (why_model options)
 
 -- a question

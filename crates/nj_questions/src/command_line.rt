@@ -6,7 +6,7 @@ ghost use Rattle.nj_questions.specs.Cited.{app_of, with_rule, with_subcommand, c
 use crate::forms::{Entry, arg_of};
 use crate::subcommands::{
     AFFECTED, AFFECTED_OPTIONS, AUDIT, AUDIT_OPTIONS, DRAW, DRAW_OPTIONS, GRAPH_OPTIONS, JSON,
-    KEYS, KEYS_OPTIONS, Topic, WHY, WHY_OPTIONS,
+    KEYS, KEYS_OPTIONS, STALE, STALE_OPTIONS, TESTS, TESTS_OPTIONS, Topic, WHY, WHY_OPTIONS,
 };
 use clap::Command;
 use std::alloc::{AllocError, Global};
@@ -23,6 +23,8 @@ pub fn command<'a>(alloc: Global) -> Result<Command<'a>, AllocError>
     let made = with_subcommand(alloc, made, DRAW, &DRAW_OPTIONS)?;
     let made = with_subcommand(alloc, made, JSON, &[])?;
     let made = with_subcommand(alloc, made, KEYS, &KEYS_OPTIONS)?;
+    let made = with_subcommand(alloc, made, STALE, &STALE_OPTIONS)?;
+    let made = with_subcommand(alloc, made, TESTS, &TESTS_OPTIONS)?;
     with_subcommand(alloc, made, WHY, &WHY_OPTIONS)
 }
 

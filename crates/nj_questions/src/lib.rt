@@ -16,7 +16,7 @@ pub use command_line::command;
 pub use laws::reading_law;
 pub use question_of::read_words;
 pub use questions::{
-    AffectedOptions, AuditOptions, DrawOptions, GraphOptions, KeysOptions, Question, Subject,
-    WhyOptions,
+    AffectedOptions, AuditOptions, DrawOptions, GraphOptions, KeysOptions, Question, StaleOptions,
+    Subject, TestsOptions, WhyOptions,
 };
 pub use refusals::Refusal;

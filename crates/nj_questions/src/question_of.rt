@@ -1,7 +1,7 @@
 //! The question of a command line's arguments.
 
 ghost use Rattle.std.specs.Prelude.{◌≡◌, ◌⊎◌, [], ◌∷◌, None, Some, Ok, Err, IfOk, IfErr, OnOk, true, is_some, map, string_bytes};
-ghost use Rattle.nj_questions.specs.Cited.{kind_of, question_of, question_model, refusal_model, asked_graph, OutOfMemory, asked, subcommand_rows_of, fault_of, subcommand_of, command, refused_by, is_question, question_in, subject_in, graph_in, rows_in};
+ghost use Rattle.nj_questions.specs.Cited.{kind_of, question_of, question_model, refusal_model, asked_graph, OutOfMemory, asked, subcommand_rows_of, fault_of, subcommand_of, command, refused_by, is_question, question_in, subject_in, graph_in, rows_in, takes_deps};
 ghost use Rattle.clap.specs.declared.error.kind.ErrorKind.TheVariants as kind;
 
 use crate::command_line::command;
@@ -92,19 +92,27 @@ fn question_in(alloc: Global, name: &str, options: &ArgMatches<'_>) -> Result<Qu
 {
     Ok(Question {
         folder: text_in(alloc, options, "folder")?,
-        graph: graph_in(alloc, options)?,
+        graph: graph_in(alloc, name, options)?,
         subject: subject_in(alloc, name, options)?,
     })
 }
 
-// The options that name the graph.
-fn graph_in(alloc: Global, options: &ArgMatches<'_>) -> Result<GraphOptions, AllocError>
-    ensures { IfOk result (λ graph. asked_graph graph ≡ graph_in (rows_in options.now)) }
+// Whether the subcommand with the given name takes the inputs that builds discovered without `--deps`.
+fn takes_deps(name: &str) -> bool
+    ensures { result ≡ takes_deps name.now }
+{
+    name == "stale"
+}
+
+// The options that name the graph, of the subcommand with the given name.
+fn graph_in(alloc: Global, name: &str, options: &ArgMatches<'_>) -> Result<GraphOptions, AllocError>
+    ensures { IfOk result (λ graph.
+        asked_graph graph ≡ graph_in name.now (rows_in options.now)) }
 {
     Ok(GraphOptions {
         file: text_or(alloc, options, "file", MAIN_FILE)?,
         dyndep: is_on(options, "dyndep"),
-        deps: is_on(options, "deps"),
+        deps: takes_deps(name) || is_on(options, "deps"),
         log: text_in(alloc, options, "deps-log-file")?,
     })
 }

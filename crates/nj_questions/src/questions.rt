@@ -33,18 +33,23 @@ impl Question {
         }
     }
 
-    /// Whether it takes standard input: `affected` does.
+    /// Whether it takes standard input: `affected` and `tests` do.
     pub fn takes_input(&self) -> bool
         ensures { result ≡ takes_input (subject_model self.now.subject) }
     {
-        matches!(self.subject, Subject::Affected(_))
+        matches!(self.subject, Subject::Affected(_) | Subject::Tests(_))
     }
 
-    /// Whether it takes the path of the working directory: `audit` does, unless nothing is read.
+    /// Whether it takes the path of the working directory: `affected` and `tests` do, and so does
+    /// `audit`, unless nothing is read.
     pub fn takes_folder(&self) -> bool
         ensures { result ≡ takes_folder (subject_model self.now.subject) }
     {
-        matches!(self.subject, Subject::Audit(_)) && !self.reads_nothing()
+        match &self.subject {
+            Subject::Affected(_) | Subject::Tests(_) => true,
+            Subject::Audit(options) => !options.list,
+            _ => false,
+        }
     }
 }
 
@@ -55,7 +60,7 @@ pub struct GraphOptions {
     pub file: String,
     /// `--dyndep`: whether what dyndep files discover is joined.
     pub dyndep: bool,
-    /// `--deps`: whether the inputs that builds discovered are joined.
+    /// `--deps`: whether the inputs that builds discovered are joined. `stale` always joins them.
     pub deps: bool,
     /// `--deps-log-file FILE`: the same, with this deps log.
     pub log: Option<String>,
@@ -74,6 +79,10 @@ pub enum Subject {
     Json,
     /// `keys`: a key for each command that targets need.
     Keys(KeysOptions),
+    /// `stale`: what Ninja would run now.
+    Stale(StaleOptions),
+    /// `tests`: the tests that a change of files reaches.
+    Tests(TestsOptions),
     /// `why`: a chain by which a file needs another.
     Why(WhyOptions),
 }
@@ -81,8 +90,9 @@ pub enum Subject {
 /// The options of `affected`.
 #[derive(Drop)]
 pub struct AffectedOptions {
-    /// `--source-dir DIR`: the directory that changed paths are in.
-    pub source_dir: Option<String>,
+    /// `--source-dir DIR`: the directories that changed paths may be in; without any, they are where
+    /// they say.
+    pub source_dirs: Vec<String>,
     /// `-z`: changed paths are each ended by a zero byte; without that option they are lines.
     pub zero_ended: bool,
     /// `--ignore GLOB`: the patterns of the changed paths that are ignored.
@@ -140,6 +150,34 @@ pub struct KeysOptions {
     pub resume: Option<String>,
     /// The targets; without any, the default ones.
     pub targets: Vec<String>,
+}
+
+/// The options of `stale`.
+#[derive(Drop)]
+pub struct StaleOptions {
+    /// The targets; without any, the default ones.
+    pub targets: Vec<String>,
+    /// `--why`: each edge with its first reason.
+    pub why: bool,
+    /// `--no-manifest`: what the manifest itself is made from is left out.
+    pub no_manifest: bool,
+}
+
+/// The options of `tests`.
+#[derive(Drop)]
+pub struct TestsOptions {
+    /// Those of the change, as `affected` has them. It has none that choose outputs.
+    pub change: AffectedOptions,
+    /// `--ctest FILE`: what `ctest --show-only=json-v1` wrote.
+    pub ctest: String,
+    /// `--format FORMAT`: the word of how the tests are written.
+    pub format: Option<String>,
+    /// `--why`: a line has the reason too.
+    pub why: bool,
+    /// `--json`: tests are objects of JSON.
+    pub json: bool,
+    /// `--unnamed WORD`: what becomes of the tests of which nothing is known.
+    pub unnamed: Option<String>,
 }
 
 /// The options of `why`.

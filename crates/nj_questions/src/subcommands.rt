@@ -49,16 +49,15 @@ again for the change. Status 3 means that more may be affected: standard error n
 no edge names, each from which the manifest itself is made, each dyndep file and each manifest that
 may change, and what could not be read; or it says that no path was given.
 
-Where CMake wrote the manifest, sources have absolute paths, and with Meson they are relative:
-  git diff -z --name-only main | ninja-graph affected -z -C build --deps --source-dir \"$PWD\"
+A file may have absolute and relative paths: CMake names sources by the former, and Meson by the latter.
   git diff -z --name-only main | ninja-graph affected -z -C build --deps --source-dir ..",
 };
 
 pub const AFFECTED_OPTIONS: [Entry; 8] = [
     (
         "source-dir",
-        Form::Long("DIR"),
-        "Take changed paths as paths in DIR",
+        Form::Repeated("DIR"),
+        "Take changed paths as paths in DIR, or in one of these",
     ),
     (
         "zero-ended",
@@ -198,6 +197,98 @@ pub const KEYS_OPTIONS: [Entry; 4] = [
         "targets",
         Form::Words("TARGET"),
         "Targets; the default ones if there are none",
+    ),
+];
+
+pub const STALE: Topic = Topic {
+    name: "stale",
+    about: "Write what Ninja would run now",
+    more: "\
+A line is the first output of a stale edge, in the order of `ninja -t commands`. The build log is
+.ninja_log in builddir, and the inputs that builds discovered count as with --deps. The answer is that
+of the Ninja that wrote the log. Status 0 means that nothing is stale, and 3 that something is, or that
+standard error says what may be missing.
+
+What the manifest itself needs comes first. If the manifest is stale, only that is written, since what
+follows depends on it; with --no-manifest it is left out.
+  ninja-graph stale -C build --why",
+};
+
+pub const STALE_OPTIONS: [Entry; 3] = [
+    (
+        "why",
+        Form::Flag,
+        "Write the first reason after each output",
+    ),
+    (
+        "no-manifest",
+        Form::Flag,
+        "Do not ask whether the manifest itself is stale",
+    ),
+    (
+        "targets",
+        Form::Words("TARGET"),
+        "Targets; the default ones if there are none",
+    ),
+];
+
+pub const TESTS: Topic = Topic {
+    name: "tests",
+    about: "Read changed paths, and write the tests that the change reaches",
+    more: "\
+A line of standard input is a changed path, as for affected. A test is chosen if it names an affected
+output, a changed file, or a directory with one; or a file that needs one. Tests that name no file of
+the build always run, and so do those whose program is not known. Chosen tests bring those that follow
+them and those that they need, by fixtures and DEPENDS. Status 3 means that more may be affected: all
+tests are written then, and standard error says why.
+
+  ctest --show-only=json-v1 > tests.json
+  git diff -z --name-only main | ninja-graph tests -z --ctest tests.json --deps --source-dir .. > names
+  ctest --tests-from-file names",
+};
+
+pub const TESTS_OPTIONS: [Entry; 10] = [
+    (
+        "ctest",
+        Form::Required("FILE"),
+        "Read the list of tests that ctest --show-only=json-v1 wrote to FILE",
+    ),
+    (
+        "source-dir",
+        Form::Repeated("DIR"),
+        "Take changed paths as paths in DIR, or in one of these",
+    ),
+    (
+        "zero-ended",
+        Form::Letter('z'),
+        "Read paths that are each ended by a zero byte, as git diff -z writes them",
+    ),
+    (
+        "ignore",
+        Form::Repeated("GLOB"),
+        "Ignore changed paths that GLOB matches, as they are given: *, ?, **, [..]",
+    ),
+    (
+        "ignore-unknown",
+        Form::Flag,
+        "Do not report changed paths that no edge names",
+    ),
+    (
+        "allow-empty",
+        Form::Flag,
+        "End with status 0 if no changed path is given",
+    ),
+    (
+        "format",
+        Form::Long("FORMAT"),
+        "Write a name in each line (lines), or one expression for ctest -R (ctest)",
+    ),
+    ("why", Form::Flag, "Write why each test is chosen, too"),
+    ("json", Form::Flag, "Write an object of JSON for each test"),
+    (
+        "unnamed",
+        Form::Long("skip"),
+        "Skip tests that name no file of the build, and those without a program",
     ),
 ];
 

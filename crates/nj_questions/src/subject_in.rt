@@ -1,11 +1,12 @@
 //! What a subcommand asks, by its options.
 
 ghost use Rattle.std.specs.Prelude.{◌≡◌, Some, IfOk, true, is_some};
-ghost use Rattle.nj_questions.specs.Cited.{number_in, subject_in, subject_model, rows_in, affected_in, affected_model, audit_in, audit_model, draw_in, draw_model, keys_in, keys_model, why_in, why_model};
+ghost use Rattle.nj_questions.specs.Cited.{number_in, subject_in, subject_model, rows_in, affected_in, affected_model, audit_in, audit_model, draw_in, draw_model, keys_in, keys_model, stale_in, stale_model, tests_in, tests_model, why_in, why_model};
 
 use crate::fields::{is_on, number_in, text_in, text_or, values_in};
 use crate::questions::{
-    AffectedOptions, AuditOptions, DrawOptions, KeysOptions, Subject, WhyOptions,
+    AffectedOptions, AuditOptions, DrawOptions, KeysOptions, StaleOptions, Subject, TestsOptions,
+    WhyOptions,
 };
 use clap::ArgMatches;
 use std::alloc::{AllocError, Global};
@@ -26,6 +27,8 @@ pub fn subject_in(
         "draw" => Ok(Subject::Draw(draw_in(alloc, options)?)),
         "json" => Ok(Subject::Json),
         "keys" => Ok(Subject::Keys(keys_in(alloc, options)?)),
+        "stale" => Ok(Subject::Stale(stale_in(alloc, options)?)),
+        "tests" => Ok(Subject::Tests(tests_in(alloc, options)?)),
         "why" => Ok(Subject::Why(why_in(alloc, options)?)),
         _ => unreachable!(),
     }
@@ -36,7 +39,7 @@ fn affected_in(alloc: Global, options: &ArgMatches<'_>) -> Result<AffectedOption
     ensures { IfOk result (λ read. affected_model read ≡ affected_in (rows_in options.now)) }
 {
     Ok(AffectedOptions {
-        source_dir: text_in(alloc, options, "source-dir")?,
+        source_dirs: values_in(alloc, options, "source-dir")?,
         zero_ended: is_on(options, "zero-ended"),
         ignored: values_in(alloc, options, "ignore")?,
         rules: values_in(alloc, options, "rule")?,
@@ -89,6 +92,31 @@ fn keys_in(alloc: Global, options: &ArgMatches<'_>) -> Result<KeysOptions, Alloc
         take: number_in(options, "take"),
         resume: text_in(alloc, options, "resume")?,
         targets: values_in(alloc, options, "targets")?,
+    })
+}
+
+// The options of `stale`.
+fn stale_in(alloc: Global, options: &ArgMatches<'_>) -> Result<StaleOptions, AllocError>
+    ensures { IfOk result (λ read. stale_model read ≡ stale_in (rows_in options.now)) }
+{
+    Ok(StaleOptions {
+        targets: values_in(alloc, options, "targets")?,
+        why: is_on(options, "why"),
+        no_manifest: is_on(options, "no-manifest"),
+    })
+}
+
+// The options of `tests`.
+fn tests_in(alloc: Global, options: &ArgMatches<'_>) -> Result<TestsOptions, AllocError>
+    ensures { IfOk result (λ read. tests_model read ≡ tests_in (rows_in options.now)) }
+{
+    Ok(TestsOptions {
+        change: affected_in(alloc, options)?,
+        ctest: text_or(alloc, options, "ctest", "")?,
+        format: text_in(alloc, options, "format")?,
+        why: is_on(options, "why"),
+        json: is_on(options, "json"),
+        unnamed: text_in(alloc, options, "unnamed")?,
     })
 }
 

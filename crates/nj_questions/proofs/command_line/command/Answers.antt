@@ -10,5 +10,7 @@ returns c =
     let three = added _ _ _ _ two c.in_ok-made-4.ensures in
     let four = added _ _ _ _ three c.in_ok-made-5.ensures in
     let five = added _ _ _ _ four c.in_ok-made-6.ensures in
-    IfOk-weaker c.with_subcommand-6.result _ _ (λ made then. added _ _ _ _ five then ∙ in_turn)
-    c.with_subcommand-6.ensures
+    let six = added _ _ _ _ five c.in_ok-made-7.ensures in
+    let seven = added _ _ _ _ six c.in_ok-made-8.ensures in
+    IfOk-weaker c.with_subcommand-8.result _ _ (λ made then. added _ _ _ _ seven then ∙ in_turn)
+    c.with_subcommand-8.ensures
