@@ -81,7 +81,7 @@ impl Depfile {
         self.targets.count()
     }
 
-    /// The target of this number.
+    /// The target with the given number.
     pub fn target(&self, number: usize) -> &[u8]
         requires { number < length self.now.targets }
         ensures { slice_get self.now.targets number ≡ Some result.now }
@@ -96,7 +96,7 @@ impl Depfile {
         self.inputs.count()
     }
 
-    /// The input of this number.
+    /// The input with the given number.
     pub fn input(&self, number: usize) -> &[u8]
         requires { number < length self.now.inputs }
         ensures { slice_get self.now.inputs number ≡ Some result.now }

@@ -101,6 +101,6 @@ IsLogFault bytes (OtherVersion version) =
     (version < 2 ^ 32) × (version ≢ 4) × (rest : List ℕ) × (bytes ≡ opening version ++ rest)
 IsLogFault bytes OutOfMemory = Unit {0}
 
--- the entry for the output of this number
+-- the entry for the output with the given number
 abbrev pub output_of : List OutputModel → (number : ℕ) → Option OutputModel
 output_of outputs number = find (λ logged. nat_eq logged.output number) outputs

@@ -13,7 +13,7 @@
 //!   time of that output in nanoseconds, and the numbers of the paths of its inputs.
 //!
 //! A path comes before the records that use its number. Of several records for one output the last
-//! counts, so a log only grows, until `ninja -t recompact` writes it anew. After the first line and
+//! counts, so a log only grows, until `ninja -t recompact` rewrites it. After the first line and
 //! the version, this is the log of an output `a` with the input `b` at the time 1:
 //!
 //! ```text

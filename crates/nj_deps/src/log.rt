@@ -101,7 +101,7 @@ impl DepsLog {
         Paths::new(&self.table.paths)
     }
 
-    /// The path of this number, as the log has it.
+    /// The path with the given number, as the log has it.
     pub fn path(&self, number: PathNo) -> &[u8]
         requires { number.0 < length self.now.paths }
         ensures { slice_get self.now.paths number.0 ≡ Some result.now }
@@ -134,7 +134,7 @@ impl DepsLog {
         self.table.output(index)
     }
 
-    /// The output with the path of this number; `None` if the path is not of an output.
+    /// The output with the path with the given number; `None` if the path is not of an output.
     #[tactic(auto, using(crate::proofs::OutputLemmas::paths_at))]
     pub fn output_of(&self, number: PathNo) -> Option<LoggedOutput<'_>>
         ensures output { option_map output_model result ≡ output_of self.now.outputs number.0 }

@@ -128,7 +128,7 @@ impl LogTable {
         Some(PathNo(number as u32))
     }
 
-    /// The index of the output with the path of this number; `None` if there is none.
+    /// The index of the output with the path with the given number; `None` if there is none.
     pub(crate) fn index_of(&self, number: PathNo) -> Option<usize>
         ensures { MatchOption result (output_of self.now.outputs number.0 ≡ None)
             (λ index. (index < length self.now.outputs)

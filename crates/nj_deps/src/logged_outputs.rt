@@ -131,7 +131,7 @@ impl OutputTable {
         }
     }
 
-    /// The index of the output with the path of this number; `None` if there is none.
+    /// The index of the output with the path with the given number; `None` if there is none.
     pub(crate) fn index_of(&self, number: PathNo) -> Option<usize>
         requires { number.0 < self.now.count }
         ensures { MatchOption result (output_of self.now.outputs number.0 ≡ None)

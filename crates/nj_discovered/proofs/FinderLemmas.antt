@@ -331,7 +331,7 @@ below-part : (count : ℕ) (numbers : List ℕ) (start end : ℕ) → AreBelow c
     → AreBelow count (slice_range numbers start end)
 below-part count numbers start end below = grind (arith, common_steps)
 
--- the edge of a number, by its paths
+-- the edge with the given number, by its paths
 abbrev pub discovery_held : (names : List (List ℕ)) → (inputs : List ℕ) → List FoundEdge → (edge : ℕ)
     → Discovery
 discovery_held names inputs edges edge = discovery_at (found_held names inputs edges) edge

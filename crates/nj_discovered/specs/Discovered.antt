@@ -80,7 +80,7 @@ abbrev pub by_stranger : (stranger : Option (List ℕ)) → (inputs : List (List
 by_stranger None inputs = known inputs
 by_stranger (Some target) inputs = faulty (error.NoSuchOutput target)
 
--- an output, if there is one, has this path
+-- an output, if any, has this path
 abbrev pub is_that : Option (List ℕ) → (path : List ℕ) → Bool
 is_that None path = false
 is_that (Some output) path = bytes_eq output path

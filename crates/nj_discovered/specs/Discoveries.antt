@@ -19,7 +19,7 @@ pub record DiscoveriesModel : Type 0 where
   pub names : List (List ℕ)
   pub edges : List FoundModel
 
--- the edge of a number; past the last one, an edge that discovers nothing
+-- the edge with the given number; past the last one, an edge that discovers nothing
 abbrev pub found_at : DiscoveriesModel → (edge : ℕ) → FoundModel
 found_at d edge = slice_index_or d.edges edge (record { verdict = Known; inputs = [] })
 

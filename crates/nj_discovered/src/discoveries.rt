@@ -44,7 +44,7 @@ impl Discoveries {
         self.edges.as_slice().len()
     }
 
-    /// Whether the discovered inputs of the edge of this number are known.
+    /// Whether the discovered inputs of the edge with the given number are known.
     pub fn verdict(&self, edge: usize) -> &Verdict
         requires { edge < length self.now.edges }
         ensures { result.now ≡ (found_at self.now edge).verdict }
@@ -52,8 +52,8 @@ impl Discoveries {
         &self.edges[edge].verdict
     }
 
-    /// The discovered inputs of the edge of this number, by the numbers of their paths; none if they
-    /// are not known.
+    /// The discovered inputs of the edge with the given number, by the numbers of their paths; none
+    /// if they are not known.
     pub fn inputs(&self, edge: usize) -> &[u32]
         requires { edge < length self.now.edges }
         ensures inputs { result.now ≡ (found_at self.now edge).inputs }
@@ -70,7 +70,7 @@ impl Discoveries {
         self.names.count()
     }
 
-    /// The clean path of this number.
+    /// The clean path with this number.
     pub fn path(&self, number: usize) -> &[u8]
         requires { number < length self.now.names }
         ensures { slice_get self.now.names number ≡ Some result.now }

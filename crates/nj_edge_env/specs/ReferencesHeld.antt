@@ -14,11 +14,11 @@ pub record ReferringKeyModel : Type 0 where
   pub name : List ℕ
   pub refers : List Bool
 
--- the key of this number
+-- the key with the given number
 abbrev pub name_at : List ReferringKeyModel → (number : ℕ) → List ℕ
 name_at keys number = unwrap_or (option_map (λ k. k.name) (slice_get keys number)) []
 
--- whether the value of the key of this number refers to each of the keys
+-- whether the value of the key with the given number refers to each of the keys
 abbrev pub row_at : List ReferringKeyModel → (number : ℕ) → List Bool
 row_at keys number = unwrap_or (option_map (λ k. k.refers) (slice_get keys number)) []
 

@@ -24,7 +24,7 @@ impl NameOrder {
         }
     }
 
-    /// The number of the name that probably comes next. There may be no name of this number.
+    /// The number of the name that probably comes next. There may be no name with the given number.
     #[inline(always)]
     pub(crate) fn guess(&self) -> usize
         ensures { result ≡ slice_index_or self.now.following.items self.now.latest 0 }
@@ -45,7 +45,7 @@ impl NameOrder {
         Ok(())
     }
 
-    /// Notes that the name of this number was bound after the latest one.
+    /// Notes that the name with the given number was bound after the latest one.
     #[inline(always)]
     pub(crate) fn note(&mut self, number: usize)
         ensures latest { self.new.latest ≡ number }

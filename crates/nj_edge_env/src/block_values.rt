@@ -175,7 +175,7 @@ fn name_number(
     Ok(number)
 }
 
-// Whether there is a name of this number, and it is this one.
+// Whether there is a name with the given number, and it is this one.
 #[inline(always)]
 fn is_name(names: &Names, number: usize, name: &[u8]) -> bool
     ensures { result ≡ true → IsFirstAt name.now names.now number }

@@ -16,7 +16,7 @@ pub(crate) struct KeyText {
     pub(crate) height: usize,
 }
 
-// The text of the key of this number, if it is known and no higher than this.
+// The text of the key with the given number, if it is known and no higher than this.
 pub(crate) fn text_known(known: &[Option<KeyText>], number: usize, depth: usize) -> Option<KeyText>
     ensures { result ≡ text_known known.now number depth }
 {
@@ -39,7 +39,7 @@ pub(crate) fn taller(height: Option<usize>, below: Option<usize>, depth: usize) 
     Some(height.max(below + 1))
 }
 
-// Keeps where the text of the key of this number is, unless a reference in it was cut off.
+// Keeps where the text of the key with the given number is, unless a reference in it was cut off.
 pub(crate) fn keep_text(
     known: &mut [Option<KeyText>],
     number: usize,

@@ -61,7 +61,7 @@ impl KeyReferences {
         self.keys.len()
     }
 
-    // The key of this number.
+    // The key with the given number.
     pub(crate) fn key(&self, number: usize) -> &[u8]
         requires { number < length self.now }
         ensures { result.now ≡ name_at self.now number }
@@ -115,7 +115,7 @@ fn sorted_keys<'a>(alloc: Global, rule: &'a Rule) -> Result<Vec<&'a [u8]>, Alloc
     Ok(names)
 }
 
-// The key of this name, and for each of these names whether its value refers to it.
+// The key with the given name, and for each of these names whether its value refers to it.
 fn referring_key(
     alloc: Global,
     rule: &Rule,

@@ -25,7 +25,7 @@ pub(crate) fn value_at(text: &[u8], bound: Bound) -> &[u8]
     &text[bound.start as usize..bound.end as usize]
 }
 
-// The bound of this edge, if there is one. While an edge is read, its bounds are the last ones.
+// The bound of this edge, if any. While an edge is read, its bounds are the last ones.
 pub(crate) fn bound_of(bounds: &[Bound], edge: usize) -> Option<Bound>
     requires { AreRising bounds.now }
     ensures { result ≡ bound_of bounds.now edge }
@@ -56,8 +56,8 @@ fn searched(bounds: &[Bound], edge: usize) -> Option<Bound>
     }
 }
 
-// Binds the name of this number in the block of this edge, in place of an earlier value there; a
-// name that the block did not bind yet is listed.
+// Binds the name with the given number in the block of this edge, in place of an earlier value
+// there; a name that the block did not bind yet is listed.
 pub(crate) fn bind_value(
     bounds: &mut Vec<Bound>,
     text: &mut Vec<u8>,
@@ -119,8 +119,8 @@ fn push_value(text: &mut Vec<u8>, edge: usize, value: &[u8]) -> Result<Bound, Al
     Ok(Bound { edge, start, end })
 }
 
-// Appends the bound, and lists the name of this number for its edge; or replaces the last bound if
-// that is of the same edge, which then has the name in its list.
+// Appends the bound, and lists the name with the given number for its edge; or replaces the last
+// bound if that is of the same edge, which then has the name in its list.
 fn set_bound(
     bounds: &mut Vec<Bound>,
     lists: &mut NumberLists,

@@ -159,7 +159,7 @@ module _ {X : Type 0} (first more last : List X) (end : ℕ) (inside : end ≤ l
   drop-more : drop (length (first ++ more)) ((first ++ more) ++ last) ≡ drop (length first) (first ++ last)
   drop-more = drop-append_seam (first ++ more) last ∙ sym (drop-append_seam first last)
 
--- an edge of these paths
+-- an edge with these paths
 abbrev edge_with : (outputs inputs validations : List (List ℕ)) → KindEnds → Bool → EdgePaths
 edge_with outputs inputs validations kinds is_phony = edge_read
     (record { outputs = outputs; inputs = inputs; validations = validations }) kinds is_phony
@@ -175,7 +175,7 @@ edge-more : (outputs more_outputs first more last validations : List (List ℕ))
     (edge_with outputs (first ++ last) validations (kinds_with kinds (length first)) is_phony)
 edge-more outputs more_outputs first more last validations kinds is_phony os is = grind (arith, common_steps)
 
--- a part of the files of these paths
+-- a part of the files with the given paths
 part-paths : (files : List (List ℕ)) (ns : List FileNo) (paths : List (List ℕ)) → AreFiles files ns paths
     → (span : Span) → paths_at files (within ns span) ≡ within paths span
 part-paths files ns paths are span =

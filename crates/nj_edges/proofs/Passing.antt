@@ -23,7 +23,7 @@ module _ {E : Type 0} (test : E → Bool) where
   -- ---- which edges these are
 
   module _ (d : E) (none : test d ≡ false) where
-    -- the edge of this number, counted from `k`, passes the test
+    -- the edge with the given number, counted from `k`, passes the test
     abbrev Passes : List E → (k e : ℕ) → Type 0
     Passes es k e = (i : ℕ) × (k + i ≡ e) × (test (get_or es i d) ≡ true)
 

@@ -16,7 +16,7 @@ pub record EdgePaths : Type 0 where
   pub validations : List (List ℕ)
   pub is_phony : Bool
 
--- the edge of a number; past the last one, an edge without files
+-- the edge with the given number; past the last one, an edge without files
 abbrev pub edge_at : List EdgePaths → (number : ℕ) → EdgePaths
 edge_at edges number = slice_index_or edges number (record {
   explicit_outputs = [];
@@ -32,7 +32,7 @@ edge_at edges number = slice_index_or edges number (record {
 abbrev pub outputs_of : EdgePaths → List (List ℕ)
 outputs_of e = e.explicit_outputs ++ e.implicit_outputs
 
--- the first output, of the explicit ones if there are any
+-- the first output, of the explicit ones if any
 abbrev pub first_output : EdgePaths → Option (List ℕ)
 first_output e = slice_get (outputs_of e) 0
 

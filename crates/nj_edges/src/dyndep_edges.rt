@@ -11,7 +11,7 @@ use nj_names::{FileNo, Files};
 use std::alloc::{AllocError, Global};
 use std::marker::Model;
 
-/// The edges of a graph, and the files that are added to them. Their lists are made anew only once,
+/// The edges of a graph, and the files that are added to them. Their lists are rebuilt only once,
 /// at the end.
 #[derive(Drop)]
 pub struct JoiningEdges {

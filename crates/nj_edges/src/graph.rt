@@ -90,7 +90,7 @@ impl EdgeGraph {
         self.files.number(path)
     }
 
-    /// The path of the file of this number.
+    /// The path of the file with the given number.
     pub fn path(&self, file: FileNo) -> &[u8]
         requires { file.0 < length self.now.files }
         ensures { slice_get self.now.files file.0 ≡ Some result.now }
@@ -357,7 +357,7 @@ fn found_lists(alloc: Global, files: &Files, edges: &EdgeLists) -> Result<FoundL
     })
 }
 
-// The edge of this number, with the path of the first of these outputs.
+// The edge with the given number, with the path of the first of these outputs.
 fn cycle_edge(
     alloc: Global,
     files: &Files,

@@ -80,7 +80,7 @@ impl<'a> JoinedEdges<'a> {
         Ok(JoinedEdges { files, lists })
     }
 
-    // Appends the edge of this number, with the additions that are there.
+    // Appends the edge with the given number, with the additions that are there.
     fn push_edge(
         &mut self,
         edges: &Edges,

@@ -121,8 +121,8 @@ fn no_marks(alloc: Global, count: usize) -> Result<Vec<Option<usize>>, AllocErro
     vec![in alloc; None; count]
 }
 
-// Marks the explicit and the implicit inputs that the edge of this number has in the graph, if there
-// is one.
+// Marks the explicit and the implicit inputs that the edge with the given number has in the graph,
+// if any.
 fn mark_inputs(marks: &mut Vec<Option<usize>>, edges: &JoiningEdges, edge: usize)
     requires { length marks.old.items ≡ length edges.now.files }
     ensures { MarksInputs edges.now edge marks.old.items marks.new.items }

@@ -71,7 +71,7 @@ fn add_makers(found: &mut NumberSet, graph: &EdgeGraph, files: &[FileNo]) -> Res
     Ok(())
 }
 
-// The edges of these numbers.
+// The edges with the given numbers.
 fn numbered(alloc: Global, numbers: &[usize]) -> Result<Vec<EdgeNo>, AllocError>
     ensures { IfOk result (λ edges. numbers_of edges.items ≡ numbers.now) }
 {

@@ -49,7 +49,7 @@ impl<'a> NeedsSearch<'a> {
     }
 
     /// Whether an edge is another, or needs it through a chain of inputs. Fails only if an
-    /// allocation fails; the next question then begins anew.
+    /// allocation fails; the next question then starts over.
     pub fn is_or_needs(&mut self, edge: EdgeNo, other: EdgeNo) -> Result<bool, AllocError>
         requires edge { edge.0 < length self.old }
         requires other { other.0 < length self.old }

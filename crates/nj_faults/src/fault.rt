@@ -126,9 +126,9 @@ pub enum Cause {
     EmptyPath,
     /// A depth that is not a number, or greater than 2147483647.
     BadDepth,
-    /// A second rule of this name in a scope, or one named `phony`.
+    /// A second rule with this name in a scope, or one named `phony`.
     DuplicateRule(Name),
-    /// A second pool of this name, or one named `console`.
+    /// A second pool with this name, or one named `console`.
     DuplicatePool(Name),
     /// `ninja_required_version` requires this version, which is newer than 1.12.
     VersionTooNew(Name),

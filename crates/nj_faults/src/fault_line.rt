@@ -26,8 +26,8 @@ impl GraphFault {
         line_after(alloc, self, "ninja-explain: ")
     }
 
-    /// The line for a program of this name: `FILE:LINE:COLUMN: TEXT`, or `PROGRAM: TEXT` where the
-    /// fault has no place.
+    /// The line for a program with the given name: `FILE:LINE:COLUMN: TEXT`, or `PROGRAM: TEXT`
+    /// where the fault has no place.
     ///
     /// # Errors
     ///

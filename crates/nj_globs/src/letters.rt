@@ -12,7 +12,7 @@ pub(crate) struct Letter {
     pub(crate) byte: u8,
     /// A `\` stands before it, so it is no sign.
     pub(crate) is_literal: bool,
-    /// The offset of the byte or, if there is one, of that `\`.
+    /// The offset of the byte, or of that `\` if any.
     pub(crate) at: usize,
 }
 

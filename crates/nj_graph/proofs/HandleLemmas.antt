@@ -60,7 +60,7 @@ module _ (g h : GraphModel) where
       let rest : edges_in g numbers ≡ edges_in h others = ap (drop 1) is in
       rw (first, same-numbers numbers others rest) refl
 
-  -- the files of these numbers, read in the other graph
+  -- the files with the given numbers, read in the other graph
   pub paths-there : (numbers : List FileNo) (paths : List (List ℕ))
       → files_in g (map (path_at (files_of g)) numbers) ≡ files_in h paths
       → map (path_at (files_of h)) numbers ≡ paths
@@ -81,7 +81,7 @@ module _ (g h : GraphModel) where
       let same = ap (λ fs. (get_or fs 0 (file_in g [])).graph) is in
       subst (λ x. All (λ file. file.0 < length (files_of x)) (n ∷ ns)) same known
 
-  -- the edges of these numbers, read in the other graph
+  -- the edges with the given numbers, read in the other graph
   pub numbers-there : (edges : List EdgeNo) (numbers : List ℕ)
       → edges_in g (map (λ edge. edge.0) edges) ≡ edges_in h numbers → map (λ edge. edge.0) edges ≡ numbers
   numbers-there edges numbers is = same-numbers (map (λ edge. edge.0) edges) numbers is

@@ -164,7 +164,7 @@ rule_twice : refuses (codes "include s\ninclude s\n") (a_rule ∷ []) (codes "s"
 unfolding on_files
 rule_twice = refl
 
--- a rule of the scope around may be declared anew
+-- a rule of the scope around may be declared again
 rule_hidden : reads_all (codes "rule r\n  command = d\nsubninja s\n") (a_rule ∷ [])
 unfolding on_files
 rule_hidden = refl

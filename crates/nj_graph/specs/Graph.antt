@@ -64,7 +64,7 @@ OfStatements g holds = (entries : List ReadStatement) → IsGraphOf g entries �
 abbrev pub is_dyndep_restat : List ReadStatement → (number : ℕ) → (asked : List ℕ) → Bool
 is_dyndep_restat entries number asked = bytes_eq asked (codes "restat") && restat_at (restats_read entries) number
 
--- The value of a variable for the edge of a number where its rule is used, after all statements; past the last edge it is empty.
+-- The value of a variable for the edge with the given number where its rule is used, after all statements; past the last edge it is empty.
 abbrev pub late_text_of : List ReadStatement → (number : ℕ) → (asked : List ℕ) → List ℕ
 late_text_of entries number asked =
     if is_dyndep_restat entries number asked then codes "1" else
@@ -72,7 +72,7 @@ late_text_of entries number asked =
 
 -- ---- the rule of an edge
 
--- the name of the rule of a number, if there is one
+-- the name of the rule with the given number, if any
 abbrev pub rule_name : List RuleModel → (number : ℕ) → List ℕ
 rule_name rules number = unwrap_or (option_map (λ r. r.name) (slice_get rules number)) []
 
@@ -80,13 +80,13 @@ rule_name rules number = unwrap_or (option_map (λ r. r.name) (slice_get rules n
 abbrev pub rule_name_of : List ReadStatement → EdgeModel → List ℕ
 rule_name_of entries e = rule_name (rules_read entries) e.rule
 
--- the value for the edge of a number; past the last edge it is empty
+-- the value for the edge with the given number; past the last edge it is empty
 abbrev pub rule_name_at : List ReadStatement → (number : ℕ) → List ℕ
 rule_name_at entries number = unwrap_or (option_map (rule_name_of entries) (slice_get (edges_read entries) number)) []
 
 -- ---- the numbers of the rule and the scope of an edge
 
--- the record of the edge of a number besides its paths and its block
+-- the record of the edge with the given number besides its paths and its block
 abbrev pub detail_stated : List ReadStatement → (number : ℕ) → EdgeDetail
 detail_stated entries number = detail_at (map detail_of (edges_read entries)) number
 
@@ -129,7 +129,7 @@ main_rule_at g index = slice_index_or (main_rules g) index phony_rule
 
 -- ---- its description
 
--- the value of the last `description` line, if there is one
+-- the value of the last `description` line, if any
 abbrev pub description : RuleModel → Option (List PartModel)
 description r = given r.lines (codes "description")
 

@@ -29,19 +29,19 @@ pub record GraphFiles : Type 0 where
   pub graph : GraphModel
   pub paths : List (List ℕ)
 
--- the file of a path
+-- the file with the given path
 abbrev pub file_in : GraphModel → (path : List ℕ) → GraphFile
 file_in graph path = record { graph = graph; path = path }
 
--- the edge of a number
+-- the edge with the given number
 abbrev pub edge_in : GraphModel → (number : ℕ) → GraphEdge
 edge_in graph number = record { graph = graph; number = number }
 
--- the files of these paths
+-- the files with the given paths
 abbrev pub files_in : GraphModel → (paths : List (List ℕ)) → List GraphFile
 files_in graph paths = map (file_in graph) paths
 
--- the edges of these numbers
+-- the edges with the given numbers
 abbrev pub edges_in : GraphModel → (numbers : List ℕ) → List GraphEdge
 edges_in graph numbers = map (edge_in graph) numbers
 

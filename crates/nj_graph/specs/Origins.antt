@@ -28,7 +28,7 @@ rule_place_given e before item = None
 abbrev pub rule_places : List ReadStatement → List (Option Place)
 rule_places entries = None ∷ gathered rule_place_given entries
 
--- the place of the rule of a number; past the last rule there is none
+-- the place of the rule with the given number; past the last rule there is none
 abbrev pub rule_place_at : (places : List (Option Place)) → (number : ℕ) → Option Place
 rule_place_at places number = slice_index_or places number None
 
@@ -100,7 +100,7 @@ abbrev pub origins_read : (main : List ℕ) → List ReadStatement → OriginsMo
 origins_read main entries =
     record { rules = rule_places entries; pools = pool_details entries; openings = openings_read main entries }
 
--- the path of an opening, if there is one
+-- the path of an opening, if any
 abbrev pub path_opened : Option OpeningModel → List ℕ
 path_opened (Some opening) = opening.path
 path_opened None = []

@@ -60,7 +60,7 @@ abbrev pub binding_fault : (file : List ℕ) → Spot → (name value : List ℕ
 binding_fault file spot name value =
     then_some (bytes_eq name (codes "ninja_required_version") && is_newer value) (fault_at file spot (VersionTooNew value))
 
--- the scope has a rule of this name already
+-- the scope has a rule with the given name already
 abbrev pub rule_fault : (file : List ℕ) → (number : ℕ) → (before : List ReadStatement) → NameModel → Option GraphFault
 rule_fault file number before name =
     then_some (is_declared (rules before number name.name) name.name) (fault_at file name.spot (DuplicateRule name.name))
@@ -70,7 +70,7 @@ abbrev pub depth_fault : (file scope : List ℕ) → (before : List ReadStatemen
 depth_fault file scope before lines =
     option_map (λ l. fault_at file l.spot BadDepth) (find (λ l. not (is_depth (expanded_in scope before l.value))) lines)
 
--- there is a pool of this name already, or a depth is bad
+-- there is a pool with the given name already, or a depth is bad
 abbrev pub pool_fault : (file scope : List ℕ) → (before : List ReadStatement) → NameModel → List LineModel → Option GraphFault
 pool_fault file scope before name lines =
     option_or (then_some (is_pool (pools before) name.name) (fault_at file name.spot (DuplicatePool name.name)))
@@ -129,7 +129,7 @@ Opens = Site → Place → ReadStatement → (before : List ReadStatement) → R
 abbrev pub place_at : ReadStatement → Spot → Place
 place_at e spot = record { file = e.file; spot = spot }
 
--- The statements of a file that a statement names are in the scope of this number, within these: those of a file that is included in
+-- The statements of a file that a statement names are in the scope with the given number, within these: those of a file that is included in
 -- the scope of the `include`, those of a file after `subninja` in a new one within the scope of the statement.
 abbrev pub opened_site : ReadStatement → (before : List ReadStatement) → WordModel → (number : ℕ) → (around : List ℕ) → Site
 opened_site e before word number around = record {

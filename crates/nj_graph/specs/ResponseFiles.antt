@@ -32,7 +32,7 @@ with_content command file content =
     option_map_or (λ sign. take sign command ++ on_one_line content ++ drop (sign + 1 + length file) command)
     (sign_position command file) command
 
--- the command of the edge of a number
+-- the command of the edge with the given number
 abbrev pub command_with_rsp_of : List ReadStatement → (number : ℕ) → List ℕ
 command_with_rsp_of entries number =
     with_content (late_text_of entries number (codes "command")) (late_text_of entries number (codes "rspfile"))

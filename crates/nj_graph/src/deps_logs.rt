@@ -99,7 +99,7 @@ fn first_output_number(graph: &EdgeGraph, log: &DepsLog, edge: EdgeNo) -> Option
     log.number(graph.path(*output))
 }
 
-// The inputs that a log has for the outputs of these numbers, by edge.
+// The inputs that a log has for the outputs with the given numbers, by edge.
 #[derive(Drop)]
 struct LoggedInputs<'a> {
     log: &'a DepsLog,
@@ -136,7 +136,8 @@ fn join_edges(
     Ok(())
 }
 
-// Adds to the edge the log's inputs for the output of this number. The buffer is for clean paths.
+// Adds to the edge the log's inputs for the output with the given number. The buffer is for clean
+// paths.
 fn add_logged(
     joining: &mut JoiningInputs,
     log: &DepsLog,
@@ -156,7 +157,7 @@ fn add_logged(
     }
 }
 
-// Adds to the edge the paths of these numbers of the log.
+// Adds to the edge the paths with the given numbers of the log.
 fn add_inputs(
     joining: &mut JoiningInputs,
     log: &DepsLog,

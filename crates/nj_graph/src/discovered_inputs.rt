@@ -73,7 +73,7 @@ fn join_edges(
     Ok(())
 }
 
-// Adds to the edge the paths of these numbers.
+// Adds to the edge the paths with the given numbers.
 fn add_paths(
     joining: &mut JoiningInputs,
     found: &Discoveries,
@@ -92,8 +92,8 @@ fn add_paths(
     Ok(())
 }
 
-// Adds to the edge the path of this number. Of each path that was added, `files` has the number of
-// its file.
+// Adds to the edge the path with the given number. Of each path that was added, `files` has the
+// number of its file.
 fn add_path(
     joining: &mut JoiningInputs,
     found: &Discoveries,

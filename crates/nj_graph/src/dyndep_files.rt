@@ -282,7 +282,7 @@ fn join_text(
     Ok(())
 }
 
-// The next entry of a dyndep file of this name.
+// The next entry of a dyndep file with this name.
 fn next_entry<'a>(
     alloc: Global,
     parser: &mut DyndepParser<'a>,

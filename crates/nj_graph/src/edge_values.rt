@@ -100,7 +100,7 @@ impl<'g> Edge<'g> {
 }
 
 impl Graph {
-    /// The command of the edge of this number ([`Edge::command`]).
+    /// The command of the edge with the given number ([`Edge::command`]).
     pub fn command(&self, alloc: Global, edge: EdgeNo) -> Result<Vec<u8>, AllocError>
         requires { edge.0 < length (edges_of self.now) }
         ensures { OfStatements self.now (λ entries.
@@ -113,8 +113,8 @@ impl Graph {
         edge.command(alloc)
     }
 
-    /// The command of the edge of this number, with the contents of its response file in place of
-    /// the name ([`Edge::command_with_rsp`]).
+    /// The command of the edge with the given number, with the contents of its response file in
+    /// place of the name ([`Edge::command_with_rsp`]).
     ///
     /// # Errors
     ///

@@ -110,7 +110,7 @@ pub(crate) fn rules_of_main(alloc: Global, rules: &[Rule]) -> Result<Vec<usize>,
     Ok(numbers)
 }
 
-// The name of the rule of this number; empty if there is none.
+// The name of the rule with the given number; empty if there is none.
 pub(crate) fn rule_name(rules: &[Rule], number: usize) -> &[u8]
     ensures { result.now ≡ rule_name rules.now number }
 {
@@ -120,7 +120,8 @@ pub(crate) fn rule_name(rules: &[Rule], number: usize) -> &[u8]
     }
 }
 
-// The value of the last `description` line of the rule of this number; `None` if there is none.
+// The value of the last `description` line of the rule with the given number; `None` if there is
+// none.
 fn description_of(rules: &[Rule], number: usize) -> Option<&LateValue>
     ensures { option_copied result ≡ option_and_then description (slice_get rules.now number) }
 {

@@ -20,7 +20,7 @@ impl Graph {
         }
     }
 
-    /// The edge of this number; `None` past the last one.
+    /// The edge with the given number; `None` past the last one.
     pub fn edge(&self, number: EdgeNo) -> Option<Edge<'_>>
         ensures { option_map edge_of result ≡ (if nat_lt number.0 (length (edges_of self.now))
             then Some (edge_in self.now number.0) else None) }
@@ -50,7 +50,7 @@ impl Graph {
 
     // ---- by numbers, for this library's own crates
 
-    /// The file of this number.
+    /// The file with the given number.
     pub fn file_at(&self, number: FileNo) -> File<'_>
         requires { number.0 < length (files_of self.now) }
         ensures { file_of result ≡ file_in self.now (path_at (files_of self.now) number) }
@@ -61,7 +61,7 @@ impl Graph {
         }
     }
 
-    /// The edge of this number.
+    /// The edge with the given number.
     pub fn edge_at(&self, number: EdgeNo) -> Edge<'_>
         requires { number.0 < length (edges_of self.now) }
         ensures { edge_of result ≡ edge_in self.now number.0 }
@@ -72,7 +72,7 @@ impl Graph {
         }
     }
 
-    /// The files of these numbers.
+    /// The files with the given numbers.
     pub fn files_at<'g>(&'g self, numbers: &'g [FileNo]) -> Files<'g>
         requires { All (λ file. file.0 < length (files_of self.now)) numbers.now }
         ensures { result
@@ -81,7 +81,7 @@ impl Graph {
         Files::new(self, numbers)
     }
 
-    /// The edges of these numbers.
+    /// The edges with the given numbers.
     pub fn edges_at<'g>(&'g self, numbers: &'g [EdgeNo]) -> Edges<'g>
         requires { All (λ edge. edge.0 < length (edges_of self.now)) numbers.now }
         ensures { result ≡ edges_in self.entry.now (map (λ edge. edge.0) numbers.entry.now) }

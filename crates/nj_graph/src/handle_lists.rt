@@ -29,7 +29,7 @@ impl<'g> Model for Files<'g> {
 }
 
 impl<'g> Files<'g> {
-    /// The files of these numbers.
+    /// The files with the given numbers.
     pub(crate) fn new(graph: &'g Graph, numbers: &'g [FileNo]) -> Files<'g>
         requires { All (λ file. file.0 < length (files_of graph.now)) numbers.now }
         ensures numbers { result
@@ -86,7 +86,7 @@ impl<'g> Files<'g> {
         )
     }
 
-    /// The first one, if there is any.
+    /// The first one, if any.
     pub fn first(&self) -> Option<File<'g>>
         ensures { option_map file_of result ≡ slice_get self.now 0 }
     {
@@ -138,7 +138,7 @@ impl<'g> Model for Edges<'g> {
 }
 
 impl<'g> Edges<'g> {
-    /// The edges of these numbers.
+    /// The edges with the given numbers.
     pub(crate) fn new(graph: &'g Graph, numbers: &'g [EdgeNo]) -> Edges<'g>
         requires { All (λ edge. edge.0 < length (edges_of graph.now)) numbers.now }
         ensures { result ≡ edges_in graph.entry.now (map (λ edge. edge.0) numbers.entry.now) }
@@ -175,7 +175,7 @@ impl<'g> Edges<'g> {
         self.left.is_empty()
     }
 
-    /// The first one, if there is any.
+    /// The first one, if any.
     pub fn first(&self) -> Option<Edge<'g>>
         ensures { option_map edge_of result ≡ slice_get self.now 0 }
     {

@@ -112,7 +112,7 @@ impl Origins {
     }
 
     /// The statement at this place opens the file at the path, whose statements are in the scope
-    /// of this number.
+    /// with the given number.
     pub(crate) fn add_opening(
         &mut self,
         place: PlaceRef<'_>,
@@ -135,7 +135,7 @@ impl Origins {
         Ok(())
     }
 
-    /// The place of the statement that declares the rule of this number.
+    /// The place of the statement that declares the rule with the given number.
     pub(crate) fn rule_place(&self, rule: RuleNo) -> Option<PlaceRef<'_>>
         ensures { option_map place_text result ≡ rule_place_at self.now.rules rule.0 }
     {

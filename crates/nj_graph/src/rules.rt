@@ -20,9 +20,9 @@ impl Graph {
         self.declared.declarations.rules()
     }
 
-    /// The place of the `rule` statement that declares the rule of this number, as in `rules`: its
-    /// file, by the name under which it was opened, and its first byte there. `None` for `phony`,
-    /// which no statement declares, and past the last rule.
+    /// The place of the `rule` statement that declares the rule with the given number, as in
+    /// `rules`: its file, by the name under which it was opened, and its first byte there. `None`
+    /// for `phony`, which no statement declares, and past the last rule.
     pub fn rule_place(&self, rule: RuleNo) -> Option<PlaceRef<'_>>
         ensures held { option_map place_text result ≡ rule_place_at self.now.origins.rules rule.0 }
         ensures stated { OfStatements self.now (λ entries.

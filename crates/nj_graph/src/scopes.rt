@@ -18,9 +18,9 @@ impl Graph {
         self.declared.declarations.scope_count()
     }
 
-    /// The value of a name, as `builddir`, in the scope of this number after all statements: the
-    /// last binding of the scope itself, else that of the nearest scope around it ("Evaluation and
-    /// scoping" in the Ninja manual). `None` if none of them binds the name.
+    /// The value of a name, as `builddir`, in the scope with the given number after all statements:
+    /// the last binding of the scope itself, else that of the nearest scope around it ("Evaluation
+    /// and scoping" in the Ninja manual). `None` if none of them binds the name.
     pub fn scope_value(&self, scope: ScopeNo, name: &[u8]) -> Option<&[u8]>
         requires { scope.0 < length self.now.declarations.scopes }
         ensures main { OfStatements self.now (λ entries.

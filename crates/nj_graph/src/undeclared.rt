@@ -73,7 +73,7 @@ fn add_edges(
     Ok(())
 }
 
-// The numbers of the paths that a log names for the output of a number.
+// The numbers of the paths that a log names for the output with the given number.
 fn paths_named(log: &DepsLog, output: Option<PathNo>) -> &[PathNo]
     requires { IsDistinct bytes_eq log.now.paths }
     ensures named { each_once bytes_eq
@@ -97,7 +97,7 @@ fn paths_named(log: &DepsLog, output: Option<PathNo>) -> &[PathNo]
     }
 }
 
-// Whether one of the paths of these numbers is this.
+// Whether one of the paths with the given numbers is this.
 fn has_path(log: &DepsLog, numbers: &[PathNo], path: &[u8]) -> bool
     requires each_path_once { IsDistinct bytes_eq log.now.paths }
     requires known { AllByRecursion (λ number. number < length log.now.paths)

@@ -55,7 +55,7 @@ pub data OutputSeen (us : List TextUnit) (e : Line) : Type 0 where
 
 -- ---- the places of fronts that are seen alike
 
--- units that are seen alike are at the same place, if there are any
+-- units that are seen alike are at the same place, if any
 pub spot-same : (x y : List TextUnit) (d e : Spot) → front x ≡ front y → is_empty y ≡ false
     → spot_of_first x d ≡ spot_of_first y e
 spot-same x y d e h n = grind arith

@@ -136,7 +136,7 @@ entry_from (Some l, ls) = do
   Ok (Some (record entry.0 { restat = block.0 }), lines_from block.1)
 entry_from (None, ls) = Ok (None, ls)
 
--- the next entry of the lines, if there is one, and the lines after it
+-- the next entry of the lines, if any, and the lines after it
 unfoldable pub next_entry : List Line → Parse (Option EntryModel)
 next_entry ls = opening ls >>= entry_from
 

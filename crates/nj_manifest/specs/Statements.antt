@@ -197,7 +197,7 @@ statement_from (Some l, ls) = do
   Ok (Some (record { spot = line_spot l; item = item.0 }), item.1)
 statement_from (None, ls) = Ok (None, ls)
 
--- the next statement of the lines, if there is one, and the lines after it
+-- the next statement of the lines, if any, and the lines after it
 unfoldable pub next_statement : List Line → Parse (Option PlacedModel)
 next_statement ls = opening ls >>= statement_from
 

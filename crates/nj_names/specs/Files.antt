@@ -3,7 +3,7 @@ use Rattle.std.specs.Prelude.{◌≡◌, ℕ, Some, List, map, slice_get}
 use Rattle.nj_names.specs.NameTables.{name_at}
 use Rattle.nj_names.specs.declared.files.FileNo.{FileNo}
 
--- the path of the file of a number
+-- the path of the file with the given number
 abbrev pub path_at : (files : List (List ℕ)) → FileNo → List ℕ
 path_at files file = name_at files file.0
 

@@ -10,6 +10,6 @@ is_among names name = list_any (bytes_eq name) names
 abbrev pub with_name : (names : List (List ℕ)) → (name : List ℕ) → List (List ℕ)
 with_name names name = if is_among names name then names else names ++ name ∷ []
 
--- the name of a number
+-- the name with the given number
 abbrev pub name_at : (names : List (List ℕ)) → (number : ℕ) → List ℕ
 name_at names number = unwrap_or (slice_get names number) []

@@ -57,7 +57,7 @@ impl Files {
         }
     }
 
-    /// The path of the file of this number.
+    /// The path of the file with the given number.
     pub fn path(&self, file: FileNo) -> &[u8]
         requires { file.0 < length self.now }
         ensures { slice_get self.now file.0 ≡ Some result.now }

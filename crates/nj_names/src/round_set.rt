@@ -68,7 +68,7 @@ impl RoundSet {
     }
 
     /// Takes all numbers from the set. It takes no pass over the numbers below the limit, except
-    /// every 2^64 - 1 times: then no round is left, all marks are reset, and the rounds start anew.
+    /// every 2^64 - 1 times: then no round is left, all marks are reset, and the rounds start over.
     pub fn clear(&mut self)
         ensures { self.new ≡ record { limit = self.old.limit; numbers = [] } }
     {

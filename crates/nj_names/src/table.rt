@@ -78,7 +78,7 @@ impl Names {
         )
     }
 
-    /// The name of a number.
+    /// The name with the given number.
     pub fn name(&self, number: usize) -> &[u8]
         requires { number < length self.now }
         ensures { slice_get self.now number ≡ Some result.now }
@@ -143,7 +143,7 @@ fn find_name(text: &[u8], ends: &[u32], earlier: &[u32], newest: u32, name: &[u8
     None
 }
 
-// The name of a number.
+// The name with the given number.
 #[inline(always)]
 fn name_at<'a>(text: &'a [u8], ends: &[u32], number: usize) -> &'a [u8]
     requires rise { EndsRise 0 ends.now (length text.now) }
@@ -163,7 +163,7 @@ fn part(text: &[u8], start: usize, end: usize) -> &[u8]
     &text[start..end]
 }
 
-// Where the name of a number starts.
+// Where the name with the given number starts.
 #[inline(always)]
 fn start_of(ends: &[u32], number: usize) -> usize
     requires { number < length ends.now }

@@ -12,7 +12,7 @@ use Rattle.nj_edges.specs.Needs.{makers_of_inputs}
 abbrev pub row_of_paths : List EdgePaths → (paths : List (List ℕ)) → List (Option ℕ)
 row_of_paths edges paths = map (maker_of edges) paths
 
--- the edge of a number is phony
+-- the edge with the given number is phony
 abbrev pub is_phony_in : List EdgePaths → ℕ → Bool
 is_phony_in edges e = (edge_at edges e).is_phony
 
@@ -30,6 +30,6 @@ makers_of g e = makers_of_inputs g.edges e
 abbrev pub count_of : EdgeGraph → ℕ
 count_of g = length g.edges
 
--- the edge of a number is phony
+-- the edge with the given number is phony
 abbrev pub is_phony : EdgeGraph → ℕ → Bool
 is_phony g e = is_phony_in g.edges e

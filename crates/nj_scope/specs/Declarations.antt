@@ -22,7 +22,7 @@ pub record DeclaredBy (held : DeclarationsModel) (entries : List list.ReadStatem
   pub rules : held.rules ≡ list.rules_read entries
   pub pools : held.pools ≡ list.pools entries
 
--- One more statement: it is in the scope of this number, within those around it, wherever in the files.
+-- One more statement: it is in the scope with the given number, within those around it, wherever in the files.
 abbrev pub TakesIn : (old new : DeclarationsModel) → (number : ℕ) → (around : List ℕ) → StatementModel → Type 0
 TakesIn old new number around item =
     (entries : List list.ReadStatement) (file : List ℕ) (spot : Spot) (depth : ℕ) → DeclaredBy old entries

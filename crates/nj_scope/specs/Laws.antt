@@ -8,7 +8,7 @@ use Rattle.nj_scope.specs.Rules.{phony_rule}
 use Rattle.nj_scope.specs.Scopes.{expanded}
 use Rattle.nj_scope.specs.ReadingList.{ReadStatement, scope_of, bounds, value_after, rules_read, rule_in_force}
 
--- no statement of the list binds the name in the scope of this number itself
+-- no statement of the list binds the name in the scope with the given number itself
 abbrev pub binds_name : StatementModel → (name : List ℕ) → Bool
 binds_name (BindingModel bound word) name = bytes_eq name bound
 binds_name item name = false

@@ -84,7 +84,7 @@ rule_given e before item = None
 abbrev pub rules_read : List ReadStatement → List kept.RuleModel
 rules_read entries = phony_rule ∷ gathered rule_given entries
 
--- the statement declares a rule of this name
+-- the statement declares a rule with the given name
 abbrev pub declares : StatementModel → (name : List ℕ) → Bool
 declares (RuleModel declared lines) name = bytes_eq name declared.name
 declares item name = false

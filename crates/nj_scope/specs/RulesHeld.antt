@@ -19,7 +19,7 @@ last_lines (l ∷ lines) = if has_key lines l.key then last_lines lines else las
 abbrev pub key_count : List RuleLineModel → ℕ
 key_count lines = length (last_lines lines)
 
--- the key of this number
+-- the key with the given number
 abbrev pub key_at : List RuleLineModel → (number : ℕ) → List ℕ
 key_at lines number = unwrap_or (option_map (λ l. l.key) (slice_get (last_lines lines) number)) []
 

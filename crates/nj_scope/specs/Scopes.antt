@@ -32,7 +32,7 @@ pub record ScopeModel : Type 0 where
   pub values : List (List ℕ × List ℕ)
   pub rules : List (List ℕ × ℕ)
 
--- something of the scope of this number
+-- something of the scope with the given number
 abbrev pub at_scope : {X : Type 0} → (ScopeModel → Option X) → List ScopeModel → ℕ → Option X
 at_scope of_scope scopes number = option_and_then of_scope (slice_get scopes number)
 

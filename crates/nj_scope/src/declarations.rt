@@ -214,7 +214,7 @@ impl Declarations {
         self.scopes.count()
     }
 
-    /// Whether there is a pool of this name; `console` is always there.
+    /// Whether there is a pool with the given name; `console` is always there.
     pub fn has_pool(&self, name: &[u8]) -> bool
         ensures { result ≡ is_pool self.now.pools name.now }
     {

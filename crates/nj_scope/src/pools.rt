@@ -35,7 +35,7 @@ impl Pools {
         }
     }
 
-    /// Whether there is a pool of this name.
+    /// Whether there is a pool with the given name.
     pub fn has(&self, name: &[u8]) -> bool
         ensures { result ≡ is_pool self.now name.now }
     {
@@ -60,7 +60,7 @@ impl Pools {
         }
     }
 
-    /// Declares a pool. Returns `false`, and changes nothing, if there is one of the name already.
+    /// Declares a pool. Returns `false`, and changes nothing, if one of the name is there already.
     pub fn declare(&mut self, name: &[u8]) -> Result<bool, AllocError>
         ensures is_new { IfOk result (λ is_new. is_new ≡ not (is_pool self.old name.now)) }
         ensures declared { IfOk result (λ is_new.

@@ -51,7 +51,8 @@ impl Model for Rule {
 }
 
 impl Rule {
-    /// A rule of this name, with these lines, which the scope of this number declares.
+    /// A rule with the given name, with these lines, which the scope with the given number
+    /// declares.
     pub fn new(
         alloc: Global,
         scope: ScopeNo,
@@ -125,7 +126,7 @@ impl Rule {
         self.last.len()
     }
 
-    /// The key of this number.
+    /// The key with the given number.
     pub fn key(&self, number: usize) -> &[u8]
         requires { number < key_count self.now.lines }
         ensures { result.now ≡ key_at self.now.lines number }
@@ -133,7 +134,8 @@ impl Rule {
         line_at(&self.lines, &self.last, number).key.as_slice()
     }
 
-    /// The value of the key of this number: the value of its last line, since the last one counts.
+    /// The value of the key with the given number: the value of its last line, since the last one
+    /// counts.
     pub fn key_value(&self, number: usize) -> &LateValue
         requires { number < key_count self.now.lines }
         ensures { given self.now.lines (key_at self.now.lines number) ≡ Some result.now }

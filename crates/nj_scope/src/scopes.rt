@@ -110,7 +110,7 @@ impl Scopes {
         set_value(self.alloc, &mut self.scopes[scope.0].values, name, value)
     }
 
-    /// Declares the rule of this number under a name for which this scope declares none yet.
+    /// Declares the rule with the given number under a name for which this scope declares none yet.
     pub fn declare(&mut self, scope: ScopeNo, name: &[u8], rule: RuleNo) -> Result<(), AllocError>
         requires scope { scope.0 < length self.old }
         requires new { rule_at self.old scope.0 name.now ≡ None }

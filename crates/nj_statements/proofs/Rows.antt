@@ -271,7 +271,7 @@ row-dyndep_of_file = refl
 
 -- ---- edges that are pending on their dyndep files
 
--- an edge of this number that is pending on `dd`
+-- an edge with the given number that is pending on `dd`
 abbrev pends : (edge : ℕ) → Pending
 pends edge = record { edge = edge; file = codes "dd" }
 

@@ -26,7 +26,7 @@ empty_path file values word = then_some (is_empty (expanded values word.parts)) 
 
 -- ---- build statements
 
--- no rule of this name is in force
+-- no rule with the given name is in force
 abbrev pub unknown_rule : ReadStatement → (before : List ReadStatement) → NameModel → Option GraphFault
 unknown_rule e before rule =
     then_some (not (is_some (rule_in_force before (scope_of e) rule.name))) (fault_at e.file rule.spot (UnknownRule rule.name))

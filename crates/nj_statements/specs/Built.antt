@@ -35,7 +35,7 @@ pub record BuiltModel : Type 0 where
   -- for each edge, whether its dyndep file binds `restat`
   pub restats : List Bool
 
--- the detail of the edge of a number; past the last edge there is none
+-- the detail of the edge with the given number; past the last edge there is none
 abbrev pub detail_at : List EdgeDetail → (number : ℕ) → EdgeDetail
 detail_at details number =
     slice_index_or details number (record { file = []; spot = record { line = 0; column = 0 }; scope = 0; rule = 0 })

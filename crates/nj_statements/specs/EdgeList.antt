@@ -144,16 +144,16 @@ edge_given e before item = None
 unfoldable pub edges_read : List ReadStatement → List EdgeModel
 edges_read entries = gathered edge_given entries
 
--- the block of the edge of a number; past the last edge there is none
+-- the block of the edge with the given number; past the last edge there is none
 abbrev pub block_of_edge : Option EdgeModel → Block
 block_of_edge None = no_block
 block_of_edge (Some e) = e.block
 
--- the block of the edge of a number
+-- the block of the edge with the given number
 abbrev pub block_at : List EdgeModel → (number : ℕ) → Block
 block_at edges number = block_of_edge (slice_get edges number)
 
--- the names that the block of the edge of a number binds; past the last edge there are none
+-- the names that the block of the edge with the given number binds; past the last edge there are none
 abbrev pub block_names_at : List EdgeModel → (number : ℕ) → List (List ℕ)
 block_names_at edges number = slice_index_or (map (λ e. e.block_names) edges) number []
 
@@ -246,7 +246,7 @@ assigned_given e before item = option_map (assigned_of before) (edge_given e bef
 unfoldable pub assigned_read : List ReadStatement → List AssignedModel
 assigned_read entries = gathered assigned_given entries
 
--- the assignment of the edge of a number; past the last edge it is empty
+-- the assignment of the edge with the given number; past the last edge it is empty
 abbrev pub assigned_at : List AssignedModel → (number : ℕ) → AssignedModel
 assigned_at assigned number = slice_index_or assigned number (record { pool = None; dyndep = None })
 
@@ -260,6 +260,6 @@ restat_given e before item = option_map (λ edge. binds_restat e.discovered) (ed
 unfoldable pub restats_read : List ReadStatement → List Bool
 restats_read entries = gathered restat_given entries
 
--- the same of the edge of a number; past the last edge nothing is bound
+-- the same of the edge with the given number; past the last edge nothing is bound
 abbrev pub restat_at : List Bool → (number : ℕ) → Bool
 restat_at restats number = slice_index_or restats number false

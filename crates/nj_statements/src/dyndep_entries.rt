@@ -360,7 +360,7 @@ fn first_output(edges: &JoiningEdges, edge: EdgeNo) -> &[u8]
     }
 }
 
-// A line of the dyndep file of this number, which was opened under this name.
+// A line of the dyndep file with this number, which was opened under this name.
 #[derive(Clone, Copy)]
 struct DyndepLine<'a> {
     alloc: Global,

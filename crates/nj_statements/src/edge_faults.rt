@@ -95,7 +95,7 @@ impl Context<'_> {
         Err(self.place.fault(self.alloc, cause))
     }
 
-    // The dyndep file of the edge, if there is one. Refuses one that is not an input of the edge.
+    // The dyndep file of the edge, if any. Refuses one that is not an input of the edge.
     fn check_dyndep(
         self,
         edge: LateEdge<'_>,

@@ -35,9 +35,9 @@ pub(crate) struct Assigned {
 }
 
 impl Detail {
-    /// The detail of an edge that is at this place of the file of this number, and to which
-    /// nothing is assigned yet. Numbers that
-    /// take more than 32 bits are refused as if there were no memory for them.
+    /// The detail of an edge that is at this place of the file with the given number, and to which
+    /// nothing is assigned yet. Numbers that take more than 32 bits are refused as if there were no
+    /// memory for them.
     pub(crate) fn new(
         file: u32,
         spot: Spot,

@@ -38,7 +38,7 @@ pub(crate) fn keep_references(
     Ok(())
 }
 
-/// The references kept for the rule of this number, which must be there.
+/// The references kept for the rule with the given number, which must be there.
 pub(crate) fn rule_references(kept: &[Option<KeyReferences>], number: RuleNo) -> &KeyReferences
     requires { is_some (slice_index_or kept.now number.0 None) ≡ true }
     ensures { slice_index_or kept.now number.0 None ≡ Some result.now }
@@ -49,7 +49,7 @@ pub(crate) fn rule_references(kept: &[Option<KeyReferences>], number: RuleNo) ->
     }
 }
 
-// The references kept for the rule of this number.
+// The references kept for the rule with the given number.
 fn references_kept(kept: &[Option<KeyReferences>], number: RuleNo) -> Option<&KeyReferences>
     ensures { option_copied result ≡ slice_index_or kept.now number.0 None }
 {

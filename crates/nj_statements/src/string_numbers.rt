@@ -8,8 +8,8 @@ use crate::edge_record::Detail;
 use nj_names::{FileNo, Files, Names, short_number};
 use std::alloc::AllocError;
 
-/// The number of the file of this name, in which there is an edge. It is looked up only where the
-/// edge before is in another file.
+/// The number of the file with the given name, in which there is an edge. It is looked up only
+/// where the edge before is in another file.
 pub(crate) fn file_number(
     strings: &mut Names,
     before: Option<&Detail>,

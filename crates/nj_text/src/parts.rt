@@ -86,8 +86,7 @@ fn append<'a>(parts: &mut SmallVec<Part<'a>, 1>, part: Part<'a>) -> Result<(), W
     Ok(())
 }
 
-/// Appends the run of ordinary bytes that comes next, if there is one, and returns the cursor after
-/// it.
+/// Appends the run of ordinary bytes that comes next, if any, and returns the cursor after it.
 #[inline(always)]
 fn take_run<'a>(
     parts: &mut SmallVec<Part<'a>, 1>,

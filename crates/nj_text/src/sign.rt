@@ -88,7 +88,7 @@ pub enum SignTaken<'a> {
     Fault(UnitFault),
 }
 
-/// Takes the line end that comes next, if there is one.
+/// Takes the line end that comes next, if any.
 #[inline(always)]
 fn take_line_end(cursor: Cursor<'_>) -> SignTaken<'_>
     requires { next_fault (units_within cursor.spot cursor.rest.now) ≡ None }

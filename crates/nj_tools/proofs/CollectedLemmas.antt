@@ -118,7 +118,7 @@ or_none : (b : Bool) → (b || (false || false)) ≡ b
 or_none true = refl
 or_none false = refl
 
--- the set with the file of a number
+-- the set with the file with the given number
 pub more_flagged : (g h : GraphModel) (flags : List Bool) (paths : List (List ℕ)) (n : ℕ) (path : List ℕ)
     → IsDistinct bytes_eq (files_of g) → length flags ≡ length (files_of g) → h ≡ g
     → slice_get (files_of h) n ≡ Some path → HasExactly (record { graph = g; flags = flags }) paths

@@ -26,7 +26,7 @@ impl<'a> Model for ChosenRules<'a> {
 }
 
 impl<'a> ChosenRules<'a> {
-    /// The rules of these names.
+    /// The rules with the given names.
     pub(crate) fn new(alloc: Global, rules: &'a [String]) -> Result<ChosenRules<'a>, AllocError>
         ensures { IfOk result (λ chosen. (rule : List ℕ)
             → is_chosen chosen rule ≡ is_chosen (map string_bytes rules.entry.now) rule) }
@@ -39,7 +39,7 @@ impl<'a> ChosenRules<'a> {
         Ok(ChosenRules { names })
     }
 
-    /// Whether the rule of this name is chosen.
+    /// Whether the rule with the given name is chosen.
     pub(crate) fn includes(&self, rule: &[u8]) -> bool
         ensures { result ≡ is_chosen self.now rule.now }
     {

@@ -45,7 +45,7 @@ pub fn write_compdb<S: Sink>(
     refuse(alloc, unheld)
 }
 
-/// Refuses an edge that JSON cannot contain, if there is one. The fault is at its build statement.
+/// Refuses an edge that JSON cannot contain, if any. The fault is at its build statement.
 pub(crate) fn refuse(alloc: Global, unheld: Option<Edge<'_>>) -> Result<(), ToolFault>
     ensures { (entries : List ReadStatement)
         → IfSome unheld.entry (λ edge. IsGraphOf (edge_of edge).graph entries)

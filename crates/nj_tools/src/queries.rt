@@ -47,7 +47,7 @@ fn append_file(text: &mut Vec<u8>, file: File<'_>) -> Result<(), AllocError>
     append_validated(text, file.validation_users())
 }
 
-// Appends the rule, the inputs and the validations of the edge that makes a file, if there is one.
+// Appends the rule, the inputs and the validations of the edge that makes a file, if any.
 #[tactic(auto, unfolding(crate::specs::Queries::maker_text))]
 fn append_maker(text: &mut Vec<u8>, file: File<'_>) -> Result<(), AllocError>
     ensures { OfStatements (file_of file.entry).graph (λ entries. OnOk result
@@ -82,7 +82,7 @@ fn append_inputs(text: &mut Vec<u8>, edge: Edge<'_>) -> Result<(), AllocError>
     append_paths(text, b"    || ", edge.order_only_inputs())
 }
 
-// Appends validations under their title, if there are any.
+// Appends validations under their title, if any.
 fn append_validations(text: &mut Vec<u8>, files: Files<'_>) -> Result<(), AllocError>
     ensures { OnOk result (text.new.items ≡ text.old.items ++ validation_lines files.entry) }
 {

@@ -17,7 +17,7 @@ logged inputs held = record {
 abbrev pub all_logged : (inputs : List ℕ) → List HeldOutput → List OutputModel
 all_logged inputs outputs = map (logged inputs) outputs
 
--- an output of a path, with a part of the inputs
+-- an output with the given path, with a part of the inputs
 pub record IsHeld (size count : ℕ) (held : HeldOutput) : Type 0 where
   pub output : held.output < count
   pub rises : held.start ≤ held.end
@@ -29,7 +29,7 @@ abbrev pub later_place : ℕ → ℕ
 later_place zero = 0
 later_place (suc place) = suc (suc place)
 
--- the place of the output of this number, counted from 1; 0 if there is none
+-- the place of the output with the given number, counted from 1; 0 if there is none
 abbrev pub place_of : List HeldOutput → (number : ℕ) → ℕ
 place_of [] number = 0
 place_of (held ∷ outputs) number =

@@ -37,7 +37,7 @@ values_by_name text (name ∷ names) (bs ∷ bounds) = (name, values_of text bs)
 abbrev pub bounds_of : List (Vec Bound) → List (List Bound)
 bounds_of values = map (λ v. v.items) values
 
--- the names of these numbers
+-- the names with the given numbers
 abbrev pub names_of : (names : List (List ℕ)) → (numbers : List ℕ) → List (List ℕ)
 names_of names numbers = map (λ number. slice_index_or names number []) numbers
 

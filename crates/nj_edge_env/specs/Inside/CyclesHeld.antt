@@ -20,7 +20,7 @@ pub record AreSortedKeys (lines : List RuleLineModel) (names : List (Bor (List �
   pub rise : IsSortedBy (λ name other. is_lt (slice_cmp nat_cmp name.now other.now)) names
   pub all : (key : List ℕ) (value : List PartModel) → given lines key ≡ Some value → Contains (map (λ name. name.now) names) key
 
--- the key of this name, with its row
+-- the key with the given name, with its row
 abbrev pub referring_key : List RuleLineModel → (names : List (Bor (List ℕ))) → (name : List ℕ) → ReferringKeyModel
 referring_key lines names name = record { name = name; refers = map (λ other. refers_unbound lines name other.now) names }
 

@@ -18,7 +18,7 @@ paths_in CountedInputs e = counted_inputs_of e
 paths_in Outputs e = outputs_of e
 paths_in Validations e = e.validations
 
--- the edges that have the file of this number there
+-- the edges that have the file with the given number there
 abbrev pub users_in : RowPart → EdgeGraph → (file : ℕ) → List ℕ
 users_in part g file = edges_from 0 (λ e. is_among (paths_in part e) (path_at g.files (record { 0 = file }))) g.edges
 

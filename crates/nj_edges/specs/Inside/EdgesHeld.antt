@@ -92,7 +92,7 @@ table_of files l = record {
   };
 }
 
--- whether the file of this number is among these
+-- whether the file with the given number is among these
 abbrev pub has_number : ℕ → List FileNo → Bool
 has_number n numbers = list_any (λ f. n == f.0) numbers
 
@@ -147,7 +147,7 @@ is_edge (Some maker) edge = maker == edge
 abbrev pub is_made_by : (makers : List (Option ℕ)) → (file edge : ℕ) → Bool
 is_made_by makers file edge = is_edge (slice_index_or makers file None) edge
 
--- the makers of the inputs of the edge of a number, by its row
+-- the makers of the inputs of the edge with the given number, by its row
 abbrev pub makers_in_rows : Lists → (edge : ℕ) → List (Option ℕ)
 makers_in_rows l edge =
     slice_index_or (map (λ (row : EdgeRow). map (λ f. slice_index_or l.makers f.0 None) (within l.inputs row.inputs)) l.rows) edge []
@@ -167,7 +167,7 @@ pub record EdgesAreHeld (files : List (List ℕ)) (l : Lists) : Type 0 where
   pub inputs : PartsAreHeld (length files) (map (λ row. row.inputs) l.rows) l.starts.inputs l.inputs
   pub validations : PartsAreHeld (length files) (map (λ row. row.validations) l.rows) l.starts.validations l.validations
 
--- an edge has the files of these numbers, of which these kinds
+-- an edge has the files with the given numbers, of which these kinds
 pub record HasFiles (files : List (List ℕ)) (e : EdgePaths) (outputs inputs validations : List FileNo) (kinds : KindEnds)
     (is_phony : Bool) : Type 0 where
   pub is : e ≡ edge_read (record {

@@ -1,7 +1,7 @@
 -- How the makers of files are held: as numbers that are counted from 1.
 use Rattle.std.specs.Prelude.{ℕ, zero, suc, Option, None, Some, List, map}
 
--- the edge of this number; 0 is not an edge
+-- the edge with the given number; 0 is not an edge
 abbrev pub maker_held : ℕ → Option ℕ
 maker_held zero = None
 maker_held (suc edge) = Some edge

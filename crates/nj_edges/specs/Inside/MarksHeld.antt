@@ -8,7 +8,7 @@ use Rattle.nj_names.specs.Files.{AreFiles, path_at}
 use Rattle.nj_edges.specs.Joining.{JoinTable, is_joined}
 use Rattle.nj_edges.specs.MoreInputs.{InputTable, inputs_so_far}
 
--- whether the file of this number is marked with an edge
+-- whether the file with the given number is marked with an edge
 abbrev pub is_marked : (marks : List (Option ℕ)) → (file edge : ℕ) → Bool
 is_marked marks file edge = is_edge (slice_index_or marks file None) edge
 
@@ -28,7 +28,7 @@ MarksFiles files edge old new =
     (length new ≡ length old)
     × ((n : ℕ) → slice_index_or new n None ≡ (if has_number n files then Some edge else slice_index_or old n None))
 
--- the explicit and the implicit inputs of the edge of this number, if there is one, are marked with it
+-- the explicit and the implicit inputs of the edge with the given number, if any, are marked with it
 pub record MarksInputs (table : JoinTable) (edge : ℕ) (old new : List (Option ℕ)) : Type 0 where
   pub files : List FileNo
   pub are : AreFiles table.files files (counted_inputs_of (edge_at table.stated edge))

@@ -13,6 +13,6 @@ numbers_if_any numbers = map (option_map (λ n. n.0)) numbers
 abbrev pub AreNumbersLogged : LogModel → List ReadStatement → (numbers : List (Option ℕ)) → Type 0
 AreNumbersLogged log entries numbers = (n : ℕ) → n < length numbers → slice_get numbers n ≡ Some (number_logged log entries n)
 
--- the inputs that a log has for the outputs of these numbers
+-- the inputs that a log has for the outputs with the given numbers
 abbrev pub inputs_by_numbers : LogModel → (numbers : List (Option ℕ)) → List (List (List ℕ))
 inputs_by_numbers log numbers = map (inputs_logged log) numbers

@@ -61,7 +61,7 @@ pub record AddsFile (input : UndeclaredInput) (old new : FoundInputs) : Type 0 w
 
 -- ---- all edges
 
--- the files that a log names for outputs of these numbers, by edge
+-- the files that a log names for outputs with the given numbers, by edge
 abbrev pub inputs_by_number : LogModel → (numbers : List (Option ℕ)) → List InputOfEdge
 inputs_by_number log numbers =
     flat_map (λ edge. inputs_of_edge edge (paths_of_output log (slice_index_or numbers edge None))) (range_with_len 0 (length numbers))

@@ -19,7 +19,7 @@ abbrev pub EndsRise : (start : ℕ) → (ends : List ℕ) → (length : ℕ) →
 EndsRise start [] length = start ≡ length
 EndsRise start (end ∷ ends) length = (start ≤ end) × EndsRise end ends length
 
--- where the name of a number starts
+-- where the name with the given number starts
 abbrev pub start_in : (start : ℕ) → (ends : List ℕ) → (number : ℕ) → ℕ
 start_in start ends zero = start
 start_in start [] (suc number) = start

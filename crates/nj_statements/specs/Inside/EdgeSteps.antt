@@ -132,7 +132,7 @@ pub record SeesLate (edge : LateEdge) (entries : List ReadStatement) (n : LateNa
 abbrev pub assigned_by : LateNames → AssignedModel
 assigned_by n = record { pool = name_given (asked_text n (codes "pool")); dyndep = file_given (asked_text n (codes "dyndep")) }
 
--- the number of the file at this path, if there is one
+-- the number of the file at this path, if any
 abbrev pub IsFileGiven : (files : List (List ℕ)) → Option FileNo → Option (List ℕ) → Type 0
 IsFileGiven files number path = option_map (λ f. slice_get files f.0) number ≡ option_map Some path
 

@@ -61,7 +61,7 @@ IsShorter n (next.Part p after) = length after.rest.now < n
 IsShorter n (next.Join after) = length after.rest.now < n
 IsShorter n other = Unit {0}
 
--- the first byte, if there is one, fails the test
+-- the first byte, if any, fails the test
 abbrev pub NoneInRun : (ℕ → Bool) → List ℕ → Type 0
 NoneInRun p [] = Unit {0}
 NoneInRun p (b ∷ bs) = p b ≡ false

@@ -12,7 +12,7 @@ pub record Flags : Type 0 where
   pub graph : GraphModel
   pub flags : List Bool
 
--- the set has the files of these paths and no others
+-- the set has the files with the given paths and no others
 pub record HasExactly (set : Flags) (paths : List (List ℕ)) : Type 0 where
   pub flagged : (number : ℕ) → number < length set.flags
       → slice_index_or set.flags number false ≡ is_among paths (name_at (files_of set.graph) number)
@@ -22,7 +22,7 @@ pub record Collection : Type 0 where
   pub graph : GraphModel
   pub paths : List (List ℕ)
 
--- the files of these numbers are those of the set
+-- the files with the given numbers are those of the set
 pub record AreAdded (set : Flags) (files : List FileNo) : Type 0 where
   pub exactly : HasExactly set (map (path_at (files_of set.graph)) files)
   pub known : All (λ file. file.0 < length (files_of set.graph)) files

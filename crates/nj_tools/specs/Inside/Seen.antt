@@ -16,7 +16,7 @@ pub record AreSeen (graph : GraphModel) (flags : List Bool) (edges : List ℕ) :
 abbrev pub single : ℕ → List ℕ
 single e = e ∷ []
 
--- the edge that makes a file, if there is one
+-- the edge that makes a file, if any
 abbrev pub makers_of_file : GraphFile → List ℕ
 makers_of_file file = made_by single (maker_of (edges_of file.graph) file.path)
 
