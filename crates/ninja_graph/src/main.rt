@@ -15,7 +15,7 @@ fn main(rt: HostRuntime) -> ExitCode {
     ExitCode::from(run(rt).code())
 }
 
-/// Runs the program with its arguments. What refuses them enters and takes nothing.
+/// Runs the program with its arguments. If they are refused, it enters and reads nothing.
 fn run(rt: HostRuntime) -> Status {
     let mut err = WriteSink::new(rt.stderr());
     let words = match words(rt) {
@@ -30,8 +30,9 @@ fn run(rt: HostRuntime) -> Status {
     }
 }
 
-/// Enters the directory of `-C`, and takes the path of the working directory and standard input for the
-/// question. Where that fails, it was reported. Its buffers leave the stack before anything is asked.
+/// Enters the directory of `-C`, and reads standard input and the path of the working directory, if
+/// the question needs them. Reports a failure. Its buffers leave the stack before anything is
+/// asked.
 #[inline(never)]
 fn take(rt: HostRuntime, read: &Result<Question, Refusal>) -> Result<(String, Vec<u8>), Status> {
     let mut err = WriteSink::new(rt.stderr());
@@ -55,14 +56,14 @@ fn take(rt: HostRuntime, read: &Result<Question, Refusal>) -> Result<(String, Ve
             Err(e) if e.kind() == ErrorKind::OutOfMemory => {
                 return Err(report_out_of_memory(&mut err));
             }
-            // It is not known, and no absolute path is below it.
+            // The path is unknown, so no absolute path is below it.
             Err(_) => {}
         }
     }
     Ok((folder, input))
 }
 
-/// The program's arguments, without its name. It fails if one of them is not UTF-8.
+/// The program's arguments, without its name. Fails if any of them is not UTF-8.
 #[inline(never)]
 fn words(rt: HostRuntime) -> io::Result<Vec<String>> {
     Ok(env::args(&rt)?.skip(1).collect(rt.alloc())?)

@@ -23,16 +23,17 @@ use Rattle.nj_ask.specs.Reports.{ChangeModel, IsReport, no_path_line}
 use Rattle.nj_ask.proofs.EndingLemmas.{gives-refused}
 use Rattle.nj_ask.proofs.FailureLemmas.{fails-as}
 
-module _ (known : DiscoveredGraph) (entries : List ReadStatement) (options : AffectedModel)
+module _ (known : DiscoveredGraph) (entries : List ReadStatement) (folder : List ℕ) (options : AffectedModel)
     (input : List ℕ) where
   -- a name that no rule has is refused
   pub gives-no-rule : (name : List ℕ) (failure : Failure) → unknown_rule known.graph options.rules ≡ Some name
       → FailsBy Fault (λ line. line ≡ program_line (codes "unknown rule '" ++ name ++ codes "'")) failure
-      → Gives (AnswersAffected known entries options input) (Err failure)
+      → Gives (AnswersAffected known entries folder options input) (Err failure)
   gives-no-rule name failure unknown fails =
-      gives-refused (AnswersAffected known entries options input) Fault
+      gives-refused (AnswersAffected known entries folder options input) Fault
       (λ line. line ≡ program_line (codes "unknown rule '" ++ name ++ codes "'"))
-      (λ line is. subst (λ l. AnswersAffected known entries options input [] (refused l Fault)) (sym is)
+      (λ line is. subst (λ l. AnswersAffected known entries folder options input [] (refused l Fault))
+      (sym is)
       (no_rule unknown)) failure fails
 
   module _ (answer : Answer) (all : unknown_rule known.graph options.rules ≡ None)
@@ -40,15 +41,15 @@ module _ (known : DiscoveredGraph) (entries : List ReadStatement) (options : Aff
     pub gives-no-path : given_paths options input ≡ [] → options.allow_empty ≡ false
         → answer.output.items ≡ []
         → answer.warnings.items ≡ no_path_line
-        → Gives (AnswersAffected known entries options input) (Ok answer)
+        → Gives (AnswersAffected known entries folder options input) (Ok answer)
     gives-no-path none asks output warnings = rw (output, warnings, quiet) (no_path all none asks)
 
     pub gives-report : (q : ChangeModel) (asked : Asked) (paths : List (List ℕ))
         → (given_paths options input ≢ []) ⊎ (options.allow_empty ≡ true)
         → LeavesPaths options (given_paths options input) paths
-        → q ≡ change_asked options paths → asked ≡ outputs_asked options
+        → q ≡ change_asked options folder paths → asked ≡ outputs_asked options
         → IsReport known entries q asked answer.output.items answer.warnings.items
-        → Gives (AnswersAffected known entries options input) (Ok answer)
+        → Gives (AnswersAffected known entries folder options input) (Ok answer)
     gives-report q asked paths some leaves change listed report = rw quiet (reported all some leaves
         (subst (λ x. IsReport known entries x (outputs_asked options) answer.output.items
         answer.warnings.items)
@@ -57,16 +58,16 @@ module _ (known : DiscoveredGraph) (entries : List ReadStatement) (options : Aff
 
 -- ---- options that are refused
 
--- the line about a pattern is the one of the options
-pattern-misuse : (options : AffectedModel) → folder_misuse options.source_dir ≡ None → (fault : PatternFault)
+-- the line about a pattern is the line about the options
+pattern-misuse : (options : AffectedModel) → folder_misuse options.source_dirs ≡ None → (fault : PatternFault)
     → IsPatternFault options.ignored fault → (line : List ℕ) → SaysPattern fault line
     → MisusesAffected options line
 pattern-misuse options folder (pattern.Wrong text fault) wrong line says =
     subst (MisusesAffected options) (sym says) (no_glob folder wrong)
 pattern-misuse options folder pattern.OutOfMemory wrong line says = absurd says
 
--- options with it are refused
-pub fails-by-pattern : (options : AffectedModel) → folder_misuse options.source_dir ≡ None
+-- options with the pattern are refused
+pub fails-by-pattern : (options : AffectedModel) → folder_misuse options.source_dirs ≡ None
     → (fault : PatternFault)
     → IsPatternFault options.ignored fault → (failure : Failure) → FailsBy Usage (SaysPattern fault) failure
     → FailsBy Usage (MisusesAffected options) failure
@@ -75,10 +76,10 @@ fails-by-pattern options folder fault wrong failure fails =
     (pattern-misuse options folder fault wrong)
     fails
 
--- and so are those with a directory without a name
+-- options with a directory without a name are refused
 pub fails-by-folder : (options : AffectedModel) (failure : Failure)
-    → FailsBy Usage (λ line. folder_misuse options.source_dir ≡ Some line) failure
+    → FailsBy Usage (λ line. folder_misuse options.source_dirs ≡ Some line) failure
     → FailsBy Usage (MisusesAffected options) failure
 fails-by-folder options failure fails =
-    fails-as Usage (λ line. folder_misuse options.source_dir ≡ Some line) (MisusesAffected options) failure
+    fails-as Usage (λ line. folder_misuse options.source_dirs ≡ Some line) (MisusesAffected options) failure
     (λ line is. no_folder is) fails

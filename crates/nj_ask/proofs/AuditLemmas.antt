@@ -28,7 +28,7 @@ use Rattle.nj_ask.proofs.InputLemmas.{not-none}
 
 -- ---- the options
 
--- words that name kinds are taken
+-- words that name kinds are accepted
 pub kinds-allowed : (options : AuditModel) → first_unknown (selection_in options) ≡ None
     → audit_misuse options ≡ None
 kinds-allowed options known = by options.list
@@ -50,7 +50,7 @@ kinds-refused options line unlisted says = by options.list unlisted
 
 -- ---- findings
 
--- whether there are none, by others that stand for them
+-- whether a list is empty, by the list that stands for it
 pub same-empty : {X Y : Type 0} (f : X → Y) (xs : List X) (ys : List Y) → map f xs ≡ ys
     → (length xs == 0) ≡ is_empty ys
 same-empty f [] ys is = ap is_empty is
@@ -128,7 +128,7 @@ only_sources = record {
   undeclared_input = false;
 }
 
--- the findings of an audit for these
+-- the findings of an audit for missing sources alone
 pub would-be-missing : (g : GraphModel) (entries : List ReadStatement) (unknown : List Bool)
     (found : List FindingModel) → IsAudit g entries unknown [] [] only_sources found
     → WouldBeMissing g unknown found
@@ -142,7 +142,7 @@ would-be-missing g entries unknown found is = record {
       ∙ append-nil (missing_sources g unknown is.serving);
 }
 
--- where each can be, none would be missing
+-- where each source can be looked up, none would be missing
 pub none-missing : (g : GraphModel) (unknown : List Bool) → HasServing g
     → list_any (λ flag. flag) unknown ≡ false
     → WouldBeMissing g unknown []

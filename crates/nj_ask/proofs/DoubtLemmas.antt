@@ -36,7 +36,7 @@ texts-of-more f n =
     ∙ ap (λ texts. texts ++ flat_map f (n ∷ [])) (flat_map-map f one (range_with_len 0 n))
     ∙ ap (λ text. flat_map f (range_with_len 0 n) ++ text) (append-nil (f n))
 
--- where an output has a time, or there is none, nothing is said
+-- where an output has a time, or no output is there, nothing is said
 pub nothing-said : (entries : List ReadStatement) (edge : ℕ) (reason : unknown.Unknown) → reason ≢ why.NoTime
     → doubt_line entries edge (Unknown reason) ≡ []
 nothing-said entries edge why.NoTime other = absurd (other refl)
@@ -106,7 +106,7 @@ module _ (g : GraphModel) (found : DiscoveriesModel) where
   abbrev pub discovery_in : GraphEdge → EdgeDiscovery
   discovery_in edge = edge_discovery (paths_of edge) (found_at found edge.number)
 
-  -- those of all edges
+  -- the discoveries of all edges
   pub all-discoveries : (edges : List GraphEdge) → edges ≡ edges_in g (range_with_len 0 (length (edges_of g)))
       → map discovery_in edges ≡ edge_discoveries (edges_of g) found
   all-discoveries edges is = ap (map discovery_in) is

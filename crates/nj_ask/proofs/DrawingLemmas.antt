@@ -33,7 +33,7 @@ module _ (known : DiscoveredGraph) (options : DrawModel) (files : GraphFiles)
       text_is = written ∙ ap (λ g. text_with g edges) same;
     }
 
-    -- with those that a change of them touches
+    -- with the edges that a change of them touches
     pub touched-drawing : (numbers : List ℕ)
         → ((edge : ℕ) → Contains numbers edge ↔ IsTouched known files.paths edge)
         → IsStrictlyIncreasing numbers → options.affected ≡ true → (text : List ℕ)

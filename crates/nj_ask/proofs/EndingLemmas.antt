@@ -16,7 +16,7 @@ use Rattle.nj_ask.specs.Inside.Failures.{Delivers, WritesAnswer}
 
 -- ---- refusals
 
--- a line that is described in one way is so in a weaker one
+-- a line that is described in one way is also described in a weaker way
 pub fails-weaker : (given : Status) (Says Also : List ℕ → Type 0) → ((line : List ℕ) → Says line → Also line)
     → (failure : Failure) → FailsBy given Says failure → FailsBy given Also failure
 fails-weaker given Says Also weaker (Refused line status) fails = (weaker line.items fails.0, fails.1)
@@ -55,7 +55,7 @@ module _ (Is : (output : List ℕ) → Ending → Type 0) where
       (answer.output.items, answered answer.looks answer.warnings.items, is, wrote)
   returns-written answer old new (Err OutOfMemory) is wrote = absurd wrote
 
-  -- where none is given, nothing is written
+  -- without an answer, nothing is written
   pub returns-unwritten : (old : SinkState) (failure : Failure) → Gives Is (Err failure)
       → Returns Is old old (Err failure)
   returns-unwritten old (Refused line status) is = ([], is, Takes-nil old)

@@ -59,7 +59,7 @@ find-same p q [] same = refl
 find-same p q (x ∷ xs) same =
     ap (λ b. cond b (Some x) (find p xs)) (same x) ∙ ap (cond (q x) (Some x)) (find-same p q xs same)
 
--- flags of edges tell of every number whether it is one of them
+-- flags of edges show of every number whether it is among them
 module _ (count : ℕ) (edges : List EdgeNo) (flags : List Bool)
     (below : All (λ (e : EdgeNo). e.0 < count) edges)
     (are : AreFlags count (map (λ (e : EdgeNo). e.0) edges) flags) where

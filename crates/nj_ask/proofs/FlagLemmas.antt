@@ -35,7 +35,7 @@ pub any-map : {X Y : Type 0} (p : Y → Bool) (f : X → Y) (xs : List X)
 any-map p f [] = refl
 any-map p f (x ∷ xs) = ap (λ b. p (f x) || b) (any-map p f xs)
 
--- a number that is there is one of them
+-- a number in a list is one of its numbers
 pub is-there : (numbers : List ℕ) (n : ℕ) → Contains numbers n → is_one_of numbers n ≡ true
 is-there numbers n has = list_any-from_Any (λ other. n == other) numbers
     (has.0, n, has.1, has.2, eq-eqb n n refl)
@@ -64,13 +64,25 @@ among-filter p (m ∷ ms) n = by (p m) refl (eqb_tells n m) (among-filter p ms n
         ∙ sym (ap (λ b. (n == m || is_one_of ms n) && b) none ∙ and-none (n == m || is_one_of ms n))
     by false fails (inr other) rest = rest ∙ sym (ap (λ b. (b || is_one_of ms n) && p n) other.0)
 
--- a number that is one of them is there
+and-both : (a b : Bool) → (a && b) ≡ true → (a ≡ true) × (b ≡ true)
+and-both true b is = (refl, is)
+and-both false b is = absurd cc
+
+-- one of the numbers of a list is in it
 pub one-there : (numbers : List ℕ) (n : ℕ) → is_one_of numbers n ≡ true → Contains numbers n
 one-there numbers n is = Contains-from_any eqb-true n numbers is
 
--- a number that is there and passes a test is among those that pass it
+-- a number in a list that passes a test is among the passing numbers
 pub passes-there : (p : ℕ → Bool) (numbers : List ℕ) (n : ℕ) → Contains numbers n → p n ≡ true
     → Contains (filter p numbers) n
 passes-there p numbers n has passes =
     one-there (filter p numbers) n (among-filter p numbers n ∙ ap (λ b. b && p n) (is-there numbers n has)
     ∙ passes)
+
+-- a number among the passing numbers is in the list and passes the test
+pub there-passes : (p : ℕ → Bool) (numbers : List ℕ) (n : ℕ) → Contains (filter p numbers) n
+    → Contains numbers n × (p n ≡ true)
+there-passes p numbers n has =
+    let both = and-both (is_one_of numbers n) (p n)
+    (sym (among-filter p numbers n) ∙ is-there (filter p numbers) n has) in
+    (one-there numbers n both.0, both.1)

@@ -1,4 +1,4 @@
--- Graphs that are read are graphs of statements, and those that questions are about.
+-- Graphs that are read are graphs of statements, and are the graphs that questions are about.
 use Rattle.std.proofs.Common.{◌≡◌, ◌<◌, ◌+◌, ℕ, zero, suc, Bool, true, false, nat_lt, Option, Some, Result}
 use Rattle.std.proofs.Common.{Ok, Err, IfErr, IfOk, List, [], ◌∷◌, ◌++◌, length, map}
 use Rattle.std.proofs.Common.{refl, sym, ap, subst, ◌∙◌, arith}
@@ -87,7 +87,7 @@ main-lacks asked times main before after failure is fails =
     }) fails
 
 module _ (asked : AskedGraph) (times : DeclaredTimes) (before between after : SourceState) where
-  -- dyndep files are joined to one that has
+  -- dyndep files are joined to a main file that has a graph
   pub joins-all : (loaded : LoadedModel) (result : Result LoadedModel GraphFault) → asked.dyndep ≡ true
       → Loads asked.file before between (Ok loaded)
       → ((stated : List ReadStatement) → IsGraphOf loaded.graph stated
@@ -164,7 +164,7 @@ module _ (asked : AskedGraph) (times : DeclaredTimes) (old new built after : Sou
         subst (LacksGraph asked times (sources_of old built) (sources_of new after))
         (sym lacking.line_is) (by_discovered asks reads of-loaded log_reads lacking.joins)
 
-    -- why there is none
+    -- why there is no graph
     pub lacks-by-log : (result : Result DiscoveredGraph Failure)
         → ((stated : List ReadStatement) → IsGraphOf graph stated
         → IfErr result (FailsBy Fault (LacksByLog named built after times stated)))
@@ -226,7 +226,7 @@ module _ (g h : GraphModel) (follows : Follows g h) where
       in
       rw (edge_there, file_there) (ap (λ p. Some (record { edge = input.edge.0; path = p })) path)
 
-  -- inputs of a graph keep their edges and paths in one that follows it
+  -- inputs of a graph keep their edges and paths in a graph that follows it
   pub inputs-kept : (inputs : List UndeclaredInput) → AreInputsIn g inputs
       → inputs_in h inputs ≡ map (input_of_edge (files_of g)) inputs
   inputs-kept [] are = refl

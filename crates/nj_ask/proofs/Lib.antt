@@ -1,5 +1,6 @@
 mod AskingLemmas
 mod AuditLemmas
+mod BuildLogLemmas
 mod AuditLaws
 mod LineLemmas
 mod ChainLemmas
@@ -13,6 +14,7 @@ mod FlagLemmas
 mod NeedLemmas
 mod ManifestLemmas
 mod MadeLemmas
+mod MeantLemmas
 mod ReportLaws
 mod FailureLemmas
 mod FindingLemmas
@@ -30,3 +32,5 @@ mod DrawnLaws
 mod NeededLaws
 mod DrawRows
 mod MentionLemmas
+mod StaleLemmas
+mod TestLemmas

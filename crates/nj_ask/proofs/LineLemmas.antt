@@ -1,14 +1,16 @@
 -- Lists that a loop makes longer, item by item.
-use Rattle.std.proofs.Common.{◌≡◌, ◌<◌, ◌+◌, ℕ, zero, suc, Option, Some, None, List, [], ◌∷◌, ◌++◌, map}
-use Rattle.std.proofs.Common.{length, take, slice_get, option_map, get_or, unwrap_or, refl, sym, ap, ◌∙◌}
+use Rattle.std.proofs.Common.{◌≡◌, ◌<◌, ◌+◌, ℕ, zero, suc, Bool, true, false, cond, Option, Some, None, List}
+use Rattle.std.proofs.Common.{[]}
+use Rattle.std.proofs.Common.{◌∷◌, ◌++◌, map}
+use Rattle.std.proofs.Common.{length, take, slice_get, option_map, get_or, unwrap_or, refl, sym, ap, subst}
+use Rattle.std.proofs.Common.{◌∙◌}
 use Rattle.std.proofs.Common.{append-nil, arith}
-use Rattle.std.specs.List.{cons_option, filter_map, flat_map, range_with_len}
+use Rattle.std.specs.List.{All, cons_option, filter, filter_map, flat_map, range_with_len}
 use Rattle.std.proofs.lemmas.List.{flat_map_more, map_push, take_more}
-use Rattle.std.proofs.lemmas.List.Elements.{filter_map-append}
+use Rattle.std.proofs.lemmas.List.Elements.{All-push, filter-append, filter_map-append}
 use Rattle.std.proofs.lemmas.List.FromFn.{map-range_with_len_more}
 use Rattle.nj_graph.specs.declared.FileNo.{FileNo}
 use Rattle.nj_graph.specs.EdgeList.{Pending}
-use Rattle.nj_ask.specs.Affected.{changed_file}
 
 -- the values found of one more item
 pub filter-more : {X Y : Type 0} (h : X → Option Y) (items : List X) (i : ℕ) (d : X) → i < length items
@@ -76,6 +78,28 @@ module _ (h : ℕ → Option ℕ) (n : ℕ) (found : List FileNo)
       held ∙ sym (found-number h n ∙ ap (λ o. filter_map h (range_with_len 0 n) ++ cons_option o []) is
       ∙ append-nil (filter_map h (range_with_len 0 n)))
 
+-- the numbers that pass a test, with one more, if it passes
+module _ (p : ℕ → Bool) (n : ℕ) (found new : List FileNo) (file : FileNo) where
+  passing : filter p (range_with_len 0 (n + 1)) ≡ filter p (range_with_len 0 n) ++ cond (p n) (n ∷ []) []
+  passing = ap (filter p) (numbers-more n) ∙ filter-append p (range_with_len 0 n) (n ∷ [])
+
+  pub number-pushed : (b : Bool) → file.0 ≡ n → b ≡ p n → new ≡ found ++ cond b (file ∷ []) []
+      → map (λ (f : FileNo). f.0) found ≡ filter p (range_with_len 0 n)
+      → map (λ (f : FileNo). f.0) new ≡ filter p (range_with_len 0 (n + 1))
+  number-pushed true same is more held =
+      ap (map (λ (f : FileNo). f.0)) more ∙ map_push (λ (f : FileNo). f.0) found file
+      ∙ ap (λ ns. ns ++ file.0 ∷ []) held ∙ ap (λ m. filter p (range_with_len 0 n) ++ m ∷ []) same
+      ∙ sym (passing ∙ ap (λ b. filter p (range_with_len 0 n) ++ cond b (n ∷ []) []) (sym is))
+  number-pushed false same is more held =
+      ap (map (λ (f : FileNo). f.0)) (more ∙ append-nil found) ∙ held
+      ∙ sym (passing ∙ ap (λ b. filter p (range_with_len 0 n) ++ cond b (n ∷ []) []) (sym is)
+      ∙ append-nil (filter p (range_with_len 0 n)))
+
+pub known-pushed : (P : FileNo → Type 0) (found new : List FileNo) (file : FileNo) (b : Bool)
+    → new ≡ found ++ cond b (file ∷ []) [] → All P found → P file → All P new
+known-pushed P found new file true more all one = subst (All P) (sym more) (All-push P found file all one)
+known-pushed P found new file false more all one = subst (All P) (sym (more ∙ append-nil found)) all
+
 -- the pending edge of a number
 pub edge-at : (o : Option Pending) (n : ℕ) → option_map (λ p. p.edge) o ≡ Some n
     → (p : Pending) × (o ≡ Some p) × (p.edge ≡ n)
@@ -85,7 +109,7 @@ edge-at (Some p) n h = (p, refl, same p.edge h)
     same : (m : ℕ) → Some m ≡ Some n → m ≡ n
     same m e = cc
 
--- the same, by those of some things
+-- the same, by the numbers of some things
 module _ {X : Type 0} (h : X → Option ℕ) (things : List X) (i : ℕ) (x : X) (at : slice_get things i ≡ Some x)
     (found : List FileNo)
     (held : map (λ (f : FileNo). f.0) found ≡ filter_map h (take i things)) where
@@ -115,35 +139,6 @@ module _ {X : Type 0} (h : X → Option ℕ) (things : List X) (i : ℕ) (x : X)
       held
       ∙ sym (found-next ∙ ap (λ o. filter_map h (take i things) ++ cons_option o []) is
       ∙ append-nil (filter_map h (take i things)))
-
--- ---- files at paths
-
--- one more of some things with paths
-module _ {X : Type 0} (files : List (List ℕ)) (folder : Option (List ℕ)) (bytes : X → List ℕ) (paths : List X)
-    (i : ℕ) (d : X) (below : i < length paths) where
-  abbrev number : X → Option ℕ
-  number path = changed_file files folder (bytes path)
-
-  abbrev next : X
-  next = get_or paths i d
-
-  pub files-more : (found new : List FileNo) (file : FileNo) → number next ≡ Some file.0
-      → new ≡ found ++ file ∷ []
-      → map (λ (f : FileNo). f.0) found ≡ filter_map number (take i paths)
-      → map (λ (f : FileNo). f.0) new ≡ filter_map number (take (i + 1) paths)
-  files-more found new file is more held =
-      ap (map (λ (f : FileNo). f.0)) more ∙ map_push (λ (f : FileNo). f.0) found file
-      ∙ ap (λ ns. ns ++ file.0 ∷ []) held
-      ∙ sym (filter-more number paths i d below
-      ∙ ap (λ o. filter_map number (take i paths) ++ cons_option o []) is)
-
-  pub files-same : (found : List FileNo) → number next ≡ None
-      → map (λ (f : FileNo). f.0) found ≡ filter_map number (take i paths)
-      → map (λ (f : FileNo). f.0) found ≡ filter_map number (take (i + 1) paths)
-  files-same found is held =
-      held ∙ sym (filter-more number paths i d below
-      ∙ ap (λ o. filter_map number (take i paths) ++ cons_option o []) is
-      ∙ append-nil (filter_map number (take i paths)))
 
 -- ---- the paths of files
 

@@ -1,4 +1,4 @@
--- From which files the manifest is made.
+-- Which files the manifest is made from.
 use Rattle.std.proofs.Common.{◌≡◌, ◌<◌, ℕ, ◌||◌, ◌⊎◌, inl, inr, Bool, true, false, List, [], ◌∷◌, ◌++◌, map}
 use Rattle.std.proofs.Common.{length, refl, sym, ap, ◌∙◌, arith}
 use Rattle.std.specs.Prelude.{◌↔◌, Contains, slice_index_or}
@@ -15,8 +15,9 @@ use Rattle.nj_graph.specs.Distances.{IsNeeded}
 use Rattle.nj_graph.specs.Edges.{EdgePaths, edge_at, inputs_of, is_among, users_of}
 use Rattle.nj_graph.specs.Graph.{GraphModel, edges_of, files_of}
 use Rattle.nj_ask.specs.declared.manifest.Manifest.{Manifest}
-use Rattle.nj_ask.specs.Manifest.{is_one_of, makes_manifest, opened_files, path_of, IsMadeFrom}
-use Rattle.nj_ask.specs.Manifest.IsMadeFrom.{by_itself, by_maker}
+use Rattle.nj_ask.specs.Manifest.{is_one_of, makes_manifest, FeedsManifest}
+use Rattle.nj_ask.specs.Manifest.FeedsManifest.{by_itself, by_maker}
+use Rattle.nj_ask.specs.SameFiles.{path_of}
 use Rattle.nj_ask.specs.Inside.Flags.{AreFeeds, AreFlags}
 use Rattle.nj_ask.specs.Inside.Reached.{CanTell, IsReached}
 use Rattle.nj_ask.proofs.FlagLemmas.{is-there, one-there, passes-there}
@@ -54,7 +55,8 @@ input-below edges files e is = elim (cases_lt e (length edges)) [
       (ap (has_input_of files) (get_or_past edges e no-edge past) ∙ has-none files) is)
 ]
 
-contains-mapped : {X : Type 0} (f : ℕ → X) (ns : List ℕ) (n : ℕ) → Contains ns n → Contains (map f ns) (f n)
+pub contains-mapped : {X : Type 0} (f : ℕ → X) (ns : List ℕ) (n : ℕ) → Contains ns n
+    → Contains (map f ns) (f n)
 contains-mapped f ns n has =
     let count = length-map ns f in
     let below = has.1 in
@@ -87,18 +89,19 @@ feeds-flags edges makers needed flags found held e below = (ahead, back)
 
 -- ---- one changed file
 
-module _ (g : GraphModel) (entries : List ReadStatement) (m : Manifest) where
+module _ (g : GraphModel) (opened : List ℕ) (entries : List ReadStatement) (m : Manifest) where
   abbrev flag : ℕ → Bool
   flag edge = slice_index_or m.feeds.items edge false
 
   -- some edge that makes the manifest is this edge or needs it
   abbrev FeedsIt : ℕ → Type 0
-  FeedsIt edge = (maker : ℕ) × (makes_manifest g entries maker ≡ true) × IsOrNeeds (edges_of g) maker edge
+  FeedsIt edge = (maker : ℕ) × (makes_manifest g opened entries maker ≡ true)
+      × IsOrNeeds (edges_of g) maker edge
 
-  -- the record of the edges that all changed files affect tells it of each of them
-  pub can-tell : (edges changed : List ℕ) → IsReached g entries edges m
+  -- the record of the edges that all changed files affect shows it for each of them
+  pub can-tell : (edges changed : List ℕ) → IsReached g opened entries edges m
       → ((edge : ℕ) → Contains edges edge ↔ IsAffected (edges_of g) (map (path_of g) changed) edge)
-      → (file : ℕ) → file < length (files_of g) → Contains changed file → CanTell g entries file m
+      → (file : ℕ) → file < length (files_of g) → Contains changed file → CanTell g opened entries file m
   can-tell edges changed r affected file below has = record {
     opened = r.opened.are file below;
     feeds = λ e input.
@@ -107,13 +110,13 @@ module _ (g : GraphModel) (entries : List ReadStatement) (m : Manifest) where
   }
     where
       makers : List ℕ
-      makers = filter (makes_manifest g entries) edges
+      makers = filter (makes_manifest g opened entries) edges
 
       makes : (e : ℕ) → (maker : ℕ) × Contains makers maker × IsOrNeeds (edges_of g) maker e → FeedsIt e
       makes e (maker, there, needs) = (
         maker,
-        All-contains (λ n. makes_manifest g entries n ≡ true) makers maker
-            (filter_passes (makes_manifest g entries) edges) there,
+        All-contains (λ n. makes_manifest g opened entries n ≡ true) makers maker
+            (filter_passes (makes_manifest g opened entries) edges) there,
         needs,
       )
 
@@ -122,14 +125,17 @@ module _ (g : GraphModel) (entries : List ReadStatement) (m : Manifest) where
       among e input (maker, makes, needs) =
           let alone = needs-affected (edges_of g) (path_of g file ∷ []) maker e needs input in
           let all = affects-more (edges_of g) (path_of g file) (map (path_of g) changed)
-          (contains-mapped (path_of g) changed file has) maker alone in
-          (maker, passes-there (makes_manifest g entries) edges maker ((affected maker).1 all) makes, needs)
+          (contains-mapped (path_of g) changed file has) maker alone in (
+            maker,
+            passes-there (makes_manifest g opened entries) edges maker ((affected maker).1 all) makes,
+            needs,
+          )
 
-  module _ (file : ℕ) (tells : CanTell g entries file m) where
+  module _ (file : ℕ) (tells : CanTell g opened entries file m) where
     abbrev users : List ℕ
     users = users_of (edges_of g) (path_of g file)
 
-    fed : list_any flag users ≡ true → IsMadeFrom g entries file
+    fed : list_any flag users ≡ true → FeedsManifest g opened entries file
     fed is =
         let any = Any-from_list_any flag users is in
         let input = user-input (edges_of g) (path_of g file) any.1 (any.0, any.2, any.3) in
@@ -137,15 +143,15 @@ module _ (g : GraphModel) (entries : List ReadStatement) (m : Manifest) where
         by_maker it.1 it.2 input
 
     pub tells-opened : (b : Bool) → b ≡ slice_index_or m.opened.items file false → b ≡ true
-        → (b ≡ true) ↔ IsMadeFrom g entries file
+        → (b ≡ true) ↔ FeedsManifest g opened entries file
     tells-opened b is holds = (λ _. by_itself (sym tells.opened ∙ sym is ∙ holds), λ _. holds)
 
     pub tells-unopened : slice_index_or m.opened.items file false ≡ false → (b : Bool)
-        → b ≡ list_any flag users → (b ≡ true) ↔ IsMadeFrom g entries file
+        → b ≡ list_any flag users → (b ≡ true) ↔ FeedsManifest g opened entries file
     tells-unopened not b is = (λ holds. fed (sym is ∙ holds), back)
       where
-        back : IsMadeFrom g entries file → b ≡ true
-        back (by_itself itself) = absurd (both_ways (is_one_of (opened_files g) file) (sym tells.opened ∙ not)
+        back : FeedsManifest g opened entries file → b ≡ true
+        back (by_itself itself) = absurd (both_ways (is_one_of opened file) (sym tells.opened ∙ not)
             itself)
         back (by_maker {maker = maker} {edge = e} makes needs input) =
             let has = input-user (edges_of g) (path_of g file) e input in

@@ -10,7 +10,7 @@ use Rattle.nj_questions.specs.Questions.{DrawModel}
 use Rattle.nj_ask.specs.DrawnNodes.{Node, has_node, mention, mention_edge, mentioned_by, up_to}
 use Rattle.nj_ask.specs.Inside.NodeLists.{is_full}
 
--- some nodes come behind these
+-- more nodes come after the given ones
 abbrev Extends : (old new : List Node) → Type 0
 Extends old new = (more : List Node) × (new ≡ old ++ more)
 
@@ -44,7 +44,7 @@ extends-edge options nodes edge = by _
     by true = extends-fold mention extends-mention (mentioned_by options edge) nodes
     by false = extends-none nodes
 
--- then edges change none of those that are drawn
+-- then edges do not change the drawn nodes
 full-stays : (options : DrawModel) (edges : List GraphEdge) (nodes : List Node) (limit : Option ℕ)
     → is_full limit nodes ≡ true → up_to limit (fold (mention_edge options) nodes edges) ≡ up_to limit nodes
 full-stays options edges nodes None full = absurd cc

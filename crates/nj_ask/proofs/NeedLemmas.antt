@@ -118,7 +118,7 @@ module _ (edges : List EdgePaths) where
   first-step e f (one step) = (f, step, inl refl)
   first-step e f (more {g = g} step chain) = (g, step, inr chain)
 
-  -- one of these edges is it or needs it
+  -- one of the edges is it or needs it
   abbrev IsOfAny : (makers : List ℕ) → (edge : ℕ) → Type 0
   IsOfAny makers f = (e : ℕ) × Contains makers e × IsOrNeeds edges e f
 
@@ -152,7 +152,7 @@ contains-after : (x : ℕ) (xs : List ℕ) (y : ℕ) → Contains xs y → Conta
 contains-after x xs y has = (suc has.0, omega (arith, has.1), has.2)
 
 module _ {E : Type 0} (test : E → Bool) (d : E) (none : test d ≡ false) where
-  -- the edge of this number, counted from `k`, passes the test
+  -- the edge with the given number, counted from `k`, passes the test
   abbrev Passes : List E → (k e : ℕ) → Type 0
   Passes es k e = (i : ℕ) × (k + i ≡ e) × (test (get_or es i d) ≡ true)
 

@@ -148,21 +148,21 @@ module _ (g : GraphModel) (options : DrawModel) (files : List (List ℕ)) where
   abbrev inputs_at : (edge : ℕ) → List (List ℕ)
   inputs_at edge = inputs_of (edge_at (edges_of g) edge)
 
-  -- what is there once these edges had their turn
+  -- the nodes once the given edges had their turn
   record AreThere (done : List ℕ) (nodes : List Node) : Type 0 where
     given : (path : List ℕ) → In files path → has_node nodes (node_at path) ≡ true
     edges : (edge : ℕ) → In done edge → has_node nodes (of_edge (edge_in g edge)) ≡ true
     inputs : (edge : ℕ) → In done edge → (path : List ℕ) → In (inputs_at edge) path
         → has_node nodes (node_at path) ≡ true
 
-  -- an edge makes one of the files, or an input of one of these edges
+  -- an edge makes one of the files, or an input of one of the given edges
   abbrev IsNext : (done : List ℕ) → (edge : ℕ) → Type 0
   IsNext done edge =
       ((path : List ℕ) × In files path × (maker_of (edges_of g) path ≡ Some edge))
       ⊎ ((user : ℕ) × In done user × (path : List ℕ) × In (inputs_at user) path
       × (maker_of (edges_of g) path ≡ Some edge))
 
-  -- so an output of it is there
+  -- so the node of one of its outputs is in the list
   made-there : (done : List ℕ) (nodes : List Node) (edge : ℕ) → AreThere done nodes → IsNext done edge
       → (path : List ℕ) × (has_node nodes (node_at path) ≡ true) × (maker_of (edges_of g) path ≡ Some edge)
   made-there done nodes edge there (inl next) = (next.0, there.given next.0 next.1, next.2)

@@ -26,7 +26,7 @@ fails-weaker status P Q such (Refused line given) fails = (such line.items fails
 fails-weaker status P Q such Write fails = fails
 fails-weaker status P Q such OutOfMemory fails = fails
 
--- the fault that there is in place of a value
+-- the fault in place of a value
 pub says-err : {A : Type 0} (expected : Result A GraphFault) (fault : GraphFault)
     → (fault ≡ no_memory) ⊎ (expected ≡ Err fault)
     → (failure : Failure) → FailsBy Fault (SaysFault fault) failure → FailsBy Fault (SaysErr expected) failure
@@ -50,7 +50,7 @@ gives-refused Is status Says such OutOfMemory fails = fails
 
 -- ---- marks
 
--- a text that is not read as a mark is none
+-- a text that is not read as a mark is not a mark
 pub bad-mark : (text : List ℕ) (meant : Option (List ℕ)) (fault : MarkFault) → IsReadFault meant fault
     → (failure : Failure)
     → FailsBy Usage (λ line. (fault ≢ mark.OutOfMemory)

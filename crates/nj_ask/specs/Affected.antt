@@ -1,9 +1,8 @@
--- Which changed paths name files, and which outputs are listed.
-use Rattle.std.specs.Prelude.{◌≡◌, ◌↔◌, ℕ, Bool, ◌&&◌, ◌||◌, not, if◌then◌else◌, Option, Some, None, List, [], ◌∷◌, ◌++◌, map, length, ◌==◌, Contains}
-use Rattle.std.specs.Prelude.{nat_eq, bytes_eq, find, option_and_then, position}
+-- Which outputs are listed.
+use Rattle.std.specs.Prelude.{◌≡◌, ◌↔◌, ℕ, Bool, ◌&&◌, ◌||◌, not, if◌then◌else◌, Option, List, [], ◌∷◌, ◌++◌, map, length, ◌==◌, Contains}
+use Rattle.std.specs.Prelude.{nat_eq, find}
 use Rattle.std.specs.List.{flat_map, starts_with}
 use Rattle.std.specs.List.Sorted.{IsStrictlyIncreasing}
-use Rattle.nj_graph.specs.Paths.{clean_path_of}
 use Rattle.nj_graph.specs.Edges.{edge_at, is_among, outputs_of}
 use Rattle.nj_graph.specs.Built.{detail_at}
 use Rattle.nj_graph.specs.Graph.{GraphModel, edges_of, rule_name}
@@ -12,46 +11,26 @@ use Rattle.nj_graph.specs.Graph.{GraphModel, edges_of, rule_name}
 abbrev pub line : List ℕ → List ℕ
 line path = path ++ 10 ∷ []
 
--- ---- changed paths
-
--- a path in a directory, if one is given
-abbrev pub path_in : (folder : Option (List ℕ)) → (path : List ℕ) → List ℕ
-path_in (Some folder) path = folder ++ 47 ∷ path
-path_in None path = path
-
--- a path, cleaned; the empty one names no file
-abbrev pub clean_name : (path : List ℕ) → Option (List ℕ)
-clean_name [] = None
-clean_name (byte ∷ path) = Some (clean_path_of (byte ∷ path))
-
--- the number of the file at a path
-abbrev pub number_at : (files : List (List ℕ)) → (path : List ℕ) → Option ℕ
-number_at files path = option_and_then (λ clean. position (bytes_eq clean) files) (clean_name path)
-
--- the number of the file at a changed path
-abbrev pub changed_file : (files : List (List ℕ)) → (folder : Option (List ℕ)) → (path : List ℕ) → Option ℕ
-changed_file files folder path = number_at files (path_in folder path)
-
 -- ---- the rules that are requested
 
 -- the names of the rules of all scopes, `phony` first
 abbrev pub rule_names : GraphModel → List (List ℕ)
 rule_names g = map (λ rule. rule.name) g.declarations.rules
 
--- the first of these names that no rule has
+-- the first of the given names that no rule has
 abbrev pub unknown_rule : GraphModel → (names : List (List ℕ)) → Option (List ℕ)
 unknown_rule g names = find (λ name. not (is_among (rule_names g) name)) names
 
 -- ---- the outputs that are listed
 
--- The requested outputs: those of edges with one of these rules, or with any if there are none, whose paths begin in this way; and
--- whether those of phony edges are left out.
+-- The requested outputs: the rules of their edges, any if empty; how their paths begin; and whether the outputs of phony edges are left
+-- out.
 pub record Asked : Type 0 where
   pub rules : List (List ℕ)
   pub prefix : List ℕ
   pub no_phony : Bool
 
--- a rule is one of these, or there are none
+-- a rule is among the given ones, or none are given
 abbrev pub is_of_rules : (rules : List (List ℕ)) → (rule : List ℕ) → Bool
 is_of_rules rules rule = length rules == 0 || is_among rules rule
 
@@ -61,7 +40,7 @@ is_asked_for g asked edge =
     is_of_rules asked.rules (rule_name g.declarations.rules (detail_at g.built.details edge).rule)
     && not (asked.no_phony && (edge_at (edges_of g) edge).is_phony)
 
--- a path as a line, if it begins in this way
+-- a path as a line, if it begins with the prefix
 abbrev pub line_of_output : (prefix : List ℕ) → (path : List ℕ) → List ℕ
 line_of_output prefix path = if starts_with nat_eq path prefix then line path else []
 

@@ -45,29 +45,34 @@ pub record HasDepfileFault (known : DiscoveredGraph) (files : List (List ℕ)) (
 
 -- ---- `affected`
 
--- the change of the files at these paths
-abbrev pub change_asked : AffectedModel → (paths : List (List ℕ)) → ChangeModel
-change_asked options paths =
-    record { folder = options.source_dir; paths = paths; ignores_unknown = options.ignore_unknown }
+-- the change of the files at these paths, in this working directory
+abbrev pub change_asked : AffectedModel → (working : List ℕ) → (paths : List (List ℕ)) → ChangeModel
+change_asked options working paths = record {
+  working = working;
+  folders = options.source_dirs;
+  paths = paths;
+  ignores_unknown = options.ignore_unknown;
+}
 
 -- the outputs that are listed
 abbrev pub outputs_asked : AffectedModel → Asked
 outputs_asked options = record { rules = options.rules; prefix = options.prefix; no_phony = options.no_phony }
 
 -- `affected`: a rule's name that no rule has would list nothing, as if nothing were affected, so it is refused; so it is something to
--- look at that no path is given, unless none need be. The report is about the paths that are not ignored.
-pub data AnswersAffected (known : DiscoveredGraph) (entries : List ReadStatement) (options : AffectedModel) (input : List ℕ) :
-    (output : List ℕ) → Ending → Type 0 where
+-- look at that no path is given, unless none need be. The report is about the paths that are not ignored. `folder` is the working
+-- directory.
+pub data AnswersAffected (known : DiscoveredGraph) (entries : List ReadStatement) (folder : List ℕ) (options : AffectedModel)
+    (input : List ℕ) : (output : List ℕ) → Ending → Type 0 where
   no_rule : {name : List ℕ} → unknown_rule known.graph options.rules ≡ Some name
-      → AnswersAffected known entries options input []
+      → AnswersAffected known entries folder options input []
       (refused (program_line (codes "unknown rule '" ++ name ++ codes "'")) Fault)
   no_path : unknown_rule known.graph options.rules ≡ None → given_paths options input ≡ [] → options.allow_empty ≡ false
-      → AnswersAffected known entries options input [] (answered false no_path_line)
+      → AnswersAffected known entries folder options input [] (answered false no_path_line)
   reported : {paths : List (List ℕ)} {outputs warnings : List ℕ} → unknown_rule known.graph options.rules ≡ None
       → (given_paths options input ≢ []) ⊎ (options.allow_empty ≡ true)
       → LeavesPaths options (given_paths options input) paths
-      → IsReport known entries (change_asked options paths) (outputs_asked options) outputs warnings
-      → AnswersAffected known entries options input outputs (answered false warnings)
+      → IsReport known entries (change_asked options folder paths) (outputs_asked options) outputs warnings
+      → AnswersAffected known entries folder options input outputs (answered false warnings)
 
 -- ---- `why`
 

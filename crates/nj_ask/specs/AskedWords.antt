@@ -17,7 +17,7 @@ AsksWith (Ok question) times folder input old new status = Asks (question_model 
 AsksWith (Err refused) times folder input old new status =
     (new.sources ≡ old.sources) × Refuses refused old.sinks new.sinks status
 
--- these arguments are read so; or memory runs out
+-- how the arguments are read; or memory runs out
 pub record IsRead (words : List (List ℕ)) (read : Result Question Refusal) : Type 0 where
   pub ok : IfOk read (λ question. question_of words ≡ Ok (question_model question))
   pub err : IfErr read (λ refused. (refused ≡ refusal.OutOfMemory) ⊎ (question_of words ≡ Err (refusal_model refused)))

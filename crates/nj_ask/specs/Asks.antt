@@ -1,12 +1,14 @@
 -- What a question does: what it reads, what it writes, and its status.
-use Rattle.std.specs.Prelude.{◌≡◌, ℕ, Bool, false, unwrap_or, Option, Some, None, List, [], string_bytes, codes}
+use Rattle.std.specs.Prelude.{◌≡◌, ℕ, Bool, true, false, unwrap_or, Option, Some, None, List, [], string_bytes, codes}
 use Rattle.nj_scope.specs.Sources.{SourceState}
+use Rattle.nj_build_log.specs.Logs.{BuildLogModel}
 use Rattle.nj_discovered.specs.Times.{DeclaredTimes}
+use Rattle.nj_tests.specs.Tests.{TestModel}
 use Rattle.nj_graph.specs.ReadingList.{ReadStatement}
 use Rattle.nj_graph.specs.Graph.{IsGraphOf}
 use Rattle.nj_tools.specs.Sinks.{SinkState}
 use Rattle.nj_audit.specs.declared.kinds.Kind.TheVariants.{UndeclaredInput}
-use Rattle.nj_questions.specs.Questions.{QuestionModel, SubjectModel, affected, audit, draw, json, keys, why}
+use Rattle.nj_questions.specs.Questions.{QuestionModel, SubjectModel, affected, audit, draw, json, keys, stale, tests, why}
 use Rattle.nj_questions.specs.declared.refusals.Refusal.{Refusal}
 use Rattle.nj_questions.specs.declared.refusals.Refusal.TheVariants as refusal
 use Rattle.nj_ask.specs.declared.discovered.DiscoveredGraph.{DiscoveredGraph}
@@ -14,23 +16,32 @@ use Rattle.nj_ask.specs.declared.status.Status.{Status}
 use Rattle.nj_ask.specs.declared.status.Status.TheVariants.{Fault, Usage}
 use Rattle.nj_ask.specs.Answers.{AnswersAffected, AnswersDraw, AnswersJson, AnswersKeys, AnswersWhy, asked_mark, keys_misuse}
 use Rattle.nj_ask.specs.Audits.{AnswersAudit, asks_for, audit_misuse, kinds_listed}
+use Rattle.nj_ask.specs.BuildLogs.{LacksBuildLog, ReadsBuildLog}
+use Rattle.nj_ask.specs.ChosenTests.{AnswersTests, MisusesTests, TakesTests}
 use Rattle.nj_ask.specs.Endings.{Ending, Ends, Reported, Sinks, answered, memory_line, program_line, refused}
 use Rattle.nj_ask.specs.Given.{MisusesAffected, TakesAffected}
 use Rattle.nj_ask.specs.KnownGraphs.{KnowsGraph, LacksGraph, Sources, sources_of}
+use Rattle.nj_ask.specs.Stales.{AnswersStale}
+use Rattle.nj_ask.specs.TestLists.{LacksTests, ReadsTests}
 
 -- ---- by its graph
 
--- by its subcommand
-abbrev pub Answers : DiscoveredGraph → List ReadStatement → DeclaredTimes → (folder : List ℕ) → SubjectModel → (input : List ℕ)
-    → (output : List ℕ) → Ending → Type 0
-Answers known entries times folder (affected options) input output ending = AnswersAffected known entries options input output ending
-Answers known entries times folder (audit options) input output ending =
+-- by its subcommand; `log` is the build log, and `list` has the tests that it is about
+abbrev pub Answers : DiscoveredGraph → List ReadStatement → (log : BuildLogModel) → DeclaredTimes → (folder : List ℕ) → SubjectModel
+    → (list : List TestModel) → (input : List ℕ) → (output : List ℕ) → Ending → Type 0
+Answers known entries log times folder (affected options) list input output ending =
+    AnswersAffected known entries folder options input output ending
+Answers known entries log times folder (audit options) list input output ending =
     AnswersAudit known entries times folder options output ending
-Answers known entries times folder (draw options) input output ending = AnswersDraw known entries options output ending
-Answers known entries times folder json input output ending = AnswersJson known entries output ending
-Answers known entries times folder (keys options) input output ending =
+Answers known entries log times folder (draw options) list input output ending = AnswersDraw known entries options output ending
+Answers known entries log times folder json list input output ending = AnswersJson known entries output ending
+Answers known entries log times folder (keys options) list input output ending =
     AnswersKeys known entries options (unwrap_or (asked_mark options) []) output ending
-Answers known entries times folder (why options) input output ending = AnswersWhy known entries options output ending
+Answers known entries log times folder (stale options) list input output ending =
+    AnswersStale known entries log times options output ending
+Answers known entries log times folder (tests options) list input output ending =
+    AnswersTests known entries folder options list input output ending
+Answers known entries log times folder (why options) list input output ending = AnswersWhy known entries options output ending
 
 -- its options are refused before anything is read, and a line says why
 abbrev pub Misuses : SubjectModel → (line : List ℕ) → Type 0
@@ -39,6 +50,8 @@ Misuses (audit options) line = audit_misuse options ≡ Some line
 Misuses (draw options) line = ⊥
 Misuses json line = ⊥
 Misuses (keys options) line = keys_misuse options ≡ Some line
+Misuses (stale options) line = ⊥
+Misuses (tests options) line = MisusesTests options line
 Misuses (why options) line = ⊥
 
 -- its options are not refused
@@ -48,6 +61,8 @@ IsTaken (audit options) = audit_misuse options ≡ None
 IsTaken (draw options) = Unit {0}
 IsTaken json = Unit {0}
 IsTaken (keys options) = keys_misuse options ≡ None
+IsTaken (stale options) = Unit {0}
+IsTaken (tests options) = TakesTests options
 IsTaken (why options) = Unit {0}
 
 -- what is answered before anything is read
@@ -59,6 +74,11 @@ listed other = None
 abbrev pub seeks_undeclared : SubjectModel → Bool
 seeks_undeclared (audit options) = asks_for options UndeclaredInput
 seeks_undeclared other = false
+
+-- `stale` is answered by the build log too
+abbrev pub takes_build_log : SubjectModel → Bool
+takes_build_log (stale options) = true
+takes_build_log other = false
 
 -- ---- by its files
 
@@ -75,6 +95,19 @@ sinks_of output error = record { output = output; error = error }
 abbrev pub around : (files built : SourceState) → (output error : SinkState) → Around
 around files built output error = record { sources = sources_of files built; sinks = sinks_of output error }
 
+-- the files of a question were read: its list of tests, and then its graph
+pub record ReadsFiles (question : QuestionModel) (times : DeclaredTimes) (old new : Sources) (known : DiscoveredGraph)
+    (list : List TestModel) : Type 0 where
+  pub between : SourceState
+  pub tests : ReadsTests question.subject old.files between list
+  pub graph : KnowsGraph question.graph (seeks_undeclared question.subject) times (sources_of between old.built) new known
+
+-- they were not: its list of tests is not there, or else there is no graph
+pub data LacksFiles (question : QuestionModel) (times : DeclaredTimes) (old new : Sources) (line : List ℕ) : Type 0 where
+  no_tests : LacksTests question.subject old.files new.files line → new.built ≡ old.built → LacksFiles question times old new line
+  no_graph : {between : SourceState} (list : List TestModel) → ReadsTests question.subject old.files between list
+      → LacksGraph question.graph times (sources_of between old.built) new line → LacksFiles question times old new line
+
 -- nothing is output, and a line says why, with this status
 abbrev pub IsRefusal : (line : List ℕ) → Status → (output : List ℕ) → Ending → Type 0
 IsRefusal line status output ending = (output ≡ []) × (ending ≡ refused line status)
@@ -83,22 +116,46 @@ IsRefusal line status output ending = (output ≡ []) × (ending ≡ refused lin
 abbrev pub IsText : (text : List ℕ) → (output : List ℕ) → Ending → Type 0
 IsText text output ending = (output ≡ text) × (ending ≡ answered false [])
 
--- Options are refused, or answered, before anything is read. Else the files are read, and the graph is asked; or there is none, or no
--- memory for it. Absolute paths below the working directory are the build's.
+-- a build log without lines
+abbrev pub no_lines : BuildLogModel
+no_lines = record { version = None; lines = [] }
+
+-- the build log is read, if the question takes it
+abbrev pub TakesBuildLog : (takes : Bool) → List ReadStatement → (before after : SourceState) → BuildLogModel → Type 0
+TakesBuildLog true entries before after log = ReadsBuildLog entries before after log
+TakesBuildLog false entries before after log = (after ≡ before) × (log ≡ no_lines)
+
+-- what the files of a question come to: its list of tests, a graph and its statements, and then a build log
+pub record Knows (question : QuestionModel) (times : DeclaredTimes) (old new : Sources) (known : DiscoveredGraph)
+    (entries : List ReadStatement) (log : BuildLogModel) (list : List TestModel) : Type 0 where
+  pub between : SourceState
+  pub files : ReadsFiles question times old (sources_of new.files between) known list
+  pub is : IsGraphOf known.graph entries
+  pub takes : TakesBuildLog (takes_build_log question.subject) entries between new.built log
+
+-- or why there is no list of tests or no graph, or no build log
+pub data Lacks (question : QuestionModel) (times : DeclaredTimes) (old new : Sources) : (line : List ℕ) → Type 0 where
+  no_files : {line : List ℕ} → LacksFiles question times old new line → Lacks question times old new line
+  no_build_log : {between : SourceState} {known : DiscoveredGraph} {entries : List ReadStatement} {list : List TestModel} {line : List ℕ}
+      → takes_build_log question.subject ≡ true
+      → ReadsFiles question times old (sources_of new.files between) known list
+      → IsGraphOf known.graph entries → LacksBuildLog entries between new.built line → Lacks question times old new line
+
+-- Options are refused, or answered, before anything is read. Else the files are read, and the graph is asked; or a file is lacking, or
+-- memory. Absolute paths below the working directory are the build's.
 pub data Asks (question : QuestionModel) (times : DeclaredTimes) (folder : List ℕ) (input : List ℕ) (old new : Around)
     : Status → Type 0 where
   misused : {line : List ℕ} {status : Status} → Misuses question.subject line → new.sources ≡ old.sources
       → Ends (IsRefusal line Usage) old.sinks new.sinks status → Asks question times folder input old new status
   lists : {text : List ℕ} {status : Status} → listed question.subject ≡ Some text → new.sources ≡ old.sources
       → Ends (IsText text) old.sinks new.sinks status → Asks question times folder input old new status
-  by_graph : {known : DiscoveredGraph} {entries : List ReadStatement} {status : Status} → IsTaken question.subject
-      → listed question.subject ≡ None
-      → KnowsGraph question.graph (seeks_undeclared question.subject) times old.sources new.sources known
-      → IsGraphOf known.graph entries
-      → Ends (Answers known entries times folder question.subject input) old.sinks new.sinks status
+  by_graph : {known : DiscoveredGraph} {entries : List ReadStatement} {log : BuildLogModel} {list : List TestModel} {status : Status}
+      → IsTaken question.subject → listed question.subject ≡ None
+      → Knows question times old.sources new.sources known entries log list
+      → Ends (Answers known entries log times folder question.subject list input) old.sinks new.sinks status
       → Asks question times folder input old new status
-  lacks_graph : {line : List ℕ} {status : Status} → IsTaken question.subject → listed question.subject ≡ None
-      → LacksGraph question.graph times old.sources new.sources line → Ends (IsRefusal line Fault) old.sinks new.sinks status
+  lacks_files : {line : List ℕ} {status : Status} → IsTaken question.subject → listed question.subject ≡ None
+      → Lacks question times old.sources new.sources line → Ends (IsRefusal line Fault) old.sinks new.sinks status
       → Asks question times folder input old new status
   lacks_memory : new.sinks.output ≡ old.sinks.output → Reported old.sinks.error new.sinks.error memory_line
       → Asks question times folder input old new Fault

@@ -17,8 +17,8 @@ use Rattle.nj_ask.specs.Endings.{Ending, Ends, Sinks}
 use Rattle.nj_ask.specs.KnownGraphs.{undeclared_in}
 use Rattle.nj_ask.specs.Shape.{caveat_text}
 
--- The lines are those of exactly the findings about the manifest whose kinds are requested: none is of another kind, and none of these is
--- left out. Which sources are missing is by the times of files, and inputs that a deps log names count where it is read.
+-- The lines are those of exactly the findings about the manifest whose kinds are requested: none is of another kind, and none is left out.
+-- The times of files decide which sources are missing, and inputs that a deps log names are included where it is read.
 pub record ListsFindings (known : DiscoveredGraph) (entries : List ReadStatement) (times : DeclaredTimes) (folder : List ℕ)
     (options : AuditModel) (output : List ℕ) : Type 0 where
   pub missing : List Bool
@@ -33,8 +33,8 @@ pub record ListsFindings (known : DiscoveredGraph) (entries : List ReadStatement
   pub lists : (finding : FindingModel) → Contains found finding
       ↔ (Contains (all_findings known.graph entries missing serving undeclared) finding × (asks_for options finding.kind ≡ true))
 
--- Nothing was output: no finding about the manifest is of a requested kind, each source that a command needs was looked up if these are
--- requested, and nothing is unclear about what builds discovered.
+-- Nothing was output: no finding about the manifest is of a requested kind, each source that a command needs was looked up if missing
+-- sources are requested, and nothing is unclear about what builds discovered.
 pub record FindsNothing (known : DiscoveredGraph) (entries : List ReadStatement) (times : DeclaredTimes) (folder : List ℕ)
     (options : AuditModel) (old new : SinkState) : Type 0 where
   pub lists : ListsFindings known entries times folder options []

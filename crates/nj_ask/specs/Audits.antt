@@ -60,7 +60,7 @@ lookup_lines found = flat_map (line_about (codes "cannot look up source")) found
 
 -- ---- the options
 
--- the line of a kind: its name, whether it is on by default, and what it means
+-- the line of a kind: its name, whether it is on by default, and its meaning
 abbrev pub kind_line : Kind → List ℕ
 kind_line kind =
     line (name_of kind ++ codes ", " ++ (if is_on_by_default kind then codes "on" else codes "off") ++ codes " by default: "
@@ -74,7 +74,7 @@ kind_lines = flat_map kind_line all_kinds
 abbrev pub kinds_listed : AuditModel → Option (List ℕ)
 kinds_listed options = if options.list then Some kind_lines else None
 
--- the line about a word of `--only` or `--except` that names no kind
+-- the line about a word of `--only` or `--except` that does not name a kind
 abbrev pub unknown_kind_line : (word : List ℕ) → List ℕ
 unknown_kind_line word = program_line (codes "unknown kind '" ++ word ++ codes "'; ninja-graph audit --list lists the kinds")
 
@@ -99,18 +99,18 @@ is_absent (Time None) = true
 is_absent (Time (Some time)) = false
 is_absent NoAnswer = false
 
--- it is not known whether there is one
+-- it is not known whether there is a file
 abbrev pub is_unanswered : TimeFound → Bool
 is_unanswered (Time time) = false
 is_unanswered NoAnswer = true
 
--- Whether the file at a path is missing, and whether that is unknown: neither of a file that an edge makes.
+-- Whether the file at a path is missing, and whether that is unknown: neither for a file that an edge makes.
 pub data LooksUp (g : GraphModel) (times : DeclaredTimes) (path : List ℕ) : (is_missing is_unknown : Bool) → Type 0 where
   made : {maker : ℕ} → maker_of (edges_of g) path ≡ Some maker → LooksUp g times path false false
   source : {found : TimeFound} → maker_of (edges_of g) path ≡ None → IsTimeOf times path found
       → LooksUp g times path (is_absent found) (is_unanswered found)
 
--- of each file the same
+-- the same for each file
 pub data LookUp (g : GraphModel) (times : DeclaredTimes) : (paths : List (List ℕ)) → (missing unknown : List Bool) → Type 0 where
   none : LookUp g times [] [] []
   last : {paths : List (List ℕ)} {missing unknown : List Bool} {path : List ℕ} {is_missing is_unknown : Bool}
@@ -122,7 +122,7 @@ abbrev pub LookUpIf : (asked : Bool) → GraphModel → DeclaredTimes → (missi
 LookUpIf true g times missing unknown = LookUp g times (files_of g) missing unknown
 LookUpIf false g times missing unknown = (missing ≡ []) × (unknown ≡ [])
 
--- the findings if the sources were missing that cannot be looked up
+-- the findings if the sources that cannot be looked up were missing
 pub record WouldBeMissing (g : GraphModel) (unknown : List Bool) (found : List FindingModel) : Type 0 where
   pub serving : List Bool
   pub are_serving : AreServing (edges_of g) serving
@@ -130,8 +130,8 @@ pub record WouldBeMissing (g : GraphModel) (unknown : List Bool) (found : List F
 
 -- ---- `audit`
 
--- `audit`, where absolute paths below the directory are the build's: the findings of the requested kinds, a line each. What may be
--- missing is a line for each source that cannot be looked up, at the edge at which it would be missing, and what is not known of builds.
+-- `audit`, where absolute paths below the directory are the build's: the findings of the requested kinds, a line each. The warnings are a
+-- line for each source that cannot be looked up, at the edge at which it would be missing, and the caveats about builds.
 pub record AnswersAudit (known : DiscoveredGraph) (entries : List ReadStatement) (times : DeclaredTimes) (folder : List ℕ)
     (options : AuditModel) (output : List ℕ) (ending : Ending) : Type 0 where
   pub kinds : Kinds

@@ -17,7 +17,7 @@ use Rattle.nj_tools.specs.declared.EdgeDiscovery.{EdgeDiscovery}
 abbrev pub place_text : (file : List ℕ) → (line column : ℕ) → List ℕ
 place_text file line column = file ++ codes ":" ++ decimal line ++ codes ":" ++ decimal column ++ codes ": "
 
--- the word for an input that builds discovered, or for the kind of another one
+-- the word for an input that builds discovered, or for the kind of another input
 abbrev pub kind_word : Option Kind → (is_discovered : Bool) → List ℕ
 kind_word kind true = codes "discovered"
 kind_word (Some Explicit) false = codes "explicit"
@@ -25,7 +25,7 @@ kind_word (Some Implicit) false = codes "implicit"
 kind_word (Some OrderOnly) false = codes "order-only"
 kind_word None false = codes "validation"
 
--- this word in brackets, and the line end
+-- the word in brackets, and the line end
 abbrev pub kind_end : Option Kind → (is_discovered : Bool) → List ℕ
 kind_end kind is_discovered = codes " (" ++ kind_word kind is_discovered ++ codes ")\n"
 
@@ -36,7 +36,7 @@ is_implicit (Some Explicit) = false
 is_implicit (Some OrderOnly) = false
 is_implicit None = false
 
--- a step from an edge leads to an input that builds discovered: an implicit one after those that the edge had before
+-- a step from an edge leads to a discovered input: an implicit one after those that the edge had before
 abbrev pub is_discovered : Option EdgeDiscovery → EdgePaths → Step → Bool
 is_discovered None e step = false
 is_discovered (Some discovery) e step =
@@ -56,7 +56,7 @@ chain_lines g discoveries from [] = []
 chain_lines g discoveries from (step ∷ steps) =
     chain_line g discoveries from step ++ chain_lines g discoveries (path_at (files_of g) step.file) steps
 
--- The text has the lines of a chain by inputs of these kinds from a file to another; no chain is shorter.
+-- The text has the lines of a shortest chain by inputs of the given kinds from a file to another.
 pub record HasChain (g : GraphModel) (discoveries : List EdgeDiscovery) (kinds : ChainKinds) (from to : List ℕ) (text : List ℕ)
     : Type 0 where
   pub steps : List Step
@@ -64,6 +64,6 @@ pub record HasChain (g : GraphModel) (discoveries : List EdgeDiscovery) (kinds :
   pub shortest : IsShortest g.built.graph kinds from steps to
   pub lines : text ≡ chain_lines g discoveries from steps
 
--- there is none, as there never is from a file to itself
+-- there is no chain, as always from a file to itself
 abbrev pub LacksChain : GraphModel → ChainKinds → (from to : List ℕ) → Type 0
 LacksChain g kinds from to = (from ≡ to) ⊎ ((steps : List Step) → ¬ IsChain g.built.graph kinds from steps to)

@@ -1,38 +1,53 @@
 -- What the contracts of this crate cite: each name comes from the module in its line.
 pub use Rattle.nj_ask.specs.Answers.{AnswersAffected, change_asked, outputs_asked, HasDepfileFault, IsClear, AnswersDraw, AnswersJson}
 pub use Rattle.nj_ask.specs.Answers.{AnswersKeys, asked_mark, asked_targets, keys_misuse, mark_misuse, AnswersWhy, needed_from}
-pub use Rattle.nj_ask.specs.Inside.Asking.{AreGlobsAsked, AnswersTask, IsGiven, IsTask}
+pub use Rattle.nj_ask.specs.Inside.Asking.{AreGlobsAsked, LeavesAnswer, AnswersTask, IsGiven, IsTask, AreTestsAsked}
 pub use Rattle.nj_ask.specs.Inside.Failures.{Gives, Delivers, WritesAnswer, ConcludesTold, FailsBy, SaysFault, Returns, Stops}
 pub use Rattle.nj_ask.specs.Inside.Findings.{HasEdges, AreFindingsOf, text_if_faulty, if_doubtful, if_faulty}
 pub use Rattle.nj_graph.specs.Graph.{OfStatements, files_of, IsGraphOf, edges_of, rule_name}
-pub use Rattle.nj_questions.specs.Questions.{affected_model, SubjectModel, question_model, subject_model, audit_model, draw_model}
-pub use Rattle.nj_questions.specs.Questions.{asked_graph, keys_model, why_model}
+pub use Rattle.nj_questions.specs.Questions.{affected_model, SubjectModel, question_model, subject_model, audit_model, tests_model}
+pub use Rattle.nj_questions.specs.Questions.{draw_model, asked_graph, keys_model, stale_model, why_model}
 pub use Rattle.nj_ask.specs.Inside.Lent.{asked_of, change_model, texts}
-pub use Rattle.nj_ask.specs.Reports.{no_path_line, made_from_line, HasWarnings, IsReport}
+pub use Rattle.nj_ask.specs.Reports.{no_path_line, changed_numbers, made_from_line, HasCaveats, HasWarnings, IsReport, IsTouchedBy}
 pub use Rattle.nj_ask.specs.declared.status.Status.TheVariants.{Fault, Usage}
 pub use Rattle.nj_ask.specs.Endings.{Concludes, Reported, answered, memory_line, program_line, Ends, ReportsError}
-pub use Rattle.std.specs.List.{flat_map, list_any, filter_map, filter, fold, range_with_len}
+pub use Rattle.std.specs.List.{flat_map, list_any, filter, filter_map, fold, range_with_len, cons_option}
 pub use Rattle.nj_graph.specs.Handles.{edge_of, file_of, GraphEdge, paths_of, OfEdge, edges_in, files_in, detail_of_edge}
 pub use Rattle.nj_ask.specs.Drawings.{End, arrow_line, arrows_from, arrows_to, drawn_ends, edge_arrows, end_at, ends, ends_after}
 pub use Rattle.nj_ask.specs.Drawings.{ends_before, node_arrows, stated_count, count_line, drawing_text, IsDrawing, label, node_line}
 pub use Rattle.nj_ask.specs.Drawings.{edge_look, ellipse_look, left_out, more_text, node_look, node_name, point_look}
 pub use Rattle.nj_ask.specs.Inside.NodeLists.{node_model, is_full, AreFlagsWithin, SameFlags, SetsFlag, UnsetsFlag}
 pub use Rattle.nj_ask.specs.DrawnNodes.{of_edge, drawn_nodes, has_node, mention, mention_edge, node_of, is_folded}
-pub use Rattle.nj_ask.specs.Asks.{listed, seeks_undeclared, IsText, around, Misuses, sinks_of, Refuses}
+pub use Rattle.nj_ask.specs.BuildLogs.{LacksBuildLog, ReadsBuildLog, bad_log_line, built_path}
+pub use Rattle.nj_ask.specs.Asks.{TakesBuildLog, no_lines, takes_build_log, LacksFiles, ReadsFiles, listed, seeks_undeclared, IsText}
+pub use Rattle.nj_ask.specs.Asks.{around, Misuses, sinks_of, Refuses}
+pub use Rattle.nj_ask.specs.Inside.GraphSteps.{HasStatements, AreInputsIn, KnowsByLog, LacksByLog, Discovers, LacksDiscovered, LacksMain}
+pub use Rattle.nj_ask.specs.Inside.GraphSteps.{LacksManifest}
+pub use Rattle.nj_tests.specs.Tests.{TestModel, test_model}
+pub use Rattle.nj_ask.specs.KnownGraphs.{sources_of, FindsUndeclared, undeclared_in, IsDeclared, IsDiscovered, KnowsGraph, LacksGraph}
+pub use Rattle.nj_ask.specs.KnownGraphs.{ReadsManifest, asks_discovered, discovered_line}
 pub use Rattle.nj_ask.specs.Audits.{kind_lines, selection_in, AnswersAudit, WouldBeMissing, unknown_kind_line, finding_line, finding_lines}
 pub use Rattle.nj_ask.specs.Audits.{finding_object, kind_line, line_about, lookup_lines, LookUp, LookUpIf, LooksUp}
 pub use Rattle.nj_ask.specs.AskedWords.{AsksWith, ended_status, AsksWords}
 pub use Rattle.nj_audit.specs.Kinds.{AskFor, first_unknown, contains}
 pub use Rattle.nj_ask.specs.AuditLaws.{AuditListsFindings, DoneFindsNothing}
 pub use Rattle.nj_ask.specs.Inside.AuditParts.{AreWarnings, HasServing, SaysUnknown}
+pub use Rattle.nj_scope.specs.ReadingList.{value_if_bound}
+pub use Rattle.nj_ask.specs.Inside.BuildLogSteps.{IsNoBuildLog, LacksBuildLogAt, ReadsBuildLogAt}
+pub use Rattle.nj_build_log.specs.Logs.{build_log_of}
 pub use Rattle.nj_ask.specs.Chains.{is_discovered, kind_end, kind_word, place_text}
 pub use Rattle.nj_ask.specs.Inside.ChainTexts.{step_line, IsChainText}
-pub use Rattle.nj_ask.specs.Affected.{changed_file, clean_name, path_in, line, is_asked_for, is_of_rules, line_of_output, lines_of_outputs}
-pub use Rattle.nj_ask.specs.Affected.{rule_names, unknown_rule, number_at}
+pub use Rattle.nj_ask.specs.Inside.Reached.{AreAt, AreFilesOf, AreFullPaths, numbers_of, IsReach, edge_numbers, AreFeeding, CanTellAll}
+pub use Rattle.nj_ask.specs.Inside.Reached.{warning_by, AreFilesAt, AreTables, AreAffected, AreTouched}
+pub use Rattle.nj_ask.specs.SameFiles.{full_path_of}
+pub use Rattle.nj_graph.specs.Edges.{is_among, first_output, edge_at, outputs_of, inputs_of, maker_of}
+pub use Rattle.nj_ask.specs.ChosenTests.{AnswersTests, WritesTests, no_path_remark, no_test_remark, remarks, roots_of, MisusesTests}
+pub use Rattle.nj_ask.specs.ChosenTests.{asks_ctest, format_misuse, style_asked, style_misuse, unnamed_misuse, word_misuse}
+pub use Rattle.nj_text.specs.Calls.{is_empty}
 pub use Rattle.nj_graph.specs.Files.{path_at}
 pub use Rattle.nj_scope.specs.Sources.{outcome_bytes, SourceState}
-pub use Rattle.nj_scope.specs.ReadingList.{value_if_bound}
 pub use Rattle.nj_deps.specs.Logs.{IsLogFault, IsLogOf, opening, LogModel}
+pub use Rattle.nj_ask.specs.Affected.{line, is_asked_for, is_of_rules, line_of_output, lines_of_outputs, rule_names, unknown_rule}
 pub use Rattle.nj_ask.specs.LogsRead.{LacksLog, ReadsBytes, ReadsLog, cut_line, log_path, own_path}
 pub use Rattle.nj_ask.specs.Inside.LogSteps.{IsUnreadable, LacksAt, ReadsAt}
 pub use Rattle.nj_discovered.specs.Times.{DeclaredTimes}
@@ -40,7 +55,6 @@ pub use Rattle.nj_graph.specs.Discovering.{AreDiscovered}
 pub use Rattle.nj_ask.specs.DiscoveredGraphs.{JoinsDiscovered, depfile_text, doubt_line, doubt_lines, fault_texts, no_time_line}
 pub use Rattle.nj_ask.specs.DiscoveredGraphs.{doubtful_edges, edge_discoveries, faulty_edges, state_of, IsTouched}
 pub use Rattle.nj_ask.specs.Joined.{Follows, HasDoubtfulEdges}
-pub use Rattle.nj_graph.specs.Edges.{first_output, edge_at, is_among, outputs_of, inputs_of, maker_of}
 pub use Rattle.nj_ask.specs.DrawingLaws.{EndsAreDrawn, NeededAreDrawn, NodesAreDistinct, NodesAreLimited}
 pub use Rattle.serde_json.specs.Data.{string}
 pub use Rattle.serde_json.specs.Written.{compact_text}
@@ -48,10 +62,6 @@ pub use Rattle.std.specs.Str.Lossy.{utf8_lossy}
 pub use Rattle.nj_audit.specs.Findings.{finding_model}
 pub use Rattle.nj_ask.specs.Given.{folder_misuse, given_paths, pattern_line, MisusesAffected}
 pub use Rattle.nj_ask.specs.Inside.AnswerParts.{SaysPattern, IsPageOf, SaysErr, base_misuse}
-pub use Rattle.nj_ask.specs.KnownGraphs.{FindsUndeclared, undeclared_in, IsDeclared, IsDiscovered, KnowsGraph, LacksGraph, ReadsManifest}
-pub use Rattle.nj_ask.specs.KnownGraphs.{asks_discovered, discovered_line, sources_of}
-pub use Rattle.nj_ask.specs.Inside.GraphSteps.{AreInputsIn, KnowsByLog, LacksByLog, Discovers, LacksDiscovered, LacksMain, LacksManifest}
-pub use Rattle.nj_ask.specs.Inside.GraphSteps.{HasStatements}
 pub use Rattle.nj_graph.specs.Loads.{Loads}
 pub use Rattle.nj_graph.specs.Undeclared.{input_of_edge}
 pub use Rattle.nj_ask.specs.Shape.{caveat_text, dyndep_files, dyndep_of, dyndep_text, line_if_changes, lines_of_changing, may_change}
@@ -62,16 +72,21 @@ pub use Rattle.nj_keys.specs.Pages.{leads}
 pub use Rattle.nj_ask.specs.Pages.{mark_line}
 pub use Rattle.nj_ask.specs.Inside.FileLines.{output_lines, path_lines}
 pub use Rattle.nj_ask.specs.MadeFrom.{TellMadeFrom}
-pub use Rattle.nj_ask.specs.Manifest.{is_named_in, makers_of_opened, makes_manifest, opened_files, IsMadeFrom}
+pub use Rattle.nj_ask.specs.Manifest.{makers_of_opened, makes_manifest, FeedsManifest, opened_paths, opened_files}
 pub use Rattle.nj_ask.specs.Inside.Flags.{AreFeeds, AreFlags, is_made_flag, AreMarks}
 pub use Rattle.nj_ask.specs.NeededFaults.{IsFirstFault}
 pub use Rattle.std.specs.Fmt.{decimal}
 pub use Rattle.nj_ask.specs.Quotes.{quoted, escaped, escapes}
-pub use Rattle.nj_names.specs.NameTables.{with_name}
-pub use Rattle.nj_ask.specs.Inside.Reached.{AreOpened, AddsWarning, AreAffected, AreTouched, CanTellAll, CanTellAt, unnamed_warning}
+pub use Rattle.nj_changes.specs.Tables.{SameNames}
 pub use Rattle.nj_graph.specs.Changes.{IsAffected}
 pub use Rattle.nj_ask.specs.Laws.{DoneMissesNothing, ListedHaveReasons, WarningsAreUnique}
 pub use Rattle.nj_audit.specs.declared.kinds.Kind.TheVariants.{MissingSource}
+pub use Rattle.nj_ask.specs.Stales.{AnswersStale, AreStaleFor, if_named, is_stale_maker, main_path, manifest_text, stale_caveats}
+pub use Rattle.nj_ask.specs.Stales.{stale_text}
+pub use Rattle.nj_names.specs.Files.{AreFiles}
+pub use Rattle.nj_ask.specs.Inside.StaleParts.{IsManifestAnswer, LacksTime}
+pub use Rattle.nj_needs.specs.Growing.{grown_targets}
 pub use Rattle.nj_ask.specs.Statuses.{exit_code}
 pub use Rattle.std.specs.IoError.{error_kind}
+pub use Rattle.nj_ask.specs.TestLists.{LacksList, LacksTests, ReadsList, ReadsTests}
 pub use Rattle.nj_graph.specs.Targets.{picked}

@@ -59,8 +59,7 @@ abbrev pub no_time_line : (output : Option (List ℕ)) → List ℕ
 no_time_line None = []
 no_time_line (Some output) = line (output ++ codes ": its time cannot be read")
 
--- The line about an edge: where its first output has no time that can be read, and where its depfile has a fault. About others
--- there is none.
+-- The line about an edge for whose first output no time can be read, or whose depfile has a fault. Other edges have none.
 abbrev pub doubt_line : List ReadStatement → (edge : ℕ) → Verdict → List ℕ
 doubt_line entries edge (Unknown NoTime) = no_time_line (first_output (edge_at (paths_of_edges (edges_read entries)) edge))
 doubt_line entries edge (Faulty fault) = line (depfile_text entries edge fault)
@@ -71,12 +70,12 @@ abbrev pub doubt_lines : List ReadStatement → DiscoveriesModel → List ℕ
 doubt_lines entries found =
     flat_map (λ edge. doubt_line entries edge (found_at found edge).verdict) (range_with_len 0 (length found.edges))
 
--- the text of the fault of a depfile, if it has one
+-- the text of the fault of a depfile, if any
 abbrev pub fault_text : List ReadStatement → (edge : ℕ) → Verdict → List ℕ
 fault_text entries edge (Faulty fault) = depfile_text entries edge fault
 fault_text entries edge verdict = []
 
--- the texts of the faults of depfiles, by the numbers of their edges
+-- the texts of the faults of depfiles, by edge number
 abbrev pub fault_texts : List ReadStatement → DiscoveriesModel → List (List ℕ)
 fault_texts entries found = map (λ edge. fault_text entries edge (found_at found edge).verdict) (faulty_edges found)
 
@@ -88,21 +87,21 @@ state_of Known = state.Known
 state_of (Unknown reason) = state.Unknown reason
 state_of (Faulty fault) = state.Faulty
 
--- what builds discovered for an edge: how many implicit inputs it has without what they did, and whether that is known
+-- what builds discovered for an edge: how many implicit inputs it has without the discovered ones, and whether the discovered ones are
+-- known
 abbrev pub edge_discovery : EdgePaths → FoundModel → EdgeDiscovery
 edge_discovery e found = record { stated_inputs = length e.implicit_inputs; state = state_of found.verdict }
 
--- the same for each of these edges, by number
+-- the same for each edge, by number
 abbrev pub edge_discoveries : List EdgePaths → DiscoveriesModel → List EdgeDiscovery
 edge_discoveries edges found =
     map (λ edge. edge_discovery (edge_at edges edge) (found_at found edge)) (range_with_len 0 (length edges))
 
 -- ---- its joining
 
--- The inputs that edges discover are joined to the graph of these statements, by a deps log, depfiles and times, and the edges are
--- listed whose discovered inputs are not known, and those whose depfiles have a fault, with what is said of both; of each edge it is
--- said how many implicit inputs it had, and whether the discovered ones are known; or the joined inputs have a dependency cycle; or
--- memory ran out.
+-- Discovered inputs, by a deps log, depfiles and times, are joined to the graph of the given statements. The lists have the edges whose
+-- discovered inputs are not known, and those whose depfiles have a fault, with what is said of both; and for each edge how many implicit
+-- inputs it had, and whether the discovered ones are known. Or the joined inputs have a dependency cycle; or memory ran out.
 pub data JoinsDiscovered (before after : SourceState) (times : DeclaredTimes) (log : LogModel) (stated : List ReadStatement) :
     Result Discovered GraphFault → Type 0 where
   joined : {known : Discovered} {found : DiscoveriesModel} → AreDiscovered before after times log stated found
@@ -119,13 +118,13 @@ pub data JoinsDiscovered (before after : SourceState) (times : DeclaredTimes) (l
 
 -- ---- what a change touches
 
--- With discovered inputs, the edges that are to be built again where these files changed and these edges are dirty by
--- themselves; without, those that have the files, or outputs of such edges, as inputs of any kind.
+-- With discovered inputs, the edges that are to be built again where the given files changed and the given edges are dirty by themselves;
+-- without, those that have the files, or outputs of such edges, as inputs of any kind.
 abbrev pub TouchedBy : (has_discovered : Bool) → List EdgePaths → (changed : List (List ℕ)) → (unknown : List ℕ) → (edge : ℕ) → Type 0
 TouchedBy true edges changed unknown edge = IsDirty edges changed unknown edge
 TouchedBy false edges changed unknown edge = IsAffected edges changed edge
 
--- an edge that a change of these files touches
+-- an edge that a change of the given files touches
 abbrev pub IsTouched : DiscoveredGraph → (changed : List (List ℕ)) → (edge : ℕ) → Type 0
 IsTouched known changed edge =
     TouchedBy known.has_discovered (edges_of known.graph) changed (map (λ edge. edge.0) known.unknown.items) edge

@@ -1,4 +1,4 @@
--- What drawings have in common: how many nodes there are, between which of them arrows lead, and when all edges are drawn.
+-- What drawings have in common: how many nodes they have, which nodes arrows connect, and when all edges are drawn.
 use Rattle.std.specs.Prelude.{◌≡◌, ℕ, ◌≤◌, Bool, true, false, unwrap_or, Some, List, length, All, Contains}
 use Rattle.std.specs.List.{IsDistinct}
 use Rattle.nj_graph.specs.Distances.{IsNeeded}
@@ -14,12 +14,12 @@ abbrev pub is_same : Node → Node → Bool
 is_same (of_edge edge) node = is_edge edge.number node
 is_same (of_file file) node = is_file (number_of file) node
 
--- No two nodes of a drawing are that of the same edge or file.
+-- Each node of a drawing stands for a different edge or file.
 abbrev pub NodesAreDistinct : Type 0
 NodesAreDistinct = (options : DrawModel) (files : List GraphFile) (edges : List GraphEdge)
     → IsDistinct is_same (drawn_nodes options files edges)
 
--- With a limit there are no more than that.
+-- There are at most as many nodes as the limit.
 abbrev pub NodesAreLimited : Type 0
 NodesAreLimited = (options : DrawModel) (files : List GraphFile) (edges : List GraphEdge) (limit : ℕ)
     → options.limit ≡ Some limit → length (drawn_nodes options files edges) ≤ limit
@@ -29,7 +29,7 @@ abbrev pub EndsAreDrawn : Type 0
 EndsAreDrawn = (nodes others : List Node) (ends : List End)
     → All (λ end. (node : Node) × Contains nodes node × (node_name node ≡ node_name end.node)) (drawn_ends nodes others ends)
 
--- Where the limits leave nothing out, each edge is drawn that the files need.
+-- Where the limits leave nothing out, each edge that the files need is drawn.
 abbrev pub NeededAreDrawn : Type 0
 NeededAreDrawn = (known : DiscoveredGraph) (options : DrawModel) (files : List (List ℕ)) (edges : List GraphEdge)
     → options.affected ≡ false → ListsEdges known files false edges

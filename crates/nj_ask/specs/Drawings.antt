@@ -15,7 +15,7 @@ use Rattle.nj_ask.specs.Quotes.{escapes, quoted}
 
 -- ---- arrows
 
--- the other end of an arrow from an edge or to it, and what says how the arrow is drawn
+-- the other end of an arrow from or to an edge, and the style of the arrow
 pub record End : Type 0 where
   pub node : Node
   pub style : List ℕ
@@ -24,15 +24,15 @@ pub record End : Type 0 where
 abbrev pub end_at : (folds : Bool) → (style : List ℕ) → GraphFile → End
 end_at folds style file = record { node = node_of folds file; style = style }
 
--- those at files
+-- the ends at files
 abbrev pub ends : (folds : Bool) → (style : List ℕ) → List GraphFile → List End
 ends folds style files = map (end_at folds style) files
 
--- the files to which an edge has arrows: its outputs; a folded one has them in it
+-- the files to which an edge has arrows: its outputs, unless they are folded into it
 abbrev pub ends_after : (folds : Bool) → GraphEdge → List End
 ends_after folds edge = if is_folded folds edge then [] else ends folds [] (output_files edge)
 
--- how many implicit inputs an edge has without those that builds discovered
+-- how many implicit inputs an edge has without the discovered ones
 abbrev pub stated_count : Option EdgeDiscovery → GraphEdge → ℕ
 stated_count (Some discovery) edge = discovery.stated_inputs
 stated_count None edge = length (paths_of edge).implicit_inputs
@@ -47,7 +47,7 @@ ends_before discoveries folds edge =
     ++ ends folds (codes " [style=dashed]") (drop stated (inputs paths.implicit_inputs))
     ++ ends folds (codes " [style=dotted]") (inputs paths.order_only_inputs)
 
--- those at nodes that are drawn; of several at one node, the first that is not at one of the `others`
+-- the ends at drawn nodes that are not among the `others`; of several at one node, the first
 abbrev pub drawn_ends : (nodes others : List Node) → List End → List End
 drawn_ends nodes others [] = []
 drawn_ends nodes others (end ∷ ends) =
@@ -65,7 +65,7 @@ node_name (of_file file) = codes "f" ++ decimal (number_of file)
 abbrev pub left_out : (folds : Bool) → (nodes : List Node) → GraphEdge → ℕ
 left_out folds nodes edge = length (filter (λ file. not (has_node nodes (node_of folds file))) (input_files edge))
 
--- that so many are not, between two texts
+-- how many are not drawn, between two texts; empty if all are
 abbrev pub more_text : (before : List ℕ) → (count : ℕ) → (after : List ℕ) → List ℕ
 more_text before count after = if count == 0 then [] else before ++ codes "and " ++ decimal count ++ codes " more" ++ after
 
@@ -99,31 +99,31 @@ node_line folds nodes node = codes "  " ++ node_name node ++ codes " [" ++ node_
 abbrev pub arrow_line : (from to : Node) → (style : List ℕ) → List ℕ
 arrow_line from to style = codes "  " ++ node_name from ++ codes " -> " ++ node_name to ++ style ++ codes ";\n"
 
--- the arrows from an edge to these ends
+-- the arrows from an edge to the given ends
 abbrev pub arrows_to : GraphEdge → List End → List ℕ
 arrows_to edge ends = flat_map (λ end. arrow_line (of_edge edge) end.node end.style) ends
 
--- the arrows from them to an edge
+-- the arrows to an edge from the given ends
 abbrev pub arrows_from : GraphEdge → List End → List ℕ
 arrows_from edge ends = flat_map (λ end. arrow_line end.node (of_edge edge) end.style) ends
 
--- all of them
+-- all arrows of an edge
 abbrev pub edge_arrows : List EdgeDiscovery → (folds : Bool) → (nodes : List Node) → GraphEdge → List ℕ
 edge_arrows discoveries folds nodes edge =
     arrows_to edge (drawn_ends nodes [] (ends_after folds edge))
     ++ arrows_from edge (drawn_ends nodes [] (ends_before discoveries folds edge))
 
--- those of a node: it has some if it is that of one of these edges
+-- the arrows of a node: those of its edge, if that is among the given ones
 abbrev pub node_arrows : List EdgeDiscovery → (folds : Bool) → (nodes : List Node) → (edges : List GraphEdge) → Node → List ℕ
 node_arrows discoveries folds nodes edges (of_edge edge) =
     if has_node (map of_edge edges) (of_edge edge) then edge_arrows discoveries folds nodes edge else []
 node_arrows discoveries folds nodes edges (of_file file) = []
 
--- that so many of all edges are drawn
+-- how many of all edges are drawn
 abbrev pub count_line : (count all : ℕ) → List ℕ
 count_line count all = codes "  label=\"" ++ decimal count ++ codes " of " ++ decimal all ++ codes " edges\";\n"
 
--- how many of these edges are drawn, unless all are
+-- how many of the edges are drawn, unless all are
 abbrev pub label : (nodes : List Node) → (edges : List GraphEdge) → List ℕ
 label nodes edges =
     let count = length (filter (λ edge. has_node nodes (of_edge edge)) edges) in
@@ -144,7 +144,7 @@ pub data ListsEdges (known : DiscoveredGraph) (files : List (List ℕ)) : (affec
   touched : (numbers : List ℕ) → ((edge : ℕ) → Contains numbers edge ↔ IsTouched known files edge) → IsStrictlyIncreasing numbers
       → ListsEdges known files true (edges_in known.graph numbers)
 
--- the text is the drawing of these files
+-- the text is the drawing of the given files
 pub record IsDrawing (known : DiscoveredGraph) (options : DrawModel) (files : List (List ℕ)) (text : List ℕ) : Type 0 where
   pub edges : List GraphEdge
   pub lists : ListsEdges known files options.affected edges

@@ -13,17 +13,17 @@ pub data Node : Type 0 where
   of_edge : GraphEdge → Node
   of_file : GraphFile → Node
 
--- it is that of the edge of a number
+-- it is that of the edge with the given number
 abbrev pub is_edge : (number : ℕ) → Node → Bool
 is_edge number (of_edge edge) = number == edge.number
 is_edge number (of_file file) = false
 
--- it is that of the file of a number
+-- it is that of the file with the given number
 abbrev pub is_file : (number : ℕ) → Node → Bool
 is_file number (of_edge edge) = false
 is_file number (of_file file) = number == number_of file
 
--- a node is one of these
+-- a node is among the given ones
 abbrev pub has_node : List Node → Node → Bool
 has_node nodes (of_edge edge) = list_any (is_edge edge.number) nodes
 has_node nodes (of_file file) = list_any (is_file (number_of file)) nodes
@@ -51,7 +51,7 @@ input_files edge = files_in edge.graph (inputs_of (paths_of edge))
 
 -- ---- which nodes are drawn
 
--- one more node is mentioned: it is behind the others, unless it is one of them
+-- one more node is mentioned: it is added at the end, unless it is among the others
 abbrev pub mention : List Node → Node → List Node
 mention nodes node = if has_node nodes node then nodes else nodes ++ node ∷ []
 
@@ -60,7 +60,7 @@ abbrev pub mentioned_by : DrawModel → GraphEdge → List Node
 mentioned_by options edge =
     of_edge edge ∷ map (node_of options.fold) (output_files edge ++ take (unwrap_or options.inputs 12) (input_files edge))
 
--- Without `--affected` it does so only if an output of it was mentioned.
+-- Without `--affected` it does so only if one of its outputs was mentioned.
 abbrev pub mention_edge : DrawModel → List Node → GraphEdge → List Node
 mention_edge options nodes edge =
     if options.affected || list_any (λ file. has_node nodes (node_of options.fold file)) (output_files edge)
@@ -70,11 +70,11 @@ mention_edge options nodes edge =
 abbrev pub mentioned : DrawModel → List GraphFile → List GraphEdge → List Node
 mentioned options files edges = fold (mention_edge options) (fold mention [] (map (node_of options.fold) files)) edges
 
--- so many at most
+-- at most as many as the limit
 abbrev pub up_to : {A : Type 0} → Option ℕ → List A → List A
 up_to (Some limit) items = take limit items
 up_to None items = items
 
--- the nodes that are drawn: as many of these as the limit allows
+-- the drawn nodes: as many of the mentioned ones as the limit allows
 abbrev pub drawn_nodes : DrawModel → List GraphFile → List GraphEdge → List Node
 drawn_nodes options files edges = up_to options.limit (mentioned options files edges)

@@ -26,8 +26,8 @@ memory_line = program_line out_of_memory_text
 
 -- ---- how an answer ends
 
--- The output is the answer, and these warnings say what may be missing from it; `looks` says that there is something to look at even
--- without any. Or a line says why there is no answer, or no more of it.
+-- The output is the answer, and the warnings say what may be missing from it; `looks` says that there is something to look at even without
+-- warnings. Or a line says why there is no answer, or only part of one.
 pub data Ending : Type 0 where
   answered : (looks : Bool) → (warnings : List ℕ) → Ending
   refused : (line : List ℕ) → Status → Ending
@@ -36,7 +36,7 @@ pub data Ending : Type 0 where
 abbrev pub answered_status : (looks : Bool) → (warnings : List ℕ) → Status
 answered_status looks warnings = if looks || not (is_empty warnings) then Look else Done
 
--- the text was written once: the sink took it, or failed on the way, and nothing more was passed to it
+-- the text was written once: the sink received it, or failed on the way, and nothing more was passed to it
 abbrev pub Reported : (old new : SinkState) → (text : List ℕ) → Type 0
 Reported old new text = Takes old new text ⊎ FailsWithin old new text
 
@@ -63,8 +63,8 @@ pub record Sinks : Type 0 where
 abbrev pub IsFront : (Is : (output : List ℕ) → Ending → Type 0) → (front : List ℕ) → Type 0
 IsFront Is front = (front ≡ []) ⊎ ((output : List ℕ) × (ending : Ending) × Is output ending × IsPrefix front output)
 
--- Standard output took an answer, and its ending is reported; or standard output failed within it, and nothing is reported; or memory ran
--- out after the front of one.
+-- Standard output received an answer, and its ending is reported; or standard output failed within it, and nothing is reported; or memory
+-- ran out after the front of an answer.
 pub data Ends (Is : (output : List ℕ) → Ending → Type 0) (old new : Sinks) : Status → Type 0 where
   ended : {output : List ℕ} {ending : Ending} {status : Status} → Is output ending → Takes old.output new.output output
       → Concludes ending old.error new.error status → Ends Is old new status

@@ -2,6 +2,7 @@
 pub mod AnswerParts
 pub mod Asking
 pub mod AuditParts
+pub mod BuildLogSteps
 pub mod ChainTexts
 pub mod Failures
 pub mod FileLines
@@ -12,3 +13,4 @@ pub mod Lent
 pub mod LogSteps
 pub mod NodeLists
 pub mod Reached
+pub mod StaleParts

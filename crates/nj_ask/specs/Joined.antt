@@ -5,7 +5,7 @@ use Rattle.nj_graph.specs.Graph.{GraphModel, edges_of, files_of}
 use Rattle.nj_scope.specs.Readings.{IsPrefix}
 use Rattle.nj_ask.specs.declared.discovered.Discovered.{Discovered}
 
--- a graph with as many edges, whose files begin with those of the old one
+-- a graph with as many edges, whose files begin with those of the old graph
 pub record Follows (old new : GraphModel) : Type 0 where
   pub edges : length (edges_of new) ≡ length (edges_of old)
   pub files : IsPrefix (files_of old) (files_of new)

@@ -25,8 +25,8 @@ use Rattle.nj_ask.specs.LogsRead.{LacksLog, ReadsLog, log_path}
 abbrev pub asks_discovered : AskedGraph → Bool
 asks_discovered asked = asked.deps || is_some asked.log
 
--- The main file and all that it includes; with `dyndep` then all dyndep files, and where the inputs that builds discovered are requested
--- those dyndep files that are there.
+-- The main file and all that it includes; with `dyndep` then all dyndep files, and where discovered inputs are requested the dyndep files
+-- that are present.
 pub data ReadsManifest (asked : AskedGraph) (times : DeclaredTimes) (before after : SourceState) :
     Result LoadedModel GraphFault → Type 0 where
   refused : {fault : GraphFault} → Loads asked.file before after (Err fault) → ReadsManifest asked times before after (Err fault)
@@ -42,12 +42,12 @@ pub data ReadsManifest (asked : AskedGraph) (times : DeclaredTimes) (before afte
 
 -- ---- with what builds discovered
 
--- the states of a source of manifests and dyndep files, and of one of the files that builds write: the deps log and depfiles
+-- the states of two sources: one of manifests and dyndep files, and one of the files that builds write, the deps log and depfiles
 pub record Sources : Type 0 where
   pub files : SourceState
   pub built : SourceState
 
--- both
+-- the states of both sources
 abbrev pub sources_of : (files built : SourceState) → Sources
 sources_of files built = record { files = files; built = built }
 
@@ -61,7 +61,7 @@ pub record IsDeclared (graph : GraphModel) (known : DiscoveredGraph) : Type 0 wh
   pub caveats : known.caveats.items ≡ []
   pub undeclared : known.undeclared.items ≡ []
 
--- a graph with discovered inputs, and what is not known of these and of the log
+-- a graph with discovered inputs, and what is not known of the inputs and of the log
 pub record IsDiscovered (found : Discovered) (caveat : List ℕ) (known : DiscoveredGraph) : Type 0 where
   pub graph_is : known.graph ≡ found.graph
   pub has_discovered : known.has_discovered ≡ true
@@ -79,7 +79,7 @@ abbrev pub FindsUndeclared : (asked : Bool) → LogModel → List ReadStatement 
 FindsUndeclared true log stated inputs = AreUndeclared log stated inputs
 FindsUndeclared false log stated inputs = inputs ≡ []
 
--- The graph of these options; `undeclared` says whether undeclared inputs are requested.
+-- The graph of the given options; `undeclared` says whether undeclared inputs are requested.
 pub data KnowsGraph (asked : AskedGraph) (undeclared : Bool) (times : DeclaredTimes) (old new : Sources) (known : DiscoveredGraph)
     : Type 0 where
   declared : {loaded : LoadedModel} → asks_discovered asked ≡ false → ReadsManifest asked times old.files new.files (Ok loaded)
@@ -95,7 +95,7 @@ abbrev pub discovered_line : (path : List ℕ) → GraphFault → List ℕ
 discovered_line path fault =
     line (fault_line_for (codes "ninja-graph") fault ++ codes ", by the inputs of " ++ path ++ codes " and of depfiles")
 
--- Why there is none: a fault of the manifest or of dyndep files, or of the deps log, or of the inputs that builds discovered.
+-- Why there is no graph: a fault of the manifest or of dyndep files, or of the deps log, or of the inputs that builds discovered.
 pub data LacksGraph (asked : AskedGraph) (times : DeclaredTimes) (old new : Sources) : (line : List ℕ) → Type 0 where
   by_manifest : {fault : GraphFault} → ReadsManifest asked times old.files new.files (Err fault) → new.built ≡ old.built
       → LacksGraph asked times old new (fault_line fault)

@@ -1,39 +1,41 @@
 -- What status 0 of `affected` means, and that a report is determined.
-use Rattle.std.specs.Prelude.{◌≡◌, ◌⊎◌, ◌↔◌, ℕ, Bool, true, false, Some, List, [], ◌∷◌, Contains, map}
+use Rattle.std.specs.Prelude.{◌≡◌, ◌≢◌, ◌⊎◌, ◌↔◌, ℕ, Bool, true, false, List, [], ◌∷◌, Contains, map}
 use Rattle.nj_graph.specs.ReadingList.{ReadStatement}
 use Rattle.nj_graph.specs.Changes.{has_input_of, IsOrNeeds}
 use Rattle.nj_graph.specs.Dirty.{has_counted_input_of, has_output_of}
 use Rattle.nj_graph.specs.Edges.{EdgePaths, edge_at, outputs_of}
-use Rattle.nj_graph.specs.Graph.{GraphModel, edges_of, files_of}
+use Rattle.nj_graph.specs.Graph.{GraphModel, edges_of}
 use Rattle.nj_tools.specs.Sinks.{SinkState, Takes}
 use Rattle.nj_questions.specs.Questions.{AffectedModel}
 use Rattle.nj_ask.specs.declared.discovered.DiscoveredGraph.{DiscoveredGraph}
 use Rattle.nj_ask.specs.declared.status.Status.TheVariants.{Done}
-use Rattle.nj_ask.specs.Affected.{Asked, changed_file, path_in, ListsOutputs}
+use Rattle.nj_ask.specs.Affected.{Asked, ListsOutputs}
 use Rattle.nj_ask.specs.Answers.{AnswersAffected, change_asked, outputs_asked}
 use Rattle.nj_ask.specs.Endings.{Ends, Sinks}
 use Rattle.nj_ask.specs.Given.{given_paths, LeavesPaths}
-use Rattle.nj_ask.specs.Manifest.{is_one_of, is_opened, makes_manifest, opened_files, path_of}
-use Rattle.nj_ask.specs.Reports.{ChangeModel, changed_numbers, changed_paths, HasWarnings, IsReport, IsTouchedBy, IsUnnamed}
+use Rattle.nj_ask.specs.Manifest.{makes_manifest, opened_files}
+use Rattle.nj_ask.specs.Reports.{ChangeModel, changed_numbers, changed_paths, files_meant, is_opened, HasWarnings, IsReport, IsTouchedBy}
+use Rattle.nj_ask.specs.Reports.{IsUnnamed}
+use Rattle.nj_ask.specs.SameFiles.{path_of}
 use Rattle.nj_ask.specs.Shape.{shape_text}
 
--- A changed path names a file that was not opened and that no edge which makes the manifest needs.
+-- A changed path denotes files of the graph that are not needed to make the manifest, and no file was opened at it.
 pub record KeepsManifest (g : GraphModel) (entries : List ReadStatement) (q : ChangeModel) (path : List ℕ) : Type 0 where
-  pub file : ℕ
-  pub named : changed_file (files_of g) q.folder path ≡ Some file
-  pub unopened : is_one_of (opened_files g) file ≡ false
-  pub unmade : (maker edge : ℕ) → IsOrNeeds (edges_of g) maker edge
-      → has_input_of (path_of g file ∷ []) (edge_at (edges_of g) edge) ≡ true → makes_manifest g entries maker ≡ false
+  pub named : files_meant g q path ≢ []
+  pub unopened : is_opened g q path ≡ false
+  pub unmade : (file maker edge : ℕ) → Contains (files_meant g q path) file → IsOrNeeds (edges_of g) maker edge
+      → has_input_of (path_of g file ∷ []) (edge_at (edges_of g) edge) ≡ true
+      → makes_manifest g (opened_files g q.working) entries maker ≡ false
 
--- A changed path that no edge names and that was not opened, where such paths are ignored.
+-- A changed path that no edge names and at which no file was opened, where such paths are ignored.
 pub record IsIgnored (g : GraphModel) (q : ChangeModel) (path : List ℕ) : Type 0 where
   pub unnamed : IsUnnamed g q path
-  pub unopened : is_opened g (path_in q.folder path) ≡ false
+  pub unopened : is_opened g q path ≡ false
   pub ignores : q.ignores_unknown ≡ true
 
--- No changed path changes the manifest; each names a file, unless paths without one are ignored; nothing is unclear about what
--- builds discovered; no dyndep file and no manifest may change; and standard output took exactly the requested outputs of the
--- edges that the change touches.
+-- Changed paths do not change the manifest; each denotes a file, unless paths without a file are ignored; nothing is unclear about what
+-- builds discovered; dyndep files and manifests cannot change; and standard output received exactly the requested outputs of the edges that
+-- the change touches.
 pub record MissesNothing (known : DiscoveredGraph) (entries : List ReadStatement) (q : ChangeModel) (asked : Asked)
     (old new : SinkState) : Type 0 where
   pub keeps : (path : List ℕ) → Contains q.paths path
@@ -41,25 +43,25 @@ pub record MissesNothing (known : DiscoveredGraph) (entries : List ReadStatement
   pub clear : known.caveats.items ≡ []
   pub outputs : List ℕ
   pub lists : ListsOutputs known.graph asked (IsTouchedBy known q) outputs
-  pub shape : shape_text known entries (changed_numbers known.graph q) lists.edges ≡ []
+  pub shape : shape_text known entries (opened_files known.graph q.working) (changed_numbers known.graph q) lists.edges ≡ []
   pub took : Takes old new outputs
 
 -- Where `affected` ends with status 0, nothing is missed of the paths that are not ignored.
 abbrev pub DoneMissesNothing : Type 0
-DoneMissesNothing = (known : DiscoveredGraph) (entries : List ReadStatement) (options : AffectedModel) (input : List ℕ)
-    (old new : Sinks) → Ends (AnswersAffected known entries options input) old new Done
+DoneMissesNothing = (known : DiscoveredGraph) (entries : List ReadStatement) (folder : List ℕ) (options : AffectedModel)
+    (input : List ℕ) (old new : Sinks) → Ends (AnswersAffected known entries folder options input) old new Done
     → (paths : List (List ℕ)) × LeavesPaths options (given_paths options input) paths
-    × MissesNothing known entries (change_asked options paths) (outputs_asked options) old.output new.output
+    × MissesNothing known entries (change_asked options folder paths) (outputs_asked options) old.output new.output
 
--- Some paths have one text of warnings only.
+-- A list of paths has only one text of warnings.
 abbrev pub WarningsAreUnique : Type 0
 WarningsAreUnique = (g : GraphModel) (entries : List ReadStatement) (q : ChangeModel) (paths : List (List ℕ))
     (text other : List ℕ) → HasWarnings g entries q paths text → HasWarnings g entries q paths other → text ≡ other
 
 -- ---- what is listed is closed
 
--- Why an edge is listed beside others: one of its inputs changed, or is an output of one of them. With what builds discovered,
--- order-only inputs do not count, and it is also a reason that what the edge discovers is not known, or that an output of it changed.
+-- Why an edge is listed beside others: one of its inputs changed, or is an output of a listed edge. With discovered inputs, order-only
+-- inputs are ignored, and it is also a reason that the discovered inputs of the edge are not known, or that one of its outputs changed.
 abbrev pub HasReason : (has_discovered : Bool) → List EdgePaths → (changed : List (List ℕ)) → (unknown listed : List ℕ) → (edge : ℕ)
     → Type 0
 HasReason false edges changed unknown listed edge =

@@ -5,7 +5,9 @@ pub mod AskedWords
 pub mod Asks
 pub mod Audits
 pub mod AuditLaws
+pub mod BuildLogs
 pub mod Chains
+pub mod ChosenTests
 pub mod DiscoveredGraphs
 pub mod Drawings
 pub mod DrawingLaws
@@ -22,8 +24,11 @@ pub mod NeededFaults
 pub mod Pages
 pub mod Quotes
 pub mod Reports
+pub mod SameFiles
 pub mod Shape
+pub mod Stales
 pub mod Statuses
+pub mod TestLists
 -- how the code does that
 pub mod Inside
 -- what the contracts cite

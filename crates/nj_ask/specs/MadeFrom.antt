@@ -1,10 +1,10 @@
--- From which of some files the manifest is made.
+-- Which of the given files the manifest is made from.
 use Rattle.std.specs.Prelude.{◌≡◌, ◌↔◌, ℕ, Bool, true, List, [], ◌∷◌}
 use Rattle.nj_graph.specs.ReadingList.{ReadStatement}
 use Rattle.nj_graph.specs.Graph.{GraphModel, IsGraphOf}
 use Rattle.nj_ask.specs.Manifest.{IsMadeFrom}
 
--- of each of these files whether the manifest is made from it
+-- for each of the files, whether the manifest is made from it
 abbrev pub AreMadeFrom : GraphModel → List ReadStatement → (files : List ℕ) → (made : List Bool) → Type 0
 AreMadeFrom g stated [] made = made ≡ []
 AreMadeFrom g stated (file ∷ files) [] = ⊥

@@ -6,7 +6,7 @@ use Rattle.nj_ask.specs.declared.discovered.DiscoveredGraph.{DiscoveredGraph}
 use Rattle.nj_ask.specs.declared.doubts.EdgeFault.{EdgeFault}
 use Rattle.nj_ask.specs.Manifest.{is_one_of}
 
--- The first fault of a depfile whose edge is one of those that these files need; there is none if no such edge has a fault.
+-- The first fault of a depfile whose edge the given files need, if any.
 pub record IsFirstFault (known : DiscoveredGraph) (files : List (List ℕ)) (found : Option EdgeFault) : Type 0 where
   pub needed : List ℕ
   pub are_needed : (edge : ℕ) → Contains needed edge ↔ IsNeeded (edges_of known.graph) files edge

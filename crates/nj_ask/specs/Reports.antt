@@ -1,72 +1,93 @@
 -- Reports about a change of files.
-use Rattle.std.specs.Prelude.{◌≡◌, ℕ, Bool, true, false, Option, Some, None, List, [], ◌∷◌, ◌++◌, codes, map}
-use Rattle.std.specs.List.{filter_map}
+use Rattle.std.specs.Prelude.{◌≡◌, ◌≢◌, ◌⊎◌, ℕ, Bool, true, false, List, [], ◌∷◌, ◌++◌, codes, map, Contains}
+use Rattle.nj_changes.specs.FullPaths.{all_sought, has_one, sought}
 use Rattle.nj_graph.specs.ReadingList.{ReadStatement}
-use Rattle.nj_graph.specs.Graph.{GraphModel, files_of}
+use Rattle.nj_graph.specs.Graph.{GraphModel}
 use Rattle.nj_ask.specs.declared.discovered.DiscoveredGraph.{DiscoveredGraph}
-use Rattle.nj_ask.specs.Affected.{Asked, changed_file, line, path_in, ListsOutputs}
+use Rattle.nj_ask.specs.Affected.{Asked, line, ListsOutputs}
 use Rattle.nj_ask.specs.DiscoveredGraphs.{IsTouched}
+use Rattle.nj_ask.specs.Manifest.{opened_files, opened_paths, FeedsManifest}
+use Rattle.nj_ask.specs.SameFiles.{numbers_at, path_of}
 use Rattle.nj_ask.specs.Shape.{shape_text}
-use Rattle.nj_ask.specs.Manifest.{is_opened, path_of, IsMadeFrom}
 
--- the files at changed paths; a path that no edge names has none
-abbrev pub changed_files : GraphModel → (folder : Option (List ℕ)) → (paths : List (List ℕ)) → List ℕ
-changed_files g folder paths = filter_map (changed_file (files_of g) folder) paths
-
--- a changed path as a line that says that the manifest is made from it
-abbrev pub made_from_line : (path : List ℕ) → List ℕ
-made_from_line path = line (path ++ codes ": the manifest is made from it")
-
--- a change of files, as a reader of the graph describes it
+-- A change of files, as a reader of the graph describes it: paths, the directories that they may be in, and the working directory.
 pub record ChangeModel : Type 0 where
-  pub folder : Option (List ℕ)
+  pub working : List ℕ
+  pub folders : List (List ℕ)
   pub paths : List (List ℕ)
   pub ignores_unknown : Bool
 
--- no edge names a changed path
-abbrev pub IsUnnamed : GraphModel → ChangeModel → (path : List ℕ) → Type 0
-IsUnnamed g q path = changed_file (files_of g) q.folder path ≡ None
-
--- The warning about a changed path; it is empty where there is none.
-pub data IsWarning (g : GraphModel) (entries : List ReadStatement) (q : ChangeModel) (path : List ℕ) : (text : List ℕ) → Type 0 where
-  opened : IsUnnamed g q path → is_opened g (path_in q.folder path) ≡ true → IsWarning g entries q path (made_from_line path)
-  unknown : IsUnnamed g q path → is_opened g (path_in q.folder path) ≡ false → q.ignores_unknown ≡ false
-      → IsWarning g entries q path (line path)
-  ignored : IsUnnamed g q path → is_opened g (path_in q.folder path) ≡ false → q.ignores_unknown ≡ true
-      → IsWarning g entries q path []
-  made_from : {file : ℕ} → changed_file (files_of g) q.folder path ≡ Some file → IsMadeFrom g entries file
-      → IsWarning g entries q path (made_from_line path)
-  nothing : {file : ℕ} → changed_file (files_of g) q.folder path ≡ Some file → ¬ IsMadeFrom g entries file
-      → IsWarning g entries q path []
-
--- The text has the warnings about these paths, in their order.
-pub data HasWarnings (g : GraphModel) (entries : List ReadStatement) (q : ChangeModel) :
-    (paths : List (List ℕ)) → (text : List ℕ) → Type 0 where
-  none : HasWarnings g entries q [] []
-  last : {paths : List (List ℕ)} {text path warning : List ℕ} → HasWarnings g entries q paths text
-      → IsWarning g entries q path warning → HasWarnings g entries q (paths ++ path ∷ []) (text ++ warning)
-
--- the numbers of the changed files, and their paths
+-- the numbers of the changed files: those at the full paths of changed paths
 abbrev pub changed_numbers : GraphModel → ChangeModel → List ℕ
-changed_numbers g q = changed_files g q.folder q.paths
+changed_numbers g q = numbers_at g q.working (all_sought q.working q.folders q.paths)
 
 -- the paths of the changed files
 abbrev pub changed_paths : GraphModel → ChangeModel → List (List ℕ)
 changed_paths g q = map (path_of g) (changed_numbers g q)
 
+-- ---- one changed path
+
+-- the numbers of the files that it denotes
+abbrev pub files_meant : GraphModel → ChangeModel → (path : List ℕ) → List ℕ
+files_meant g q path = numbers_at g q.working (sought q.working q.folders path)
+
+-- no edge names it
+abbrev pub IsUnnamed : GraphModel → ChangeModel → (path : List ℕ) → Type 0
+IsUnnamed g q path = files_meant g q path ≡ []
+
+-- a file was opened at it
+abbrev pub is_opened : GraphModel → ChangeModel → (path : List ℕ) → Bool
+is_opened g q path = has_one (opened_paths g q.working) (sought q.working q.folders path)
+
+-- a file that it denotes feeds the manifest
+abbrev pub HasFeeding : GraphModel → List ReadStatement → ChangeModel → (path : List ℕ) → Type 0
+HasFeeding g entries q path =
+    (file : ℕ) × Contains (files_meant g q path) file × FeedsManifest g (opened_files g q.working) entries file
+
+-- the manifest is made from it
+abbrev pub ChangesManifest : GraphModel → List ReadStatement → ChangeModel → (path : List ℕ) → Type 0
+ChangesManifest g entries q path = (is_opened g q path ≡ true) ⊎ HasFeeding g entries q path
+
+-- as a line that says so
+abbrev pub made_from_line : (path : List ℕ) → List ℕ
+made_from_line path = line (path ++ codes ": the manifest is made from it")
+
+-- The warning about it; empty without a warning.
+pub data IsWarning (g : GraphModel) (entries : List ReadStatement) (q : ChangeModel) (path : List ℕ) : (text : List ℕ) → Type 0 where
+  made_from : ChangesManifest g entries q path → IsWarning g entries q path (made_from_line path)
+  unknown : ¬ ChangesManifest g entries q path → IsUnnamed g q path → q.ignores_unknown ≡ false
+      → IsWarning g entries q path (line path)
+  ignored : ¬ ChangesManifest g entries q path → IsUnnamed g q path → q.ignores_unknown ≡ true → IsWarning g entries q path []
+  nothing : ¬ ChangesManifest g entries q path → files_meant g q path ≢ [] → IsWarning g entries q path []
+
+-- ---- all of them
+
+-- The text has the warnings about the given paths, in their order.
+pub data HasWarnings (g : GraphModel) (entries : List ReadStatement) (q : ChangeModel) :
+    (paths : List (List ℕ)) → (text : List ℕ) → Type 0 where
+  none : HasWarnings g entries q [] []
+  next : {path warning : List ℕ} {paths : List (List ℕ)} {text : List ℕ} → IsWarning g entries q path warning
+      → HasWarnings g entries q paths text → HasWarnings g entries q (path ∷ paths) (warning ++ text)
+
 -- the edges that a change touches
 abbrev pub IsTouchedBy : DiscoveredGraph → ChangeModel → (edge : ℕ) → Type 0
 IsTouchedBy known q edge = IsTouched known (changed_paths known.graph q) edge
 
--- The two texts are the report of a change: the outputs of the edges that it touches; and why these may not be all, which is what
--- was not read of builds, the warnings about the paths, and the dyndep files that may change.
+-- The text says why edges that a change touches may be missing from the given ones: what was not read of builds, the warnings about the
+-- paths, and the dyndep files and manifests that may change.
+pub record HasCaveats (known : DiscoveredGraph) (entries : List ReadStatement) (q : ChangeModel) (edges : List ℕ) (text : List ℕ)
+    : Type 0 where
+  pub about : List ℕ
+  pub warns : HasWarnings known.graph entries q q.paths about
+  pub all : text
+      ≡ known.caveats.items ++ about
+      ++ shape_text known entries (opened_files known.graph q.working) (changed_numbers known.graph q) edges
+
+-- The two texts are the report of a change: the outputs of the edges that it touches, and why outputs may be missing.
 pub record IsReport (known : DiscoveredGraph) (entries : List ReadStatement) (q : ChangeModel) (asked : Asked) (outputs warnings : List ℕ)
     : Type 0 where
   pub lists : ListsOutputs known.graph asked (IsTouchedBy known q) outputs
-  pub about : List ℕ
-  pub warns : HasWarnings known.graph entries q q.paths about
-  pub all : warnings
-      ≡ known.caveats.items ++ about ++ shape_text known entries (changed_numbers known.graph q) lists.edges
+  pub caveats : HasCaveats known entries q lists.edges warnings
 
 -- the line that says that no changed path was given
 abbrev pub no_path_line : List ℕ

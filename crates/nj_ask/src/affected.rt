@@ -15,20 +15,20 @@ use nj_globs::Glob;
 use nj_questions::AffectedOptions;
 use std::alloc::{AllocError, Global};
 
-/// What is said where no path was given.
-const NO_PATH: &[u8] = b"ninja-graph: no changed path was given\n";
+/// The warning that no path was given.
+pub(crate) const NO_PATH: &[u8] = b"ninja-graph: no changed path was given\n";
 
-/// The answer about a change of the files at the paths that a text lists, without those that the
-/// globs match. Where it lists none, that is what is said, unless no path need be given: what should
-/// have listed the paths may have failed.
+/// The answer about a change of the files at the paths that `input` lists, without those that
+/// `globs` match, by the working directory `folder`. Where `input` lists no path, the answer says
+/// so, unless `options` allow it: whatever should have listed the paths may have failed.
 ///
 /// # Errors
 ///
-/// `Refused` if no rule has one of the names of the options, and `OutOfMemory` if an allocation
-/// failed.
+/// `Refused` if an option names an unknown rule, and `OutOfMemory` if an allocation failed.
 pub(crate) fn answer_affected(
     alloc: Global,
     known: &DiscoveredGraph,
+    folder: &[u8],
     options: &AffectedOptions,
     globs: &mut [Glob],
     input: &[u8],
@@ -36,7 +36,8 @@ pub(crate) fn answer_affected(
     requires edges { HasEdges known.now }
     requires globs { AreGlobsAsked (affected_model options.now) globs.now }
     ensures { OfStatements known.now.graph (λ entries.
-        Gives (AnswersAffected known.now entries (affected_model options.now) input.now) result) }
+        Gives (AnswersAffected known.now entries folder.now (affected_model options.now) input.now)
+        result) }
 {
     if let Some(name) = unknown_rule(&known.graph, &options.rules) {
         let name = name.as_bytes();
@@ -47,7 +48,7 @@ pub(crate) fn answer_affected(
         return Ok(without_paths(alloc)?);
     }
     let paths = without_ignored(alloc, globs, &given)?;
-    let change = change_of(options, &paths);
+    let change = change_of(options, folder, &paths);
     let listed = listed_by(options);
     Ok(report_of(alloc, known, change, listed)?)
 }
@@ -66,19 +67,24 @@ fn without_paths(alloc: Global) -> Result<Answer, AllocError>
     })
 }
 
-/// The change of the files at these paths.
-fn change_of<'a>(options: &'a AffectedOptions, paths: &'a [&'a [u8]]) -> Change<'a>
-    ensures { change_model result
-        ≡ change_asked (affected_model options.entry.now) (texts paths.entry.now) }
+/// The change of the files at the given paths, by the working directory.
+pub(crate) fn change_of<'a>(
+    options: &'a AffectedOptions,
+    folder: &'a [u8],
+    paths: &'a [&'a [u8]],
+) -> Change<'a>
+    ensures { change_model result ≡ change_asked (affected_model options.entry.now)
+        folder.entry.now (texts paths.entry.now) }
 {
     Change {
-        source_dir: options.source_dir.as_deref(),
+        working: folder,
+        folders: &options.source_dirs,
         paths,
         ignores_unknown: options.ignore_unknown,
     }
 }
 
-/// The outputs that are listed.
+/// Which outputs are listed.
 fn listed_by(options: &AffectedOptions) -> Listed<'_>
     ensures { asked_of result ≡ outputs_asked (affected_model options.entry.now) }
 {

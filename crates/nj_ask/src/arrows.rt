@@ -16,8 +16,7 @@ pub(crate) struct Drawing<'d, 'g> {
     pub nodes: &'d NodeList<'g>,
     /// The nodes of the edges that have arrows.
     pub listed: &'d NodeList<'g>,
-    /// By the numbers of edges, how many implicit inputs each has without those that builds
-    /// discovered.
+    /// By edge number, how many implicit inputs each edge has without the discovered ones.
     pub discoveries: &'d [EdgeDiscovery],
     /// Whether phony edges are folded with their outputs.
     pub folds: bool,
@@ -41,8 +40,8 @@ pub(crate) fn push_arrows(
     Ok(())
 }
 
-/// Appends the arrows of a node: those of its edge, if that is listed. Whatever nodes were linked
-/// before are forgotten.
+/// Appends the arrows of a node: those of its edge, if listed. Forgets which nodes were linked
+/// before.
 fn push_node_arrows<'g>(
     text: &mut Vec<u8>,
     drawing: Drawing<'_, 'g>,
@@ -82,8 +81,8 @@ fn push_edge_arrows<'g>(
     push_inputs(text, drawing, linked, edge)
 }
 
-/// Appends the arrows of an edge to its outputs, unless it is folded with them. Nodes that are linked
-/// already have theirs.
+/// Appends the arrows from an edge to its outputs, unless it is folded with them. Skips nodes that
+/// are linked already.
 fn push_outputs<'g>(
     text: &mut Vec<u8>,
     drawing: Drawing<'_, 'g>,
@@ -103,7 +102,7 @@ fn push_outputs<'g>(
     Ok(())
 }
 
-/// Appends the arrow of an edge to an output, if that is drawn and is not linked already.
+/// Appends the arrow from an edge to an output, if the output is drawn and not linked yet.
 fn push_output<'g>(
     text: &mut Vec<u8>,
     drawing: Drawing<'_, 'g>,
@@ -127,8 +126,8 @@ fn push_output<'g>(
     push_arrow(text, Node::Edge(edge), node, b"")
 }
 
-/// Appends the arrows of an edge from its inputs: those that builds discovered are dashed, and
-/// order-only ones are dotted. Nodes that are linked already have theirs.
+/// Appends the arrows to an edge from its inputs: discovered inputs are dashed, order-only ones
+/// dotted. Skips nodes that are linked already.
 fn push_inputs<'g>(
     text: &mut Vec<u8>,
     drawing: Drawing<'_, 'g>,
@@ -148,7 +147,7 @@ fn push_inputs<'g>(
     push_inputs_of(text, drawing, linked, edge, order_only, b" [style=dotted]")
 }
 
-/// How many implicit inputs an edge has without those that builds discovered.
+/// How many implicit inputs an edge has without the discovered ones.
 fn stated_count(discoveries: &[EdgeDiscovery], edge: Edge<'_>) -> usize
     ensures { result ≡ stated_count (slice_get discoveries.now (edge_of edge.entry).number)
         (edge_of edge.entry) }
@@ -159,7 +158,7 @@ fn stated_count(discoveries: &[EdgeDiscovery], edge: Edge<'_>) -> usize
     }
 }
 
-/// Appends the arrows of an edge from these inputs, in this style.
+/// Appends the arrows to an edge from the given inputs, in the given style.
 fn push_inputs_of<'g>(
     text: &mut Vec<u8>,
     drawing: Drawing<'_, 'g>,
@@ -180,8 +179,8 @@ fn push_inputs_of<'g>(
     Ok(())
 }
 
-/// Appends the arrow of an edge from an input, in this style, if that is drawn and is not linked
-/// already.
+/// Appends the arrow to an edge from an input, in the given style, if the input is drawn and not
+/// linked yet.
 fn push_input<'g>(
     text: &mut Vec<u8>,
     drawing: Drawing<'_, 'g>,
@@ -206,7 +205,7 @@ fn push_input<'g>(
     push_arrow(text, node, Node::Edge(edge), style)
 }
 
-/// Appends an arrow between two nodes, in this style.
+/// Appends an arrow between two nodes, in the given style.
 fn push_arrow(
     text: &mut Vec<u8>,
     from: Node<'_>,

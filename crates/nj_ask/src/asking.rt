@@ -1,11 +1,13 @@
 //! Questions about a graph, asked of its files.
 
-ghost use Rattle.std.specs.Prelude.{◌≡◌, Ok, IfOk, IfErr, None, Some};
-ghost use Rattle.nj_ask.specs.Cited.{SubjectModel, Ends, listed, seeks_undeclared, IsText, kind_lines, around, AsksWith, AnswersTask, IsGiven, IsTask, OfStatements, HasEdges, question_model, subject_model, FailsBy, Usage, Misuses, ended_status, sinks_of};
+ghost use Rattle.std.specs.Prelude.{◌≡◌, Ok, IfOk, IfErr, None, Some, map, true};
+ghost use Rattle.nj_ask.specs.Cited.{LacksBuildLog, LeavesAnswer, TakesBuildLog, no_lines, takes_build_log, HasStatements, LacksFiles, ReadsFiles, TestModel, sources_of, test_model, Fault, SubjectModel, Ends, listed, seeks_undeclared, IsText, kind_lines, around, AsksWith, AnswersTask, IsGiven, IsTask, OfStatements, HasEdges, question_model, subject_model, FailsBy, Usage, Misuses, ended_status, sinks_of};
 
 use crate::affected::answer_affected;
 use crate::answer::{Told, conclude, deliver};
 use crate::audit::{answer_audit, kinds_asked, list_kinds};
+use crate::build_logs::read_build_log;
+use crate::chosen_tests::answer_tests;
 use crate::discovered::DiscoveredGraph;
 use crate::draw::answer_draw;
 use crate::failure::Failure;
@@ -13,16 +15,22 @@ use crate::given::globs_asked;
 use crate::graph_reading::known_graph;
 use crate::json::answer_json;
 use crate::keys::{PageAsked, answer_keys, page_asked};
+use crate::stale::answer_stale;
 use crate::status::Status;
+use crate::test_list::read_tests;
+use crate::test_options::tests_asked;
 use crate::why::answer_why;
 use nj_audit::{Kind, Kinds};
+use nj_build_log::BuildLog;
 use nj_globs::Glob;
-use nj_graph::{FileSource, FileTimes};
+use nj_graph::{FileSource, FileTimes, Graph};
 use nj_questions::{
-    AffectedOptions, AuditOptions, DrawOptions, KeysOptions, Question, Subject, WhyOptions,
+    AffectedOptions, AuditOptions, DrawOptions, KeysOptions, Question, StaleOptions, Subject,
+    TestsOptions, WhyOptions,
 };
+use nj_tests::Test;
 use nj_tools::Sink;
-use std::alloc::Global;
+use std::alloc::{AllocError, Global};
 
 /// How a question ended, and the graph that it was about, if there was one: who ends the process need
 /// not free it.
@@ -40,7 +48,18 @@ enum Task<'q> {
     Draw(&'q DrawOptions),
     Json,
     Keys(&'q KeysOptions, PageAsked),
+    Stale(&'q StaleOptions),
+    Tests(&'q TestsOptions, Vec<Glob>),
     Why(&'q WhyOptions),
+}
+
+/// What is read for a question.
+#[derive(Drop)]
+struct FilesRead {
+    /// The tests of its list, if it has one.
+    tests: Vec<Test>,
+    /// Its graph.
+    known: Box<DiscoveredGraph>,
 }
 
 /// Asks a question of its files: writes the answer to standard output, and to standard error what may
@@ -69,15 +88,48 @@ pub(crate) fn ask<S: FileSource, B: FileSource, T: FileTimes, O: Sink, E: Sink>(
         Err(failure) => return without_graph(conclude(err, &Err(failure))),
     };
     let seeks = seeks_undeclared(&task);
-    match known_graph(alloc, files, built, times, &question.graph, seeks) {
-        Ok(known) => {
-            let told = perform(alloc, &known, times, folder, task, input, out);
+    match read_files(alloc, files, built, times, question, seeks) {
+        Ok(FilesRead { tests, known }) => {
+            let told = answer_by(
+                alloc, &known, built, times, folder, task, &tests, input, out,
+            );
             Ended {
                 status: conclude(err, &told),
                 known: Some(known),
             }
         }
         Err(failure) => without_graph(conclude(err, &Err(failure))),
+    }
+}
+
+/// Reads the list of tests of a question, if it has one, and then its graph. Finds undeclared inputs
+/// where `seeks` says so.
+fn read_files<S: FileSource, B: FileSource, T: FileTimes>(
+    alloc: Global,
+    files: &mut S,
+    built: &mut B,
+    times: &T,
+    question: &Question,
+    seeks: bool,
+) -> Result<FilesRead, Failure>
+    requires { seeks ≡ seeks_undeclared (subject_model question.now.subject) }
+    ensures read { IfOk result (λ read. ReadsFiles (question_model question.now)
+        (T.times times.now) (sources_of (S.state files.old) (B.state built.old))
+        (sources_of (S.state files.new) (B.state built.new)) read.known.value
+        (map test_model read.tests.items)) }
+    ensures stated { IfOk result (λ read. HasStatements read.known.value.graph) }
+    ensures edges { IfOk result (λ read. HasEdges read.known.value) }
+    ensures lacks { IfErr result (FailsBy Fault (LacksFiles (question_model question.now)
+        (T.times times.now) (sources_of (S.state files.old) (B.state built.old))
+        (sources_of (S.state files.new) (B.state built.new)))) }
+{
+    let tests = match read_tests(alloc, files, &question.subject) {
+        Ok(tests) => tests,
+        Err(failure) => return Err(failure),
+    };
+    match known_graph(alloc, files, built, times, &question.graph, seeks) {
+        Ok(known) => Ok(FilesRead { tests, known }),
+        Err(failure) => Err(failure),
     }
 }
 
@@ -122,6 +174,11 @@ fn task_of<'q>(alloc: Global, subject: &'q Subject) -> Result<Task<'q>, Failure>
             Ok(page) => Ok(Task::Keys(options, page)),
             Err(failure) => Err(failure),
         },
+        Subject::Stale(options) => Ok(Task::Stale(options)),
+        Subject::Tests(options) => match tests_asked(alloc, options) {
+            Ok(globs) => Ok(Task::Tests(options, globs)),
+            Err(failure) => Err(failure),
+        },
         Subject::Why(options) => Ok(Task::Why(options)),
     }
 }
@@ -137,26 +194,96 @@ fn seeks_undeclared(task: &Task<'_>) -> bool
     }
 }
 
-/// Writes the answer of a graph to standard output.
-fn perform<T: FileTimes, O: Sink>(
+/// Whether the build log is read.
+fn takes_build_log(task: &Task<'_>) -> bool
+    ensures { (subject : SubjectModel) → IsTask subject task.now
+        → result ≡ takes_build_log subject }
+{
+    match task {
+        Task::Stale(_) => true,
+        _ => false,
+    }
+}
+
+/// Reads the build log if the task takes it, and writes the answer of a graph to standard output.
+fn answer_by<B: FileSource, T: FileTimes, O: Sink>(
     alloc: Global,
     known: &DiscoveredGraph,
+    built: &mut B,
     times: &T,
     folder: &[u8],
     task: Task<'_>,
+    tests: &[Test],
     input: &[u8],
     out: &mut O,
 ) -> Result<Told, Failure>
     requires edges { HasEdges known.now }
     requires given { IsGiven task }
-    ensures { OfStatements known.now.graph (λ entries. AnswersTask known.now entries
-        (T.times times.now) folder.now task.entry input.now (O.state out.old) (O.state out.new)
-        result) }
+    ensures { OfStatements known.now.graph (λ entries. (subject : SubjectModel)
+        → IsTask subject task.entry → LeavesAnswer known.now entries (T.times times.now)
+        folder.now subject (map test_model tests.now) input.now (B.state built.old)
+        (B.state built.new) (O.state out.old) (O.state out.new) result) }
+{
+    let takes = takes_build_log(&task);
+    match build_log_if(alloc, built, &known.graph, takes) {
+        Ok(log) => perform(alloc, known, &log, times, folder, task, tests, input, out),
+        Err(failure) => Err(failure),
+    }
+}
+
+/// The build log of a graph, if it is read; else one without lines.
+fn build_log_if<B: FileSource>(
+    alloc: Global,
+    built: &mut B,
+    graph: &Graph,
+    takes: bool,
+) -> Result<BuildLog, Failure>
+    ensures read { OfStatements graph.now (λ entries. IfOk result (λ log.
+        TakesBuildLog takes entries (B.state built.old) (B.state built.new) log)) }
+    ensures lacks { OfStatements graph.now (λ entries. IfErr result (FailsBy Fault (λ line.
+        (takes ≡ true) × LacksBuildLog entries (B.state built.old) (B.state built.new) line))) }
+{
+    if takes {
+        return read_build_log(alloc, built, graph);
+    }
+    Ok(without_lines(alloc)?)
+}
+
+/// A build log without lines.
+fn without_lines(alloc: Global) -> Result<BuildLog, AllocError>
+    ensures { IfOk result (λ log. log ≡ no_lines) }
+{
+    match BuildLog::read(alloc, b"") {
+        Ok(log) => Ok(log),
+        Err(_) => Err(AllocError),
+    }
+}
+
+/// Writes the answer of a graph to standard output.
+fn perform<T: FileTimes, O: Sink>(
+    alloc: Global,
+    known: &DiscoveredGraph,
+    log: &BuildLog,
+    times: &T,
+    folder: &[u8],
+    task: Task<'_>,
+    tests: &[Test],
+    input: &[u8],
+    out: &mut O,
+) -> Result<Told, Failure>
+    requires edges { HasEdges known.now }
+    requires given { IsGiven task }
+    ensures { OfStatements known.now.graph (λ entries. AnswersTask known.now entries log.now
+        (T.times times.now) folder.now task.entry (map test_model tests.now) input.now
+        (O.state out.old) (O.state out.new) result) }
 {
     match task {
         Task::Affected(options, mut globs) => {
             let globs = globs.as_mut_slice();
-            deliver(out, answer_affected(alloc, known, options, globs, input))
+            deliver(
+                out,
+                answer_affected(alloc, known, folder, options, globs, input),
+            )
         }
         Task::Audit(options, kinds) => {
             deliver(
@@ -167,6 +294,14 @@ fn perform<T: FileTimes, O: Sink>(
         Task::Draw(options) => deliver(out, answer_draw(alloc, known, options)),
         Task::Json => answer_json(alloc, known, out),
         Task::Keys(options, page) => deliver(out, answer_keys(alloc, known, options, &page)),
+        Task::Stale(options) => deliver(out, answer_stale(alloc, known, log, times, options)),
+        Task::Tests(options, mut globs) => {
+            let globs = globs.as_mut_slice();
+            deliver(
+                out,
+                answer_tests(alloc, known, folder, options, globs, tests, input),
+            )
+        }
         Task::Why(options) => deliver(out, answer_why(alloc, known, options)),
     }
 }

@@ -68,7 +68,7 @@ pub(crate) fn kinds_asked(alloc: Global, options: &AuditOptions) -> Result<Kinds
     }
 }
 
-/// That a word names no kind.
+/// The refusal of a word that does not name a kind.
 fn unknown_kind(alloc: Global, word: &str) -> Failure
     ensures { FailsBy Usage (λ line. line ≡ unknown_kind_line word.now) result }
 {
@@ -83,8 +83,8 @@ fn unknown_kind(alloc: Global, word: &str) -> Failure
 
 // ---- the findings
 
-/// The findings of these kinds, where absolute paths below the directory are the build's, and a line
-/// for each source that cannot be looked up.
+/// The findings of the given kinds, and a line for each source that cannot be looked up. Absolute
+/// paths below `folder` are the build's.
 pub(crate) fn answer_audit<T: FileTimes>(
     alloc: Global,
     known: &DiscoveredGraph,
@@ -116,7 +116,7 @@ pub(crate) fn answer_audit<T: FileTimes>(
     })
 }
 
-/// A line for each source that cannot be looked up, and what is not known of builds.
+/// A line for each source that cannot be looked up, and the caveats about builds.
 fn warnings_of(
     alloc: Global,
     known: &DiscoveredGraph,
@@ -132,7 +132,7 @@ fn warnings_of(
     Ok(warnings)
 }
 
-/// The findings about the sources that cannot be looked up, if they were missing.
+/// The findings if the sources that cannot be looked up were missing.
 fn lookups_of<'g>(
     alloc: Global,
     graph: &'g Graph,
@@ -147,16 +147,16 @@ fn lookups_of<'g>(
     Ok(Findings::new(alloc))
 }
 
-/// Whether one of these flags is set.
+/// Whether any flag is set.
 fn is_any(flags: &[bool]) -> bool
     ensures { result ≡ list_any (λ flag. flag) flags.now }
 {
     flags.iter().any(|flag| *flag)
 }
 
-/// Whatever `audit` outputs has a line for exactly the findings about the manifest whose kinds are
-/// requested. Where it ends with status 0 there are none; each source that a command needs was looked
-/// up, if missing ones are requested; and nothing is unclear about what builds discovered.
+/// The output of `audit` has a line for exactly the findings about the manifest whose kinds are
+/// requested. On status 0 there are no findings; each source that a command needs was looked up, if
+/// missing sources are requested; and nothing is unclear about what builds discovered.
 pub fn audit_law()
     ensures lists { AuditListsFindings }
     ensures done { DoneFindsNothing }

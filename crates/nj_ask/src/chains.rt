@@ -8,10 +8,9 @@ use nj_graph::{ChainKinds, Edge, EdgeNo, File, Kind, PlaceRef, Step};
 use nj_tools::EdgeDiscovery;
 use std::alloc::{AllocError, Global};
 
-/// The lines of a shortest chain by which one file of a graph needs another, if there is one. Of
-/// several shortest ones it is the first when inputs are tried from left to right. It goes by
-/// inputs of these kinds alone. `discoveries` says by the number of an edge which of its inputs
-/// builds discovered.
+/// The lines of a shortest chain by which one file of a graph needs another, if any: of several
+/// shortest chains, the first when inputs are tried from left to right. It has only inputs of the
+/// given kinds. `discoveries` says by edge number which inputs builds discovered.
 pub(crate) fn chain_of(
     alloc: Global,
     from: File<'_>,
@@ -54,8 +53,8 @@ fn discovery_of(discoveries: &[EdgeDiscovery], edge: EdgeNo) -> Option<EdgeDisco
     discoveries.get(edge.0).copied()
 }
 
-/// Whether a step from an edge leads to an input that builds discovered: an implicit one after
-/// those that the edge had before.
+/// Whether a step from an edge leads to a discovered input: an implicit one after those that the
+/// edge had before.
 fn is_discovered(edge: Edge<'_>, discovery: Option<EdgeDiscovery>, step: Step) -> bool
     ensures { result ≡ is_discovered discovery (paths_of (edge_of edge.entry)) step }
 {
@@ -66,7 +65,8 @@ fn is_discovered(edge: Edge<'_>, discovery: Option<EdgeDiscovery>, step: Step) -
     matches!(step.kind, Some(Kind::Implicit)) && place >= discovery.stated_inputs
 }
 
-/// Appends the line of a step from a file: to an input of this kind of the edge that makes it.
+/// Appends the line of a step from a file to an input of the edge that makes it, with the input's
+/// kind.
 fn push_step(
     alloc: Global,
     lines: &mut Vec<u8>,

@@ -1,72 +1,91 @@
-//! The files at changed paths.
+//! The files at full paths.
 
-ghost use Rattle.std.specs.Prelude.{◌≡◌, ◌<◌, All, IfOk, IfSome, length, map, option_copied, option_map};
-ghost use Rattle.nj_ask.specs.Cited.{filter_map, files_of, changed_file, clean_name, path_in};
+ghost use Rattle.std.specs.Prelude.{◌≡◌, ◌<◌, ◌++◌, IfOk, OnOk, [], ◌∷◌, if◌then◌else◌, length, map};
+ghost use Rattle.nj_ask.specs.Cited.{AreAt, AreFilesOf, AreFullPaths, files_of, full_path_of, is_among, numbers_of};
 
-use nj_graph::{FileNo, Graph, TextFault, clean_path};
+use nj_changes::full_path;
+use nj_graph::{FileNo, Graph, HashKeys};
+use nj_names::Names;
 use std::alloc::{AllocError, Global};
 
-/// The files at the changed paths, without the paths that no edge names.
-pub fn known_files(
-    alloc: Global,
-    graph: &Graph,
-    source_dir: Option<&str>,
-    paths: &[&[u8]],
-) -> Result<Vec<FileNo>, AllocError>
-    ensures files { IfOk result (λ files. map (λ file. file.0) files.items
-        ≡ filter_map (λ path. changed_file (files_of graph.now) (option_copied source_dir.entry)
-        path.now) paths.now) }
-    ensures known { IfOk result (λ files.
-        All (λ file. file.0 < length (files_of graph.now)) files.items) }
-{
-    let mut files = Vec::new(alloc);
-    'paths: for path in paths {
-        let found = find_file(alloc, graph, source_dir, path)?;
-        match found {
-            Some(file) => files.push(file)?,
-            None => {}
-        }
-    }
-    Ok(files)
+/// The files of a graph that changed, and those that were opened.
+#[derive(Drop)]
+pub struct FilesAt {
+    pub changed: Vec<FileNo>,
+    pub opened: Vec<FileNo>,
 }
 
-/// The file at a path, which is in the source directory if one is given; `None` if no edge names
-/// it.
-pub fn find_file(
+/// The files of a graph whose full paths, by the working directory, are in either table.
+pub fn files_at(
     alloc: Global,
     graph: &Graph,
-    source_dir: Option<&str>,
-    path: &[u8],
-) -> Result<Option<FileNo>, AllocError>
-    ensures file { IfOk result (λ found. option_map (λ file. file.0) found
-        ≡ changed_file (files_of graph.now) (option_copied source_dir.entry) path.now) }
-    ensures known { IfOk result (λ found.
-        IfSome found (λ file. file.0 < length (files_of graph.now))) }
+    working: &[u8],
+    changed: &Names,
+    opened: &Names,
+) -> Result<FilesAt, AllocError>
+    ensures changed { IfOk result (λ files.
+        AreAt graph.now working.now changed.now files.changed.items) }
+    ensures opened { IfOk result (λ files.
+        AreAt graph.now working.now opened.now files.opened.items) }
 {
-    match clean_in(alloc, source_dir, path)? {
-        Some(clean) => Ok(graph.file_named(&clean)),
-        None => Ok(None),
+    let mut changed_files = Vec::new(alloc);
+    let mut opened_files = Vec::new(alloc);
+    'numbers: for number in 0..graph.file_count() {
+        let file = FileNo(number);
+        let full = full_path_of(alloc, graph, working, file)?;
+        push_if_at(&mut changed_files, changed, &full, file)?;
+        push_if_at(&mut opened_files, opened, &full, file)?;
     }
+    Ok(FilesAt {
+        changed: changed_files,
+        opened: opened_files,
+    })
 }
 
-/// A path, which is in the source directory if one is given, cleaned; `None` if it is empty.
-pub fn clean_in(
-    alloc: Global,
-    source_dir: Option<&str>,
-    path: &[u8],
-) -> Result<Option<Vec<u8>>, AllocError>
-    ensures { IfOk result (λ clean. option_map (λ path. path.items) clean
-        ≡ clean_name (path_in (option_copied source_dir.entry) path.now)) }
+/// Appends a file if its full path is in a table.
+fn push_if_at(
+    files: &mut Vec<FileNo>,
+    paths: &Names,
+    full: &[u8],
+    file: FileNo,
+) -> Result<(), AllocError>
+    ensures { OnOk result (files.new.items ≡ files.old.items
+        ++ (if is_among paths.now full.now then file ∷ [] else [])) }
 {
-    let mut whole = Vec::new(alloc);
-    if let Some(dir) = source_dir {
-        whole.extend_from_slice(dir.as_bytes())?;
-        whole.push(b'/')?;
+    if paths.number(full).is_some() {
+        files.push(file)?;
     }
-    whole.extend_from_slice(path)?;
-    match clean_path(alloc, &whole) {
-        Ok(clean) => Ok(Some(clean)),
-        Err(TextFault::EmptyPath) => Ok(None),
-        Err(TextFault::OutOfMemory) => Err(AllocError),
+    Ok(())
+}
+
+/// A table of the full paths of the given files, with the given keys.
+pub fn full_paths(
+    alloc: Global,
+    graph: &Graph,
+    keys: HashKeys,
+    working: &[u8],
+    files: &[FileNo],
+) -> Result<Names, AllocError>
+    requires { AreFilesOf graph.now files.now }
+    ensures { IfOk result (AreFullPaths graph.now working.now (numbers_of files.now)) }
+{
+    let mut names = Names::new(alloc, keys);
+    'files: for file in files {
+        let full = full_path_of(alloc, graph, working, *file)?;
+        names.add(&full)?;
     }
+    Ok(names)
+}
+
+/// The full path of a file.
+fn full_path_of(
+    alloc: Global,
+    graph: &Graph,
+    working: &[u8],
+    file: FileNo,
+) -> Result<Vec<u8>, AllocError>
+    requires { file.0 < length (files_of graph.now) }
+    ensures { IfOk result (λ full. full.items ≡ full_path_of graph.now working.now file.0) }
+{
+    full_path(alloc, working, graph.path(file))
 }

@@ -1,4 +1,4 @@
-//! The refusal of questions that meet a fault of a depfile.
+//! The refusal of questions that need a faulty depfile.
 
 ghost use Rattle.std.specs.Prelude.{◌<◌, All, IfErr, IfOk, length, map};
 ghost use Rattle.nj_ask.specs.Cited.{Fault, path_at, files_of, FailsBy, HasDepfileFault, IsClear};

@@ -1,4 +1,4 @@
-//! The deps log that a question is answered by.
+//! The deps log on which an answer is based.
 
 ghost use Rattle.std.specs.Prelude.{◌≡◌, ◌≢◌, ◌++◌, ◌∷◌, [], codes, false, true, IfErr, IfOk, option_copied, string_bytes};
 ghost use Rattle.nj_deps.specs.Faults.{fault_text};
@@ -21,13 +21,12 @@ pub(crate) struct ReadLog {
     pub(crate) path: String,
     /// Its records.
     pub(crate) log: DepsLog,
-    /// A line that says why these may not be all; empty if nothing is wrong with the file.
+    /// A line that says why records may be missing; empty if nothing is wrong with the file.
     pub(crate) caveat: Vec<u8>,
 }
 
-/// The deps log at a path that is named, or without one Ninja's own. That one counts as for Ninja:
-/// one that is not there has no records, and nor has one that is not a deps log, or of another
-/// version, which Ninja starts over.
+/// The deps log at the named path, or without a name Ninja's own. Ninja's own has no records if it
+/// is missing, or if Ninja would start it over: if it is not a deps log, or has another version.
 #[inline(never)]
 pub(crate) fn read_log<S: FileSource>(
     alloc: Global,
@@ -52,7 +51,7 @@ pub(crate) fn read_log<S: FileSource>(
     }
 }
 
-/// That the path of Ninja's own log is no text.
+/// The failure for a path of Ninja's own log that is not UTF-8.
 fn not_text(alloc: Global) -> Failure
     ensures { FailsBy Fault (λ line. line
         ≡ program_line (codes "the path of the deps log is not UTF-8")) result }
@@ -61,7 +60,7 @@ fn not_text(alloc: Global) -> Failure
     Failure::in_words(alloc, b"", b"", text, Status::Fault)
 }
 
-/// The log at a path that is named, which has to be one.
+/// The log at the named path. Refuses a missing file, and a file that is not a log.
 fn named_log<S: FileSource>(alloc: Global, built: &mut S, path: &str) -> Result<ReadLog, Failure>
     ensures read { IfOk result
         (ReadsAt true path.now (S.state built.old) (S.state built.new)) }
@@ -145,7 +144,7 @@ fn cut_line(alloc: Global, path: &str, log: &DepsLog, size: usize) -> Result<Vec
     Ok(line)
 }
 
-/// A log without records, with this caveat.
+/// A log without records, with the given caveat.
 fn without_records(alloc: Global, path: String, caveat: Vec<u8>) -> Result<ReadLog, AllocError>
     ensures path { IfOk result (λ read. read.path ≡ path) }
     ensures log { IfOk result (λ read. IsLogOf (opening 4) read.log) }
@@ -166,7 +165,7 @@ fn empty_log(alloc: Global) -> Result<DepsLog, AllocError>
 }
 
 /// The bytes of the file at a path; `None` if there is no file.
-fn bytes_at<S: FileSource>(
+pub(crate) fn bytes_at<S: FileSource>(
     alloc: Global,
     built: &mut S,
     path: &str,
@@ -183,14 +182,14 @@ fn bytes_at<S: FileSource>(
     }
 }
 
-/// What is said of a path.
-fn of_path(alloc: Global, path: &str, said: &[u8]) -> Failure
+/// The failure with the given words about a path.
+pub(crate) fn of_path(alloc: Global, path: &str, said: &[u8]) -> Failure
     ensures { FailsBy Fault (λ line. line ≡ program_line (path.now ++ said.now)) result }
 {
     Failure::in_words(alloc, b"", path.as_bytes(), said, Status::Fault)
 }
 
-/// Why the file at a path is no log.
+/// The failure for a file that is not a log.
 fn of_log(alloc: Global, path: &str, fault: DepsLogFault) -> Failure
     ensures { FailsBy Fault (λ line. (line
         ≡ program_line (path.now ++ codes ": " ++ fault_text fault)) × (fault ≢ OutOfMemory))
@@ -202,7 +201,7 @@ fn of_log(alloc: Global, path: &str, fault: DepsLogFault) -> Failure
     }
 }
 
-/// What is said of a path where there is no log for this reason. That memory ran out is none.
+/// The text after the path of a file that is not a log. Fails if memory ran out.
 fn log_text(alloc: Global, fault: DepsLogFault) -> Result<String, AllocError>
     ensures text { IfOk result (λ text.
         string_bytes text ≡ codes ": " ++ fault_text fault) }
@@ -214,7 +213,7 @@ fn log_text(alloc: Global, fault: DepsLogFault) -> Result<String, AllocError>
     format!(in alloc; ": {fault}")
 }
 
-/// Where Ninja has its deps log: `.ninja_deps`, in the directory that the main scope's `builddir`
+/// The path of Ninja's deps log: `.ninja_deps`, in the directory that the main scope's `builddir`
 /// names after all statements ("Deps" in the Ninja manual).
 fn own_path(alloc: Global, graph: &Graph) -> Result<Vec<u8>, AllocError>
     ensures { OfStatements graph.now (λ entries. IfOk result (λ path. path.items
@@ -232,7 +231,7 @@ fn own_path(alloc: Global, graph: &Graph) -> Result<Vec<u8>, AllocError>
 }
 
 /// The value of `builddir` in the main scope after all statements.
-fn builddir(graph: &Graph) -> Option<&[u8]>
+pub(crate) fn builddir(graph: &Graph) -> Option<&[u8]>
     ensures { OfStatements graph.now (λ entries.
         option_copied result ≡ value_if_bound entries (0 ∷ []) (codes "builddir")) }
 {

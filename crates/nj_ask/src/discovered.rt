@@ -20,16 +20,16 @@ pub struct DiscoveredGraph {
     pub has_discovered: bool,
     /// The edges whose discovered inputs are not known.
     pub unknown: Vec<EdgeNo>,
-    /// The faults of depfiles, by the numbers of their edges.
+    /// The faults of depfiles, by edge number.
     pub faults: Vec<EdgeFault>,
-    /// By the numbers of edges, how many implicit inputs each has without those that were
-    /// discovered, and whether these are known. Empty if they are not requested.
+    /// By edge number, how many implicit inputs each edge has without the discovered ones, and
+    /// whether the discovered ones are known. Empty if they are not requested.
     pub discoveries: Vec<EdgeDiscovery>,
-    /// Why these inputs may not be as the last build discovered them, a line each.
+    /// Why the discovered inputs may differ from those of the last build, a line each.
     pub caveats: Vec<u8>,
-    /// Those inputs of the deps log that edges do not declare, if they are requested.
+    /// The inputs in the deps log that edges do not declare, if they are requested.
     pub undeclared: Vec<UndeclaredInput>,
-    /// Keys of hashes that whoever wrote the files does not know.
+    /// Hash keys that the authors of the files do not know.
     pub keys: HashKeys,
 }
 

@@ -21,16 +21,16 @@ pub struct EdgeFault {
 pub struct Doubts {
     /// The edges whose discovered inputs are not known, by number.
     pub edges: Vec<EdgeNo>,
-    /// The faults of depfiles, by the numbers of their edges.
+    /// The faults of depfiles, by edge number.
     pub faults: Vec<EdgeFault>,
     /// A line for each depfile with a fault, and for each output whose time cannot be read.
     pub lines: Vec<u8>,
-    /// By the numbers of edges, how many implicit inputs each has without those that were
-    /// discovered, and whether these are known.
+    /// By edge number, how many implicit inputs each edge has without the discovered ones, and
+    /// whether the discovered ones are known.
     pub discoveries: Vec<EdgeDiscovery>,
 }
 
-/// What is not known of these discoveries.
+/// What is not known of the discoveries.
 pub fn doubts_of(alloc: Global, graph: &Graph, found: &Discoveries) -> Result<Doubts, AllocError>
     requires { length found.now.edges ≡ length (edges_of graph.now) }
     ensures edges { IfOk result (λ doubts. map (λ edge. edge.0) doubts.edges.items
@@ -62,7 +62,7 @@ pub fn doubts_of(alloc: Global, graph: &Graph, found: &Discoveries) -> Result<Do
     })
 }
 
-/// What builds discovered for each edge of a graph to which it is not joined yet.
+/// What builds discovered for each edge of a graph, before it is joined to the graph.
 fn discoveries_of(
     alloc: Global,
     graph: &Graph,
@@ -93,8 +93,7 @@ fn state_of(verdict: &Verdict) -> DiscoveryState
     }
 }
 
-/// Adds an edge unless its discovered inputs are known, and the line that says why not, if there is
-/// one.
+/// Adds an edge unless its discovered inputs are known, and the line that says why not, if any.
 fn push_edge(
     alloc: Global,
     edges: &mut Vec<EdgeNo>,
@@ -129,7 +128,7 @@ fn push_no_time(edge: Edge<'_>, lines: &mut Vec<u8>) -> Result<(), AllocError>
     Ok(())
 }
 
-/// The faults of depfiles, by the numbers of their edges.
+/// The faults of depfiles, by edge number.
 fn faults_of(
     alloc: Global,
     graph: &Graph,

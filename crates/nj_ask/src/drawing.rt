@@ -19,8 +19,8 @@ const HEAD: &[u8] = b"digraph ninja {\n  rankdir=LR;\n  node [shape=box];\n";
 /// The drawing of files: of the edges that they need, nearest first, or of those that a change of
 /// them touches, in reading order.
 ///
-/// Takes time in proportion to these edges and their files, but for passes over all edges of the
-/// graph that find them.
+/// Takes time in proportion to those edges and their files, plus passes over all edges of the graph
+/// to find them.
 pub(crate) fn drawing_of(
     alloc: Global,
     known: &DiscoveredGraph,
@@ -42,7 +42,7 @@ pub(crate) fn drawing_of(
     drawing_with(alloc, known, files, needed.edges().numbers(), options)
 }
 
-/// The drawing of files with these edges.
+/// The drawing of files with the given edges.
 fn drawing_with(
     alloc: Global,
     known: &DiscoveredGraph,
@@ -69,7 +69,7 @@ fn drawing_with(
     drawing_text(alloc, drawing, graph.edges_at(numbers))
 }
 
-/// The text of a drawing with these edges.
+/// The text of a drawing with the given edges.
 fn drawing_text(
     alloc: Global,
     drawing: Drawing<'_, '_>,
@@ -119,7 +119,7 @@ fn push_count(text: &mut Vec<u8>, count: usize, all: usize) -> Result<(), AllocE
     text.extend_from_slice(line.as_bytes())
 }
 
-/// How many of these edges are drawn.
+/// How many of the edges are drawn.
 fn drawn_count(nodes: &NodeList<'_>, edges: Edges<'_>) -> usize
     ensures { result ≡ length (filter (λ edge. has_node nodes.now (of_edge edge)) edges.entry) }
 {

@@ -2,9 +2,9 @@
 
 ghost use Rattle.nj_ask.specs.Cited.{EndsAreDrawn, NeededAreDrawn, NodesAreDistinct, NodesAreLimited};
 
-/// No two nodes of a drawing are that of the same edge or file, and with a limit there are no more
-/// than that; each arrow leads between nodes that have a line; and where the limits leave nothing
-/// out, each edge is drawn that the files need.
+/// Each node of a drawing stands for a different edge or file, and there are never more nodes than
+/// the limit; each arrow connects nodes that have a line; and where the limits leave nothing out,
+/// each edge that the files need is drawn.
 pub fn drawing_law()
     ensures distinct { NodesAreDistinct }
     ensures limited { NodesAreLimited }

@@ -8,10 +8,10 @@ use crate::status::Status;
 use nj_graph::{Cause, GraphFault};
 use std::alloc::{AllocError, AllocFailed, Global};
 
-/// Why there is no answer, or no more of one.
+/// Why there is no answer, or only part of one.
 #[derive(Drop)]
 pub(crate) enum Failure {
-    /// This line says why, and this is the status. The line has its end.
+    /// The line that says why, with its end, and the status.
     Refused(Vec<u8>, Status),
     /// Standard output failed.
     Write,
@@ -20,7 +20,7 @@ pub(crate) enum Failure {
 }
 
 impl Failure {
-    /// That a graph has this fault, or a question about it.
+    /// The failure for a fault of a graph, or of a question about it.
     pub fn of_fault(alloc: Global, fault: &GraphFault) -> Failure
         ensures { FailsBy Fault (SaysFault fault.now) result }
     {
@@ -52,7 +52,12 @@ impl Failure {
 }
 
 /// The program's name, and a name between two texts.
-fn in_words(alloc: Global, before: &[u8], name: &[u8], after: &[u8]) -> Result<Vec<u8>, AllocError>
+pub(crate) fn in_words(
+    alloc: Global,
+    before: &[u8],
+    name: &[u8],
+    after: &[u8],
+) -> Result<Vec<u8>, AllocError>
     ensures { IfOk result (λ text. text.items
         ≡ codes "ninja-graph: " ++ before.now ++ name.now ++ after.now) }
 {
@@ -63,7 +68,7 @@ fn in_words(alloc: Global, before: &[u8], name: &[u8], after: &[u8]) -> Result<V
     Ok(text)
 }
 
-/// The refusal with a line that lacks its end.
+/// The refusal with a line whose end is still missing.
 pub(crate) fn refused(text: Vec<u8>, status: Status) -> Failure
     ensures { FailsBy status (λ made. made ≡ line text.items) result }
 {

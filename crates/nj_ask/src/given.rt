@@ -1,8 +1,8 @@
-//! The changed paths that are given, and the globs of those that are ignored.
+//! The given changed paths, and the globs of those to ignore.
 
 ghost use Rattle.std.specs.Prelude.{◌≡◌, ◌++◌, codes, None, Some, IfErr, IfOk, map, string_bytes};
 ghost use Rattle.nj_globs.specs.Faults.{fault_text};
-ghost use Rattle.nj_ask.specs.Cited.{affected_model, AreGlobsAsked, folder_misuse, given_paths, pattern_line, FailsBy, MisusesAffected, SaysPattern, Usage};
+ghost use Rattle.nj_ask.specs.Cited.{affected_model, is_empty, list_any, AreGlobsAsked, folder_misuse, given_paths, pattern_line, FailsBy, MisusesAffected, SaysPattern, Usage};
 
 use crate::failure::Failure;
 use crate::status::Status;
@@ -11,7 +11,7 @@ use nj_globs::{Glob, GlobFault};
 use nj_questions::AffectedOptions;
 use std::alloc::{AllocError, Global};
 
-/// The changed paths that a text lists: lines, or paths that are each ended by a zero byte.
+/// The changed paths that a text lists: lines, or paths that each end with a zero byte.
 pub(crate) fn given_paths<'i>(
     alloc: Global,
     options: &AffectedOptions,
@@ -26,8 +26,8 @@ pub(crate) fn given_paths<'i>(
     lines_of(alloc, input)
 }
 
-/// The globs of the paths that are ignored. Refuses options whose directory has no name, and then
-/// those with a pattern that is no glob.
+/// The globs of the paths to ignore. Refuses a directory without a name, and then a pattern that is
+/// not a glob.
 pub(crate) fn globs_asked(alloc: Global, options: &AffectedOptions) -> Result<Vec<Glob>, Failure>
     ensures asked { IfOk result (λ globs.
         AreGlobsAsked (affected_model options.now) globs.items) }
@@ -44,26 +44,35 @@ pub(crate) fn globs_asked(alloc: Global, options: &AffectedOptions) -> Result<Ve
     }
 }
 
-/// Refuses options whose directory has no name.
+/// Refuses a directory without a name.
 fn check_folder(alloc: Global, options: &AffectedOptions) -> Result<(), Failure>
     ensures allowed { IfOk result (λ _.
-        folder_misuse (affected_model options.now).source_dir ≡ None) }
+        folder_misuse (affected_model options.now).source_dirs ≡ None) }
     ensures refused { IfErr result (FailsBy Usage (λ line.
-        folder_misuse (affected_model options.now).source_dir ≡ Some line)) }
+        folder_misuse (affected_model options.now).source_dirs ≡ Some line)) }
 {
-    match &options.source_dir {
-        Some(folder) if folder.is_empty() => Err(Failure::in_words(
-            alloc,
-            b"'",
-            folder.as_bytes(),
-            b"' of --source-dir is no directory",
-            Status::Usage,
-        )),
-        _ => Ok(()),
+    if has_nameless(&options.source_dirs) {
+        let text = b"' of --source-dir is no directory";
+        return Err(Failure::in_words(alloc, b"'", b"", text, Status::Usage));
     }
+    Ok(())
 }
 
-/// That a pattern is no glob, for this reason.
+/// Whether any of the directories has no name.
+fn has_nameless(folders: &[String]) -> bool
+    ensures { result ≡ list_any is_empty (map string_bytes folders.now) }
+{
+    folders.iter().any(|folder| is_nameless(folder.as_bytes()))
+}
+
+/// Whether a name is empty.
+fn is_nameless(name: &[u8]) -> bool
+    ensures { result ≡ is_empty name.now }
+{
+    name.is_empty()
+}
+
+/// The refusal of a pattern that is not a glob.
 fn wrong_pattern(alloc: Global, fault: PatternFault<'_>) -> Failure
     ensures { FailsBy Usage (SaysPattern fault.entry) result }
 {
@@ -73,7 +82,7 @@ fn wrong_pattern(alloc: Global, fault: PatternFault<'_>) -> Failure
     }
 }
 
-/// That a pattern has this fault.
+/// The refusal of a pattern with the given fault.
 fn no_glob(alloc: Global, pattern: &str, fault: GlobFault) -> Failure
     ensures { FailsBy Usage (λ line. line ≡ pattern_line pattern.now fault) result }
 {
@@ -86,7 +95,7 @@ fn no_glob(alloc: Global, pattern: &str, fault: GlobFault) -> Failure
     }
 }
 
-/// What is said of a pattern with this fault.
+/// The text after a pattern with the given fault.
 fn glob_text(alloc: Global, fault: GlobFault) -> Result<String, AllocError>
     ensures { IfOk result (λ text.
         string_bytes text ≡ codes "' of --ignore has " ++ fault_text fault) }

@@ -17,10 +17,10 @@ use nj_graph::{
 use nj_questions::GraphOptions;
 use std::alloc::{AllocError, Global};
 
-/// Reads the main file and all that it includes; then dyndep files and what builds discovered, if
-/// they are requested. Manifests and dyndep files come from `files`, and the deps log and depfiles
-/// from `built`. Where `seeks_undeclared` says so, finds those inputs of the deps log that edges do
-/// not declare.
+/// Reads the main file and all that it includes; then, if requested, dyndep files and what builds
+/// discovered. Manifests and dyndep files come from `files`, and the deps log and depfiles from
+/// `built`. With `seeks_undeclared`, also finds the inputs in the deps log that edges do not
+/// declare.
 ///
 /// # Errors
 ///
@@ -56,7 +56,7 @@ pub fn known_graph<S: FileSource, B: FileSource, T: FileTimes>(
 }
 
 /// The main file and all that it includes; with `--dyndep` joined with all dyndep files, and where
-/// the inputs that builds discovered are requested, with those that are there.
+/// discovered inputs are requested, with the dyndep files that are present.
 #[inline(never)]
 fn read_manifest<S: FileSource, T: FileTimes>(
     alloc: Global,
@@ -79,8 +79,8 @@ fn read_manifest<S: FileSource, T: FileTimes>(
     }
 }
 
-/// The main file and all that it includes. Files that include one another are read by calls within
-/// calls, so this is a call of few functions, none of which has a graph on the stack.
+/// The main file and all that it includes. Included files are read by recursion, so few functions
+/// are above this call, and none of them has a graph on the stack.
 #[inline(never)]
 fn load_main<S: FileSource>(
     alloc: Global,
@@ -98,7 +98,7 @@ fn load_main<S: FileSource>(
     }
 }
 
-/// The same files on the heap.
+/// The loaded files on the heap.
 #[inline(never)]
 fn boxed(alloc: Global, loaded: Loaded) -> Result<Box<Loaded>, AllocError>
     ensures { IfOk result (λ at. at.value ≡ loaded) }
@@ -106,7 +106,7 @@ fn boxed(alloc: Global, loaded: Loaded) -> Result<Box<Loaded>, AllocError>
     Ok(Box::new(alloc, loaded)?)
 }
 
-/// These files with the dyndep files that the options join.
+/// The loaded files with the dyndep files that the options request.
 #[inline(never)]
 fn with_dyndeps<S: FileSource, T: FileTimes>(
     alloc: Global,
@@ -137,7 +137,7 @@ fn asks_discovered(asked: &GraphOptions) -> bool
     asked.deps || asked.log.is_some()
 }
 
-/// The path of the deps log that is named.
+/// The path of the deps log that the options name, if any.
 fn named_log(asked: &GraphOptions) -> Option<&str>
     ensures { option_copied result ≡ (asked_graph asked.now).log }
 {
@@ -147,7 +147,7 @@ fn named_log(asked: &GraphOptions) -> Option<&str>
     }
 }
 
-/// The graph of these files, with what builds discovered if it is requested.
+/// The graph of the loaded files, with what builds discovered if that is requested.
 #[inline(never)]
 fn known_by<B: FileSource, T: FileTimes>(
     alloc: Global,
@@ -176,7 +176,7 @@ fn known_by<B: FileSource, T: FileTimes>(
     Ok(undiscovered(alloc, graph, keys))
 }
 
-/// A graph with what builds discovered, by the deps log that is named or Ninja's own.
+/// A graph with what builds discovered, by the named deps log or Ninja's own.
 #[inline(never)]
 fn with_log<B: FileSource, T: FileTimes>(
     alloc: Global,
@@ -201,7 +201,7 @@ fn with_log<B: FileSource, T: FileTimes>(
     }
 }
 
-/// The same by a log that was read.
+/// The same, by a log that was read.
 #[inline(never)]
 fn with_log_read<B: FileSource, T: FileTimes>(
     alloc: Global,
@@ -244,7 +244,7 @@ fn undiscovered(alloc: Global, graph: Graph, keys: HashKeys) -> DiscoveredGraph
     }
 }
 
-/// The inputs of the deps log that edges do not declare, if they are requested.
+/// The inputs in the deps log that edges do not declare, if they are requested.
 #[inline(never)]
 fn undeclared_of(
     alloc: Global,
@@ -263,8 +263,8 @@ fn undeclared_of(
     Ok(Vec::new(alloc))
 }
 
-/// The graph with the inputs that builds discovered, by this deps log and by depfiles and times, and
-/// with these inputs that edges do not declare.
+/// The graph with the inputs that builds discovered, by the deps log, depfiles and times, and with
+/// the given undeclared inputs.
 #[inline(never)]
 fn discover<B: FileSource, T: FileTimes>(
     alloc: Global,
@@ -293,7 +293,7 @@ fn discover<B: FileSource, T: FileTimes>(
     }
 }
 
-/// A graph with discovered inputs, and what is not known of these and of the deps log.
+/// A graph with discovered inputs, and what is not known of the inputs and of the deps log.
 fn with_doubts(
     discovered: Discovered,
     caveat: Vec<u8>,
@@ -324,7 +324,7 @@ fn with_doubts(
     })
 }
 
-/// That the inputs of the deps log at a path and of depfiles make no graph.
+/// The failure where the inputs of the deps log at a path and of depfiles do not form a graph.
 fn of_discovered(alloc: Global, path: &str, fault: &GraphFault) -> Failure
     ensures { FailsBy Fault (λ line. line ≡ discovered_line path.now fault.now) result }
 {
@@ -337,7 +337,7 @@ fn of_discovered(alloc: Global, path: &str, fault: &GraphFault) -> Failure
     }
 }
 
-/// The text that says so.
+/// The text of that failure.
 fn discovered_text(alloc: Global, path: &str, fault: &GraphFault) -> Result<Vec<u8>, AllocError>
     ensures { IfOk result (λ text. line text.items ≡ discovered_line path.now fault.now) }
 {

@@ -10,13 +10,13 @@ use crate::shape::caveat_lines;
 use nj_tools::{Sink, ToolFault, write_edge_objects};
 use std::alloc::{AllocError, Global};
 
-/// Writes each edge as an object of JSON, a line each, by number.
+/// Writes each edge as a JSON object, a line each, by number.
 ///
 /// # Errors
 ///
-/// `Refused` if a string of an edge is not UTF-8: the sink took the objects before it. `Write` if
-/// the sink failed, and `OutOfMemory` if an allocation failed; the sink has then taken a prefix of
-/// the text.
+/// `Refused` if a string of an edge is not UTF-8: the sink received the objects before it. `Write`
+/// if the sink failed, and `OutOfMemory` if an allocation failed; the sink has then received a
+/// prefix of the text.
 pub(crate) fn answer_json<O: Sink>(
     alloc: Global,
     known: &DiscoveredGraph,

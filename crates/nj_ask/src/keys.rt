@@ -17,10 +17,10 @@ use nj_needs::{Mark, MarkFault};
 use nj_questions::KeysOptions;
 use std::alloc::{AllocError, Global};
 
-/// What the options of `keys` say before any file is read.
+/// What the options of `keys` specify before any file is read.
 #[derive(Drop)]
 pub(crate) struct PageAsked {
-    /// The directories for which numbers stand.
+    /// The directories that numbers stand for.
     pub bases: Bases,
     /// Where the page begins.
     pub mark: Mark,
@@ -28,7 +28,7 @@ pub(crate) struct PageAsked {
 
 // ---- the options
 
-/// The bases and the mark of the options: of the start without one.
+/// The bases and the mark of the options; by default the mark of the start.
 pub(crate) fn page_asked(alloc: Global, options: &KeysOptions) -> Result<PageAsked, Failure>
     ensures allowed { IfOk result (λ _. keys_misuse (keys_model options.now) ≡ None) }
     ensures bases { IfOk result (λ asked.
@@ -52,7 +52,7 @@ pub(crate) fn page_asked(alloc: Global, options: &KeysOptions) -> Result<PageAsk
     }
 }
 
-/// The directories at these paths, which have to be absolute.
+/// The directories at the given paths, which have to be absolute.
 fn bases_of(alloc: Global, paths: &[String]) -> Result<Bases, Failure>
     ensures bases { IfOk result (λ bases.
         bases ≡ map clean_path_of (map string_bytes paths.now)) }
@@ -102,7 +102,7 @@ fn mark_of(alloc: Global, text: &str) -> Result<Mark, Failure>
     }
 }
 
-/// That a text is not read as a mark, for this reason.
+/// The refusal of a text that cannot be read as a mark.
 fn unread_mark(alloc: Global, text: &str, fault: MarkFault) -> Failure
     ensures { FailsBy Usage (λ line. (fault ≢ MarkFault.OutOfMemory)
         × (line ≡ program_line (codes "bad mark '" ++ text.now ++ codes "'"))) result }
@@ -115,7 +115,7 @@ fn unread_mark(alloc: Global, text: &str, fault: MarkFault) -> Failure
     }
 }
 
-/// That a mark has this fault.
+/// The failure for a mark with the given fault.
 fn mark_failure(alloc: Global, fault: MarkFault, status: Status) -> Failure
     ensures { FailsBy status (λ line. (fault ≢ MarkFault.OutOfMemory)
         × (line ≡ program_line (fault_text fault))) result }
@@ -157,7 +157,7 @@ pub(crate) fn answer_keys(
     Ok(page_answer(alloc, known, page)?)
 }
 
-/// The files that words mean; the default ones if there are none.
+/// The files that words denote; without words, the defaults.
 pub(crate) fn targets_asked<'k>(
     alloc: Global,
     known: &'k DiscoveredGraph,

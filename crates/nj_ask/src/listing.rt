@@ -9,7 +9,7 @@ use std::alloc::{AllocError, Global};
 /// Which outputs are listed.
 #[derive(Clone, Copy)]
 pub struct Listed<'a> {
-    /// The rules of their edges; any rule if there are none.
+    /// The rules of their edges; any rule if empty.
     pub rules: &'a [String],
     /// How their paths begin.
     pub prefix: &'a str,
@@ -17,7 +17,7 @@ pub struct Listed<'a> {
     pub no_phony: bool,
 }
 
-/// The first of these names that no rule has, in any scope; `phony` is a rule too.
+/// The first of the given names that no rule of any scope has; `phony` is a rule too.
 pub fn unknown_rule<'a>(graph: &Graph, names: &'a [String]) -> Option<&'a str>
     ensures { option_map (λ name. name.now) result
         ≡ unknown_rule graph.now (map string_bytes names.entry.now) }
@@ -30,14 +30,14 @@ pub fn unknown_rule<'a>(graph: &Graph, names: &'a [String]) -> Option<&'a str>
     None
 }
 
-/// Whether a rule of any scope has this name.
+/// Whether a rule of any scope has the given name.
 fn is_rule(graph: &Graph, name: &[u8]) -> bool
     ensures { result ≡ is_among (rule_names graph.now) name.now }
 {
     graph.rules().iter().any(|rule| name == rule.name())
 }
 
-/// The requested outputs of these edges, a line each, in the order of the edges.
+/// The requested outputs of the given edges, a line each, in the order of the edges.
 pub fn list_outputs(
     alloc: Global,
     edges: Edges<'_>,
@@ -64,7 +64,7 @@ fn push_outputs(lines: &mut Vec<u8>, edge: Edge<'_>, listed: Listed<'_>) -> Resu
     Ok(())
 }
 
-/// Appends the paths of files that begin in this way.
+/// Appends the paths of files that begin with the prefix.
 fn push_paths(lines: &mut Vec<u8>, files: Files<'_>, prefix: &str) -> Result<(), AllocError>
     ensures { OnOk result (lines.new.items ≡ lines.old.items
         ++ path_lines prefix.now files.entry) }
@@ -75,7 +75,7 @@ fn push_paths(lines: &mut Vec<u8>, files: Files<'_>, prefix: &str) -> Result<(),
     Ok(())
 }
 
-/// Appends a path as a line if it begins in this way.
+/// Appends a path as a line if it begins with the prefix.
 fn push_path(lines: &mut Vec<u8>, path: &[u8], prefix: &str) -> Result<(), AllocError>
     ensures { OnOk result (lines.new.items ≡ lines.old.items
         ++ line_of_output prefix.now path.now) }
@@ -102,14 +102,14 @@ pub fn rule_of(edge: Edge<'_>) -> &[u8]
     edge.graph().rule_name(edge.number())
 }
 
-/// Whether a rule is one of these, or there are none.
+/// Whether a rule is among the given ones, or none are given.
 fn is_of_rules(rules: &[String], name: &[u8]) -> bool
     ensures { result ≡ is_of_rules (map string_bytes rules.now) name.now }
 {
     rules.is_empty() || is_named(rules, name)
 }
 
-/// Whether one of these words is a name.
+/// Whether a name is among the words.
 fn is_named(words: &[String], name: &[u8]) -> bool
     ensures { result ≡ is_among (map string_bytes words.now) name.now }
 {

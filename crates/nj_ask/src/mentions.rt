@@ -8,11 +8,10 @@ use nj_graph::{Edge, Edges, Files};
 use nj_questions::DrawOptions;
 use std::alloc::{AllocError, Global};
 
-/// The inputs that an edge mentions at most, unless an option says otherwise.
+/// How many inputs an edge mentions at most, unless an option says otherwise.
 const MOST_INPUTS: usize = 12;
 
-/// The nodes of the drawing of these edges, for these files, in the order in which they are
-/// mentioned first.
+/// The nodes of the drawing of the given files and edges, in the order of their first mention.
 ///
 /// Takes time in proportion to the edges, and to the inputs that they mention until the limit is
 /// reached.
@@ -48,8 +47,8 @@ fn is_full(nodes: &NodeList<'_>, limit: Option<usize>) -> bool
     }
 }
 
-/// Adds the nodes that an edge mentions: its own, those of its outputs, and those of the first of
-/// its inputs. If needed edges are drawn, it mentions nothing unless an output is there.
+/// Adds the nodes that an edge mentions: its own, and those of its outputs and first inputs. If
+/// needed edges are drawn, it mentions nothing unless the node of an output is in the list.
 fn mention_edge<'g>(
     nodes: &mut NodeList<'g>,
     edge: Edge<'g>,
@@ -83,7 +82,7 @@ fn mention_files<'g>(
     Ok(())
 }
 
-/// Whether one of these files has its node there.
+/// Whether the node of any of the files is in the list.
 fn has_one(nodes: &NodeList<'_>, files: Files<'_>, folds: bool) -> bool
     ensures { result ≡ list_any (λ file. has_node nodes.now (node_of folds file)) files.entry }
 {
@@ -95,7 +94,7 @@ fn has_one(nodes: &NodeList<'_>, files: Files<'_>, folds: bool) -> bool
     false
 }
 
-/// The first of these nodes, as many as the limit allows.
+/// The first nodes of a list, as many as the limit allows.
 fn first_nodes<'g>(
     alloc: Global,
     nodes: &NodeList<'g>,

@@ -9,9 +9,9 @@ use crate::manifest::{edge_flags, is_set};
 use nj_graph::FileNo;
 use std::alloc::{AllocError, Global};
 
-/// The fault of the depfile of an edge that these files need through any chain of inputs: of several
-/// such edges, the one with the lowest number. Ninja stops there, so a question about these files has
-/// no answer.
+/// The fault of the depfile of an edge that the given files need through any chain of inputs, if
+/// any: of several such edges, the one with the lowest number. Ninja stops there, so a question
+/// about the files has no answer.
 pub fn needed_fault<'k>(
     alloc: Global,
     known: &'k DiscoveredGraph,

@@ -9,7 +9,7 @@ use crate::quotes::{push_escapes, push_quoted};
 use nj_graph::{Edge, File};
 use std::alloc::AllocError;
 
-/// Appends the line of a node of these.
+/// Appends the line of one of the nodes.
 pub(crate) fn push_node_line(
     text: &mut Vec<u8>,
     nodes: &NodeList<'_>,
@@ -45,7 +45,7 @@ fn push_number(text: &mut Vec<u8>, before: &[u8], number: usize) -> Result<(), A
     text.extend_from_slice(format!(in alloc; "{number}")?.as_bytes())
 }
 
-/// Appends what says how a node is drawn.
+/// Appends the attributes of a node.
 fn push_look(
     text: &mut Vec<u8>,
     nodes: &NodeList<'_>,
@@ -61,7 +61,7 @@ fn push_look(
     }
 }
 
-/// Appends what says how a file is drawn.
+/// Appends the attributes of a file.
 fn push_file_look(text: &mut Vec<u8>, file: File<'_>) -> Result<(), AllocError>
     ensures { OnOk result (text.new.items
         ≡ text.old.items ++ codes "label=" ++ quoted (file_of file.entry).path) }
@@ -70,7 +70,7 @@ fn push_file_look(text: &mut Vec<u8>, file: File<'_>) -> Result<(), AllocError>
     push_quoted(text, file.path())
 }
 
-/// Appends what says how an edge is drawn, with how many inputs are not drawn.
+/// Appends the attributes of an edge, with how many of its inputs are not drawn.
 fn push_edge_look(
     text: &mut Vec<u8>,
     nodes: &NodeList<'_>,
@@ -88,7 +88,7 @@ fn push_edge_look(
     }
 }
 
-/// Appends that an edge is a point.
+/// Appends the attributes of an edge that is a point.
 fn push_point(text: &mut Vec<u8>, edge: Edge<'_>, more: usize) -> Result<(), AllocError>
     ensures { OnOk result (text.new.items
         ≡ text.old.items ++ point_look (edge_of edge.entry) more) }
@@ -108,7 +108,7 @@ fn first_output(edge: Edge<'_>) -> &[u8]
     }
 }
 
-/// Appends that an edge is an ellipse.
+/// Appends the attributes of an edge that is an ellipse.
 fn push_ellipse(text: &mut Vec<u8>, edge: Edge<'_>, more: usize) -> Result<(), AllocError>
     ensures { OnOk result (text.new.items
         ≡ text.old.items ++ ellipse_look (edge_of edge.entry) more) }
@@ -120,7 +120,7 @@ fn push_ellipse(text: &mut Vec<u8>, edge: Edge<'_>, more: usize) -> Result<(), A
     Ok(())
 }
 
-/// Appends that so many inputs are not drawn, between two texts.
+/// Appends how many inputs are not drawn, between two texts; nothing if all are drawn.
 fn push_more(
     text: &mut Vec<u8>,
     before: &[u8],

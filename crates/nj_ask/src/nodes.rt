@@ -39,12 +39,11 @@ pub(crate) fn is_folded(edge: Edge<'_>, folds: bool) -> bool
     folds && edge.is_phony()
 }
 
-/// Nodes in the order in which they were added, with flags that tell which there are.
+/// Nodes in the order in which they were added, with flags for those in the list.
 #[derive(Drop)]
 pub(crate) struct NodeList<'g> {
     nodes: Vec<Node<'g>>,
-    /// By the numbers of edges and of files whether their nodes are there. Past the last flag they
-    /// are not.
+    /// By edge or file number, whether the node is in the list. Past the last flag it is not.
     edges: Vec<bool>,
     files: Vec<bool>,
 }
@@ -81,7 +80,7 @@ impl<'g> NodeList<'g> {
         self.nodes.as_slice()
     }
 
-    /// Whether a node is there.
+    /// Whether a node is in the list.
     pub(crate) fn has(&self, node: Node<'_>) -> bool
         ensures { result ≡ has_node self.now (node_model node.entry) }
     {
@@ -91,7 +90,7 @@ impl<'g> NodeList<'g> {
         }
     }
 
-    /// Adds a node, unless it is there. Returns whether it is new.
+    /// Adds a node, unless it is in the list. Returns whether it is new.
     pub(crate) fn add(&mut self, node: Node<'g>) -> Result<bool, AllocError>
         ensures is_new { IfOk result (λ is_new. is_new
             ≡ not (has_node self.old (node_model node.entry))) }
@@ -104,7 +103,7 @@ impl<'g> NodeList<'g> {
         Ok(true)
     }
 
-    /// Adds a node, even if it is there.
+    /// Adds a node, even if it is in the list.
     pub(crate) fn push(&mut self, node: Node<'g>) -> Result<(), AllocError>
         ensures { OnOk result (self.new ≡ self.old ++ node_model node.entry ∷ []) }
     {
@@ -124,7 +123,7 @@ impl<'g> NodeList<'g> {
         }
     }
 
-    /// Takes all nodes away.
+    /// Removes all nodes.
     pub(crate) fn clear(&mut self)
         ensures { self.new ≡ [] }
     {
@@ -135,7 +134,8 @@ impl<'g> NodeList<'g> {
 
 // ---- flags
 
-/// Appends a node and sets the flag at an index. If that fails, the same nodes and flags are there.
+/// Appends a node and sets the flag at an index. If that fails, the nodes and the set flags are
+/// unchanged.
 fn push_flagged<'g>(
     nodes: &mut Vec<Node<'g>>,
     flags: &mut Vec<bool>,
@@ -153,7 +153,7 @@ fn push_flagged<'g>(
     Ok(())
 }
 
-/// Appends flags that are not set until there is one at an index.
+/// Appends unset flags until an index has one.
 fn extend_to(flags: &mut Vec<bool>, index: usize) -> Result<(), AllocError>
     ensures same { SameFlags flags.old.items flags.new.items }
     ensures there { OnOk result (index < length flags.new.items) }
@@ -164,7 +164,7 @@ fn extend_to(flags: &mut Vec<bool>, index: usize) -> Result<(), AllocError>
     Ok(())
 }
 
-/// Takes the flags of nodes away.
+/// Clears the flags of nodes.
 fn unset(nodes: &[Node<'_>], edges: &mut [bool], files: &mut [bool])
     ensures { AreFlagsWithin (map node_model nodes.now) edges.old files.old
         → AreFlagsWithin [] edges.new files.new }
@@ -177,7 +177,7 @@ fn unset(nodes: &[Node<'_>], edges: &mut [bool], files: &mut [bool])
     }
 }
 
-/// Takes the flag at an index away, if there is one.
+/// Clears the flag at an index, if any.
 fn unset_at(flags: &mut [bool], index: usize)
     ensures { UnsetsFlag index flags.old flags.new }
 {

@@ -6,7 +6,7 @@ ghost use Rattle.nj_ask.specs.Cited.{mark_line};
 use nj_needs::Mark;
 use std::alloc::{AllocError, Global};
 
-/// The line that names a mark; empty if there is none.
+/// The line that names a mark; empty without a mark.
 pub(crate) fn mark_line(alloc: Global, mark: Option<&Mark>) -> Result<Vec<u8>, AllocError>
     ensures { IfOk result (λ line. line.items ≡ mark_line (option_copied mark.entry)) }
 {

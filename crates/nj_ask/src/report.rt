@@ -1,30 +1,66 @@
 //! A report about a change of files.
 
 ghost use Rattle.std.specs.Prelude.{◌≡◌, ◌<◌, ◌++◌, All, IfOk, OnOk, false, length, map};
-ghost use Rattle.nj_ask.specs.Cited.{OfStatements, IsAffected, path_at, edges_of, files_of, asked_of, IsTouched, made_from_line, change_model, texts, DoneMissesNothing, ListedHaveReasons, HasWarnings, IsReport, WarningsAreUnique, HasEdges, AddsWarning, AreAffected, AreOpened, AreTouched, CanTellAll, CanTellAt, unnamed_warning};
+ghost use Rattle.nj_ask.specs.Cited.{OfStatements, IsAffected, flat_map, path_at, edges_of, files_of, asked_of, changed_numbers, numbers_of, opened_files, opened_paths, warning_by, AreFilesAt, AreFilesOf, AreTables, SameNames, IsTouched, made_from_line, change_model, texts, DoneMissesNothing, ListedHaveReasons, HasCaveats, HasWarnings, IsReport, IsTouchedBy, WarningsAreUnique, HasEdges, AreAffected, AreTouched, CanTellAll, IsReach, edge_numbers};
 
 use crate::answer::Answer;
-use crate::changes::{find_file, known_files};
+use crate::changes::{FilesAt, files_at, full_paths};
 use crate::discovered::DiscoveredGraph;
 use crate::listing::{Listed, list_outputs, push_line};
-use crate::manifest::Manifest;
+use crate::manifest::{Manifest, feeding_files};
+use crate::opened::opened_paths;
 use crate::shape::shape_lines;
-use nj_graph::{EdgeNo, FileNo, Graph};
+use nj_changes::{all_sought, has_one, sought};
+use nj_graph::{EdgeNo, FileNo};
+use nj_names::Names;
 use std::alloc::{AllocError, Global};
 
 /// A change of files.
 #[derive(Clone, Copy)]
 pub struct Change<'a> {
-    /// The directory in which the paths are, if one is given.
-    pub source_dir: Option<&'a str>,
+    /// The path of the working directory; empty if it is not known.
+    pub working: &'a [u8],
+    /// The directories that the paths may be in; if empty, the paths stand for themselves.
+    pub folders: &'a [String],
     /// The changed paths.
     pub paths: &'a [&'a [u8]],
-    /// Whether paths that no edge names are not reported.
+    /// Whether paths that no edge names are left unreported.
     pub ignores_unknown: bool,
 }
 
-/// The report about a change: the requested ones of the outputs of exactly the edges that it
-/// touches, in reading order, and why these may not be all.
+/// Tables of full paths, in which changed paths are looked up.
+#[derive(Drop)]
+struct Tables {
+    /// The paths of the changed files.
+    changed: Names,
+    /// The paths of the changed files from which the manifest is made.
+    feeding: Names,
+}
+
+/// What a change of files reaches.
+#[derive(Drop)]
+pub(crate) struct Reach {
+    /// A table of the full paths at which its paths may be.
+    pub sought: Names,
+    /// The changed files.
+    pub files: Vec<FileNo>,
+    /// The edges that the change touches.
+    pub touched: Vec<EdgeNo>,
+    /// Why these may not be all, a line each.
+    pub caveats: Vec<u8>,
+}
+
+/// The edges that a change touches, and why these may not be all.
+#[derive(Drop)]
+struct Touched {
+    edges: Vec<EdgeNo>,
+    caveats: Vec<u8>,
+}
+
+// ---- the report
+
+/// The report about a change: the requested outputs of exactly the edges that it touches, in
+/// reading order, and why outputs may be missing.
 pub(crate) fn report_of(
     alloc: Global,
     known: &DiscoveredGraph,
@@ -37,19 +73,75 @@ pub(crate) fn report_of(
         (asked_of listed.entry) answer.output.items answer.warnings.items)) }
     ensures looks { IfOk result (λ answer. answer.looks ≡ false) }
 {
-    let graph = &known.graph;
-    let changed = known_files(alloc, graph, change.source_dir, change.paths)?;
-    let affected = graph.affected_by(alloc, &changed)?;
-    let about = warnings_of(alloc, known, change, &affected)?;
-    let touched = touched_by(alloc, known, &changed, affected)?;
-    let output = list_outputs(alloc, graph.edges_at(&touched), listed)?;
-    let shape = shape_lines(alloc, known, &changed, &touched)?;
-    let warnings = joined(alloc, &known.caveats, &about, &shape)?;
+    let Reach {
+        touched,
+        caveats,
+        ..
+    } = reach_of(alloc, known, change)?;
+    let output = list_outputs(alloc, known.graph.edges_at(&touched), listed)?;
     Ok(Answer {
         output,
-        warnings,
+        warnings: caveats,
         looks: false,
     })
+}
+
+/// What a change reaches: exactly the edges that it touches, in reading order.
+pub(crate) fn reach_of(
+    alloc: Global,
+    known: &DiscoveredGraph,
+    change: Change<'_>,
+) -> Result<Reach, AllocError>
+    requires { HasEdges known.now }
+    ensures reach { IfOk result (IsReach known.now (change_model change.entry)) }
+    ensures caveats { OfStatements known.now.graph (λ entries. IfOk result (λ reach.
+        HasCaveats known.now entries (change_model change.entry)
+        (edge_numbers reach.touched.items) reach.caveats.items)) }
+{
+    let Change {
+        working,
+        folders,
+        paths,
+        ..
+    } = change;
+    let graph = &known.graph;
+    let opened = opened_paths(alloc, graph, known.keys, working)?;
+    let sought = all_sought(alloc, known.keys, working, folders, paths)?;
+    let files = files_at(alloc, graph, working, &sought, &opened)?;
+    let Touched { edges, caveats } = reached_by(alloc, known, change, &opened, &files)?;
+    let FilesAt { changed, .. } = files;
+    Ok(Reach {
+        sought,
+        files: changed,
+        touched: edges,
+        caveats,
+    })
+}
+
+/// What a change of the given files reaches, where `opened` has the full paths of the opened files.
+fn reached_by(
+    alloc: Global,
+    known: &DiscoveredGraph,
+    change: Change<'_>,
+    opened: &Names,
+    files: &FilesAt,
+) -> Result<Touched, AllocError>
+    requires edges { HasEdges known.now }
+    requires opened { SameNames opened.now
+        (opened_paths known.now.graph (change_model change).working) }
+    requires files { AreFilesAt known.now.graph (change_model change) files.now }
+    ensures touched { IfOk result (λ touched. AreTouched known.now
+        (IsTouchedBy known.now (change_model change.entry)) touched.edges.items) }
+    ensures caveats { OfStatements known.now.graph (λ entries. IfOk result (λ touched.
+        HasCaveats known.now entries (change_model change.entry)
+        (edge_numbers touched.edges.items) touched.caveats.items)) }
+{
+    let affected = known.graph.affected_by(alloc, &files.changed)?;
+    let about = warnings_of(alloc, known, change, opened, files, &affected)?;
+    let edges = touched_by(alloc, known, &files.changed, affected)?;
+    let shape = shape_lines(alloc, known, files, &edges)?;
+    let caveats = joined(alloc, &known.caveats, &about, &shape)?;
+    Ok(Touched { edges, caveats })
 }
 
 /// Three texts, one after the other.
@@ -63,8 +155,8 @@ fn joined(alloc: Global, first: &[u8], second: &[u8], third: &[u8]) -> Result<Ve
     Ok(text)
 }
 
-/// The edges that a change of these files touches: those that are to be built again, by the inputs
-/// that builds discovered, if these were joined; otherwise the affected ones, which are given.
+/// The edges that a change of the given files touches: those that are to be built again, if
+/// discovered inputs were joined; otherwise the affected ones, which are given.
 pub fn touched_by(
     alloc: Global,
     known: &DiscoveredGraph,
@@ -84,85 +176,91 @@ pub fn touched_by(
     Ok(affected)
 }
 
-/// The warnings about the changed paths, which affect exactly these edges.
+// ---- the warnings about changed paths
+
+/// The warnings about the changed paths, which denote the given files and affect exactly the given
+/// edges.
 fn warnings_of(
     alloc: Global,
     known: &DiscoveredGraph,
     change: Change<'_>,
+    opened: &Names,
+    files: &FilesAt,
     affected: &[EdgeNo],
 ) -> Result<Vec<u8>, AllocError>
-    requires known { All (λ edge. edge.0 < length (edges_of known.now.graph)) affected.now }
+    requires opened { SameNames opened.now
+        (opened_paths known.now.graph (change_model change).working) }
+    requires files { AreFilesAt known.now.graph (change_model change) files.now }
+    requires edges { All (λ edge. edge.0 < length (edges_of known.now.graph)) affected.now }
     requires affected { AreAffected known.now.graph (change_model change)
         (map (λ edge. edge.0) affected.now) }
     ensures { OfStatements known.now.graph (λ entries.
         IfOk result (λ text. HasWarnings known.now.graph entries (change_model change.entry)
         (texts change.entry.paths.now) text.items)) }
 {
-    let manifest = Manifest::new(alloc, &known.graph, known.keys, affected)?;
-    warnings_about(alloc, &known.graph, change, &manifest)
+    let manifest = Manifest::new(alloc, &known.graph, &files.opened, affected)?;
+    let tables = tables_of(alloc, known, change, &manifest, &files.changed)?;
+    warnings_about(alloc, change, opened, &tables)
 }
 
-/// The warnings about the changed paths, by whether the manifest is made from them.
-fn warnings_about(
+/// The tables for the changed files.
+fn tables_of(
     alloc: Global,
-    graph: &Graph,
+    known: &DiscoveredGraph,
     change: Change<'_>,
     manifest: &Manifest,
+    changed: &[FileNo],
+) -> Result<Tables, AllocError>
+    requires files { numbers_of changed.now ≡ changed_numbers known.now.graph (change_model change) }
+    requires known { AreFilesOf known.now.graph changed.now }
+    requires tells { OfStatements known.now.graph (λ entries. CanTellAll known.now.graph
+        (opened_files known.now.graph (change_model change).working) entries
+        (changed_numbers known.now.graph (change_model change)) manifest.now) }
+    ensures { OfStatements known.now.graph (λ entries.
+        IfOk result (AreTables known.now.graph entries (change_model change.entry))) }
+{
+    let graph = &known.graph;
+    let feeding = feeding_files(alloc, graph, manifest, changed)?;
+    let changed = full_paths(alloc, graph, known.keys, change.working, changed)?;
+    let feeding = full_paths(alloc, graph, known.keys, change.working, &feeding)?;
+    Ok(Tables { changed, feeding })
+}
+
+/// The warnings about the changed paths, by the tables and that of opened files.
+fn warnings_about(
+    alloc: Global,
+    change: Change<'_>,
+    opened: &Names,
+    tables: &Tables,
 ) -> Result<Vec<u8>, AllocError>
-    requires tells { OfStatements graph.now (λ entries.
-        CanTellAll graph.now entries (change_model change) manifest.now) }
-    requires names { AreOpened graph.now manifest.now.names }
-    ensures { OfStatements graph.now (λ entries.
-        IfOk result (λ text. HasWarnings graph.now entries (change_model change.entry)
-        (texts change.entry.paths.now) text.items)) }
+    ensures { IfOk result (λ text. text.items
+        ≡ flat_map (warning_by opened.now tables.now (change_model change.entry))
+        (texts change.entry.paths.now)) }
 {
     let mut warnings = Vec::new(alloc);
     'paths: for path in change.paths {
-        push_warning(alloc, graph, change, manifest, path, &mut warnings)?;
+        push_warning(alloc, change, opened, tables, path, &mut warnings)?;
     }
     Ok(warnings)
 }
 
-/// Appends the warning about a changed path, if there is one.
+/// Appends the warning about a changed path, if any.
 fn push_warning(
     alloc: Global,
-    graph: &Graph,
     change: Change<'_>,
-    manifest: &Manifest,
-    path: &[u8],
-    warnings: &mut Vec<u8>,
-) -> Result<(), AllocError>
-    requires tells { OfStatements graph.now (λ entries.
-        CanTellAt graph.now entries (change_model change) path.now manifest.now) }
-    requires names { AreOpened graph.now manifest.now.names }
-    ensures { OfStatements graph.now (λ entries.
-        OnOk result (AddsWarning graph.now entries (change_model change.entry)
-        path.now warnings.old.items warnings.new.items)) }
-{
-    let Some(file) = find_file(alloc, graph, change.source_dir, path)? else {
-        return push_unnamed(alloc, change, manifest, path, warnings);
-    };
-    if manifest.is_made_from(graph, file) {
-        return push_made_from(warnings, path);
-    }
-    Ok(())
-}
-
-/// Appends the warning about a changed path that no edge names, if there is one.
-fn push_unnamed(
-    alloc: Global,
-    change: Change<'_>,
-    manifest: &Manifest,
+    opened: &Names,
+    tables: &Tables,
     path: &[u8],
     warnings: &mut Vec<u8>,
 ) -> Result<(), AllocError>
     ensures { OnOk result (warnings.new.items ≡ warnings.old.items
-        ++ unnamed_warning manifest.now.names (change_model change.entry) path.now) }
+        ++ warning_by opened.now tables.now (change_model change.entry) path.now) }
 {
-    if manifest.is_opened(alloc, change.source_dir, path)? {
+    let found = sought(alloc, change.working, change.folders, path)?;
+    if has_one(opened, &found) || has_one(&tables.feeding, &found) {
         return push_made_from(warnings, path);
     }
-    if change.ignores_unknown {
+    if has_one(&tables.changed, &found) || change.ignores_unknown {
         return Ok(());
     }
     push_line(warnings, path)
@@ -178,10 +276,13 @@ fn push_made_from(lines: &mut Vec<u8>, path: &[u8]) -> Result<(), AllocError>
     Ok(())
 }
 
-/// Where `affected` ends with status 0, each changed path names a file that was not opened and
-/// that no edge which makes the manifest needs, and the outputs that were written are all that it
-/// affects; some paths have one text of warnings only. The edges whose outputs are listed are
-/// exactly those with a reason: a changed input, or an output of a listed edge.
+// ---- its meaning
+
+/// Where `affected` ends with status 0, each changed path denotes files of the graph that are not
+/// needed to make the manifest, unless it is unknown and such paths are ignored; no file was opened
+/// at it; and the written outputs are all that the change affects. A list of paths has only one
+/// text of warnings. The edges whose outputs are listed are exactly those with a reason, such as a
+/// changed input, or an input that a listed edge makes.
 pub fn report_law()
     ensures complete { DoneMissesNothing }
     ensures unique { WarningsAreUnique }

@@ -1,28 +1,28 @@
 //! The files that shape the graph, where they may change.
 
-ghost use Rattle.std.specs.Prelude.{◌≡◌, ◌++◌, ◌<◌, ℕ, List, All, IfOk, IfSome, OnOk, length, map, option_map};
-ghost use Rattle.nj_ask.specs.Cited.{OfEdge, edge_of, OfStatements, flat_map, range_with_len, edges_of, files_of, line, caveat_text, dyndep_files, dyndep_of, dyndep_text, line_if_changes, lines_of_changing, may_change, remade_text, shape_text, unjoined_files, is_made_flag, AreMarks};
+ghost use Rattle.std.specs.Prelude.{◌≡◌, ◌++◌, ◌<◌, ℕ, List, [], All, IfOk, IfSome, OnOk, length, map, option_map};
+ghost use Rattle.nj_ask.specs.Cited.{AreFilesOf, numbers_of, OfEdge, edge_of, OfStatements, flat_map, range_with_len, edges_of, files_of, line, caveat_text, dyndep_files, dyndep_of, dyndep_text, line_if_changes, lines_of_changing, may_change, remade_text, shape_text, unjoined_files, is_made_flag, AreMarks};
 
+use crate::changes::FilesAt;
 use crate::discovered::DiscoveredGraph;
 use crate::listing::push_line;
-use crate::manifest::{edge_flags, file_flags, is_set, opened_files};
+use crate::manifest::{edge_flags, file_flags, is_set};
 use nj_graph::{Edge, EdgeNo, FileNo, Graph};
 use std::alloc::{AllocError, Global};
 
-/// Of files and edges, what may change.
+/// What may change of files and edges.
 #[derive(Drop)]
 struct Marks {
-    /// Of each file whether it is one of those that are asked about.
+    /// For each file, whether it is in question.
     is_some: Vec<bool>,
-    /// Of each file whether it changed.
+    /// For each file, whether it changed.
     has_changed: Vec<bool>,
-    /// Of each edge whether the change touches it.
+    /// For each edge, whether the change touches it.
     is_touched: Vec<bool>,
 }
 
-/// Why an answer about a graph may not have all inputs that builds discovered, a line each: what is
-/// not known of these, and the dyndep files that were not joined. It is empty if they were not
-/// requested.
+/// Why an answer about a graph may lack discovered inputs, a line each: what is not known of them,
+/// and the dyndep files that were not joined. It is empty if discovered inputs were not requested.
 pub fn caveat_lines(alloc: Global, known: &DiscoveredGraph) -> Result<Vec<u8>, AllocError>
     ensures { OfStatements known.now.graph (λ entries.
         IfOk result (λ lines. lines.items ≡ caveat_text known.now entries)) }
@@ -34,23 +34,43 @@ pub fn caveat_lines(alloc: Global, known: &DiscoveredGraph) -> Result<Vec<u8>, A
     Ok(lines)
 }
 
-/// Where these files changed, which touches these edges: why the graph may have another shape, a line
-/// each. Those are dyndep files that changed, that such an edge makes, or that were not joined; and,
-/// with the inputs that builds discovered, manifests that such an edge makes.
+/// What may be missing from an answer about the given stale edges, a line each: what is not known of
+/// discovered inputs, and dyndep files that a stale edge makes, or that were not joined.
+pub fn caveat_lines_of(
+    alloc: Global,
+    known: &DiscoveredGraph,
+    edges: &[EdgeNo],
+) -> Result<Vec<u8>, AllocError>
+    requires { All (λ edge. edge.0 < length (edges_of known.now.graph)) edges.now }
+    ensures { OfStatements known.now.graph (λ entries. IfOk result (λ lines.
+        lines.items ≡ known.now.caveats.items ++ dyndep_text known.now.graph entries []
+        (map (λ edge. edge.0) edges.now))) }
+{
+    let mut lines = Vec::from_slice(alloc, &known.caveats)?;
+    lines.extend_from_slice(&dyndep_lines(alloc, &known.graph, &[], edges)?)?;
+    Ok(lines)
+}
+
+/// Why the graph may have another shape, a line each: dyndep files that changed, that a touched
+/// edge makes, or that were not joined; and, with discovered inputs, manifests that a touched edge
+/// makes. `files` has the opened and the changed files, and `touched` the edges that their change
+/// touches.
 pub fn shape_lines(
     alloc: Global,
     known: &DiscoveredGraph,
-    changed: &[FileNo],
+    files: &FilesAt,
     touched: &[EdgeNo],
 ) -> Result<Vec<u8>, AllocError>
-    requires changed { All (λ file. file.0 < length (files_of known.now.graph)) changed.now }
+    requires opened { AreFilesOf known.now.graph files.now.opened.items }
+    requires changed { AreFilesOf known.now.graph files.now.changed.items }
     requires touched { All (λ edge. edge.0 < length (edges_of known.now.graph)) touched.now }
     ensures { OfStatements known.now.graph (λ entries.
         IfOk result (λ lines. lines.items ≡ shape_text known.now entries
-        (map (λ file. file.0) changed.now) (map (λ edge. edge.0) touched.now))) }
+        (numbers_of files.now.opened.items) (numbers_of files.now.changed.items)
+        (map (λ edge. edge.0) touched.now))) }
 {
-    let mut lines = dyndep_lines(alloc, &known.graph, changed, touched)?;
-    lines.extend_from_slice(&remade_lines(alloc, known, touched)?)?;
+    let mut lines = dyndep_lines(alloc, &known.graph, &files.changed, touched)?;
+    lines.extend_from_slice(&remade_lines(alloc, known, &files.opened, touched)?)?;
     Ok(lines)
 }
 
@@ -73,27 +93,28 @@ fn dyndep_lines(
     marked_lines(alloc, graph, b": a dyndep file, may change", &marks)
 }
 
-/// A line for each file that was opened and that one of these edges makes, if it is known what
-/// builds discovered: otherwise the warnings about changed paths say that.
+/// With discovered inputs, a line for each opened file that a touched edge makes: without them, the
+/// warnings about changed paths say that.
 fn remade_lines(
     alloc: Global,
     known: &DiscoveredGraph,
+    opened: &[FileNo],
     touched: &[EdgeNo],
 ) -> Result<Vec<u8>, AllocError>
-    requires { All (λ edge. edge.0 < length (edges_of known.now.graph)) touched.now }
+    requires opened { AreFilesOf known.now.graph opened.now }
+    requires touched { All (λ edge. edge.0 < length (edges_of known.now.graph)) touched.now }
     ensures { IfOk result (λ lines. lines.items ≡ remade_text known.now.graph
-        known.now.has_discovered (map (λ edge. edge.0) touched.now)) }
+        (numbers_of opened.now) known.now.has_discovered (map (λ edge. edge.0) touched.now)) }
 {
     if !known.has_discovered {
         return Ok(Vec::new(alloc));
     }
     let graph = &known.graph;
-    let files = opened_files(alloc, graph)?;
-    let marks = marks_of(alloc, graph, &files, &[], touched)?;
+    let marks = marks_of(alloc, graph, opened, &[], touched)?;
     marked_lines(alloc, graph, b": a manifest, may change", &marks)
 }
 
-/// The marks of these files, changed files and touched edges.
+/// The marks of the given files, changed files and touched edges.
 fn marks_of(
     alloc: Global,
     graph: &Graph,
@@ -134,8 +155,8 @@ fn dyndep_files(alloc: Global, graph: &Graph) -> Result<Vec<FileNo>, AllocError>
     Ok(files)
 }
 
-/// The dyndep files that were not joined, as often as edges are pending on them, and then these
-/// files.
+/// The dyndep files that were not joined, as often as edges are pending on them, and then the
+/// changed files.
 fn uncertain_files(
     alloc: Global,
     graph: &Graph,
@@ -172,7 +193,7 @@ fn unjoined_files(alloc: Global, graph: &Graph) -> Result<Vec<FileNo>, AllocErro
     Ok(files)
 }
 
-/// The dyndep file of an edge, if it has one.
+/// The dyndep file of an edge, if any.
 fn dyndep_file(edge: Edge<'_>) -> Option<FileNo>
     ensures file { OfEdge (edge_of edge.entry) (λ entries number.
         option_map (λ file. file.0) result
@@ -232,7 +253,7 @@ fn may_change(graph: &Graph, marks: &Marks, file: FileNo) -> bool
     is_set(&marks.has_changed, file.0) || is_made_by(&marks.is_touched, graph.maker(file))
 }
 
-/// Whether there is a maker, and it has a flag.
+/// Whether the maker, if any, has a flag.
 fn is_made_by(flags: &[bool], maker: Option<EdgeNo>) -> bool
     ensures { result ≡ is_made_flag flags.now (option_map (λ edge. edge.0) maker) }
 {
@@ -243,7 +264,7 @@ fn is_made_by(flags: &[bool], maker: Option<EdgeNo>) -> bool
 }
 
 /// Appends a path, with what is at it, as a line.
-fn push_changing(lines: &mut Vec<u8>, path: &[u8], what: &[u8]) -> Result<(), AllocError>
+pub(crate) fn push_changing(lines: &mut Vec<u8>, path: &[u8], what: &[u8]) -> Result<(), AllocError>
     ensures { OnOk result (lines.new.items ≡ lines.old.items ++ line (path.now ++ what.now)) }
 {
     lines.extend_from_slice(path)?;

@@ -8,23 +8,23 @@ use nj_discovered::time_of;
 use nj_graph::{File, FileTimes, Graph, TimeFound};
 use std::alloc::{AllocError, Global};
 
-/// What there is at the paths of sources. Where nothing was looked up, the flags are empty.
+/// What is at the paths of sources. The flags are empty if nothing was looked up.
 #[derive(Drop)]
 pub(crate) struct Sources {
-    /// Of each file whether it is a source that is missing.
+    /// For each file, whether it is a missing source.
     pub missing: Vec<bool>,
-    /// Of each file whether it is a source that cannot be looked up.
+    /// For each file, whether it is a source that cannot be looked up.
     pub unknown: Vec<bool>,
 }
 
-/// What there is at the path of a file.
+/// What is at the path of a file.
 #[derive(Clone, Copy)]
 struct LookedUp {
     is_missing: bool,
     is_unknown: bool,
 }
 
-/// What there is at the paths of sources. Nothing is looked up unless missing ones are requested.
+/// What is at the paths of sources. Nothing is looked up unless missing sources are requested.
 pub(crate) fn sources_of<T: FileTimes>(
     alloc: Global,
     graph: &Graph,
@@ -58,7 +58,7 @@ fn look_up<T: FileTimes>(alloc: Global, graph: &Graph, times: &T) -> Result<Sour
     Ok(Sources { missing, unknown })
 }
 
-/// What there is at the path of a file; of one that an edge makes nothing is asked.
+/// What is at the path of a file. A file that an edge makes is not looked up.
 fn looked_up<T: FileTimes>(file: File<'_>, times: &T) -> Result<LookedUp, AllocError>
     ensures { IfOk result (λ found. LooksUp (file_of file.entry).graph (T.times times.now)
         (file_of file.entry).path found.is_missing found.is_unknown) }

@@ -8,9 +8,9 @@ ghost use Rattle.nj_ask.specs.Cited.{exit_code};
 pub enum Status {
     /// The requested output was written.
     Done,
-    /// A fault was found, which standard error names.
+    /// A fault was found, and named on standard error.
     Fault,
-    /// The words are not a valid request.
+    /// The arguments are not a valid request.
     Usage,
     /// The requested output was written, and there is something to look at.
     Look,

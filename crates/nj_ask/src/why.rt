@@ -14,7 +14,7 @@ use nj_needs::grow_targets;
 use nj_questions::WhyOptions;
 use std::alloc::Global;
 
-/// A chain by which the first of two files needs the second, or that there is none.
+/// A chain by which the first of two files needs the second, or an empty answer.
 pub(crate) fn answer_why(
     alloc: Global,
     known: &DiscoveredGraph,
@@ -44,7 +44,7 @@ pub(crate) fn answer_why(
     Ok(chain_answer(alloc, chain, warnings))
 }
 
-/// The file that a word means.
+/// The file that a word denotes.
 fn file_asked<'k>(
     alloc: Global,
     known: &'k DiscoveredGraph,
@@ -62,8 +62,8 @@ fn file_asked<'k>(
     }
 }
 
-/// Refuses a file whose chains may follow an edge whose depfile has a fault. With `validations`,
-/// those that needed edges validate count as well.
+/// Refuses a file whose chains may follow an edge whose depfile has a fault. With `validations`, so
+/// may the chains of files that needed edges validate.
 fn check_needed(
     alloc: Global,
     known: &DiscoveredGraph,
@@ -84,7 +84,7 @@ fn check_needed(
     check_depfiles(alloc, known, &[file.number()])
 }
 
-/// The answer of a chain, or that there is none, with these warnings.
+/// The answer of a chain, or an empty one, with the given warnings.
 fn chain_answer(alloc: Global, chain: Option<Vec<u8>>, warnings: Vec<u8>) -> Answer
     ensures output { result.output.items
         ≡ unwrap_or (option_map (λ lines. lines.items) chain) [] }

@@ -11,18 +11,17 @@ use nj_questions::{Question, Refusal, read_words};
 use nj_tools::{Sink, write_whole};
 use std::alloc::Global;
 
-/// What standard error says where the option that `--deps` has replaced is given.
+/// The line on standard error about the option that `--deps` has replaced.
 const OLD_OPTION: &[u8] =
     b"ninja-graph: --deps-log is now --deps, which reads depfiles and times too\n";
 
-/// Does what these arguments ask, without the program's name: reads the manifest and all that it
-/// includes from `files`, and the deps log and depfiles from `built`; writes the answer to `out`, and
-/// to `err` what may be missing from it, or why there is none. `input` has the bytes of standard
-/// input, which `affected` alone takes. The directory of `-C` is not entered here.
+/// Does what the arguments ask, which lack the program's name: reads the manifest and all that it
+/// includes from `files`, and the deps log and depfiles from `built`; writes the answer to `out`,
+/// and to `err` what may be missing from it, or why there is none. `input` has the bytes of
+/// standard input, which only `affected` reads. The directory of `-C` is not entered here.
 ///
-/// `folder` is the path of the working directory, which is absolute: for `audit`, absolute paths in
-/// commands are the build's below it. If it is empty, none is. `times` also tells which sources there
-/// are.
+/// `folder` is the absolute path of the working directory: for `audit`, absolute paths in commands
+/// below it are the build's. If it is empty, none is. `times` also says which sources exist.
 ///
 /// Returns the exit status.
 pub fn ask_words<S: FileSource, B: FileSource, T: FileTimes, O: Sink, E: Sink>(
@@ -70,7 +69,7 @@ pub fn ask_read_words<S: FileSource, B: FileSource, T: FileTimes, O: Sink, E: Si
     }
 }
 
-/// Writes why arguments are no question: help and the version are for standard output.
+/// Writes why arguments are not a question: help and the version go to standard output.
 fn refuse<O: Sink, E: Sink>(refusal: &Refusal, out: &mut O, err: &mut E) -> Status
     ensures { Refuses refusal.now (sinks_of (O.state out.old) (E.state err.old))
         (sinks_of (O.state out.new) (E.state err.new)) result }

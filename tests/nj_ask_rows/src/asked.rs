@@ -1,4 +1,4 @@
-//! What questions are answered.
+//! The answers to questions.
 
 use nj_ask::{Status, ask_words};
 use nj_rows::{Block, Given, Outcomes, Times, words_of};
@@ -35,7 +35,7 @@ struct Answered {
     status: Status,
 }
 
-/// What these arguments ask, over sinks that take so many bytes.
+/// The answer to a question in arguments, over sinks of limited size.
 fn answered(
     alloc: Global,
     given: &Given,
@@ -67,7 +67,7 @@ fn answered(
 }
 
 /// Appends standard output, the status in brackets, and standard error. If this does not end with a
-/// line end, `<end>` is there in its place.
+/// line end, `<end>` stands in its place.
 fn put_answer(
     alloc: Global,
     text: &mut Vec<u8>,
@@ -91,8 +91,8 @@ fn put_answer(
     Ok(())
 }
 
-/// Appends standard output, and how many of the outputs that take fewer bytes, down to none, end the
-/// question with the status 4 after the front of that.
+/// Appends standard output, and how many shorter limits for it, down to 0 bytes, end the question
+/// with status 4 after the front of the output.
 fn put_cut_off(
     alloc: Global,
     text: &mut Vec<u8>,
@@ -114,9 +114,9 @@ fn put_cut_off(
     text.extend_from_slice(format!(in alloc; "{count} fail\n")?.as_bytes())
 }
 
-/// Appends standard error, and how many of those that take fewer bytes, down to none, leave the output
-/// unchanged after the front of that. Where warnings are lost the status is 4; for the line of a fault
-/// it stays.
+/// Appends standard error, and how many shorter limits for it, down to 0 bytes, leave the output
+/// unchanged after the front of the errors. The status is 4 if warnings are lost, and unchanged if
+/// the line of a fault is.
 fn put_cut_off_errors(
     alloc: Global,
     text: &mut Vec<u8>,

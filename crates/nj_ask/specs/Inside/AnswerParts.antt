@@ -15,7 +15,7 @@ use Rattle.nj_ask.specs.Answers.{relative_base}
 use Rattle.nj_ask.specs.Endings.{fault_line, program_line}
 use Rattle.nj_ask.specs.Given.{pattern_line}
 
--- the line of the fault that there is in place of a value
+-- the line of the fault in place of a value
 abbrev pub SaysErr : {A : Type 0} → Result A GraphFault → (line : List ℕ) → Type 0
 SaysErr expected line = (fault : GraphFault) × (expected ≡ Err fault) × (line ≡ fault_line fault)
 
@@ -24,7 +24,7 @@ abbrev pub base_misuse : (bases : List (List ℕ)) → Option (List ℕ)
 base_misuse bases =
     option_map (λ base. program_line (codes "'" ++ base ++ codes "' of --base is not absolute")) (relative_base bases)
 
--- the line about a pattern that is no glob
+-- the line about a pattern that is not a glob
 abbrev pub SaysPattern : PatternFault → (line : List ℕ) → Type 0
 SaysPattern (pattern.Wrong text fault) line = line ≡ pattern_line text.now fault
 SaysPattern pattern.OutOfMemory line = ⊥

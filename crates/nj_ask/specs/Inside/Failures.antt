@@ -15,13 +15,13 @@ use Rattle.nj_ask.specs.Endings.{Concludes, Ending, IsFront, Reported, answered,
 
 -- ---- failures
 
--- a refusal with this status, whose line is described; or memory ran out
+-- a refusal with the given status, whose line is described; or memory ran out
 abbrev pub FailsBy : Status → (Says : (line : List ℕ) → Type 0) → Failure → Type 0
 FailsBy given Says (Refused line status) = Says line.items × (status ≡ given)
 FailsBy given Says Write = ⊥
 FailsBy given Says OutOfMemory = Unit {0}
 
--- the line of a fault, which is not that memory ran out
+-- the line of a fault other than a lack of memory
 abbrev pub SaysFault : GraphFault → (line : List ℕ) → Type 0
 SaysFault fault line = (line ≡ fault_line fault) × ¬ (fault.cause ≡ cause.OutOfMemory)
 
@@ -40,7 +40,7 @@ Gives Is (Err (Refused line status)) = Is [] (refused line.items status)
 Gives Is (Err Write) = ⊥
 Gives Is (Err OutOfMemory) = Unit {0}
 
--- what standard output took of an answer, and what is left to report
+-- what standard output received of an answer, and what is left to report
 abbrev pub Returns : (Is : (output : List ℕ) → Ending → Type 0) → (old new : SinkState) → Result Told Failure → Type 0
 Returns Is old new (Ok told) =
     (output : List ℕ) × Is output (answered told.looks told.warnings.items) × Takes old new output
@@ -59,7 +59,7 @@ WritesAnswer answer old new (Err (Refused line status)) = ⊥
 WritesAnswer answer old new (Err Write) = FailsWithin old new answer.output.items
 WritesAnswer answer old new (Err OutOfMemory) = ⊥
 
--- an answer is written, if there is one
+-- an answer is written, if any
 abbrev pub Delivers : Result Answer Failure → (old new : SinkState) → Result Told Failure → Type 0
 Delivers (Ok answer) old new told = WritesAnswer answer old new told
 Delivers (Err failure) old new told = (told ≡ Err failure) × (new ≡ old)

@@ -26,7 +26,7 @@ if_doubtful verdict edge = if is_doubtful verdict then edge ∷ [] else []
 abbrev pub if_faulty : Verdict → (edge : ℕ) → List ℕ
 if_faulty verdict edge = if is_faulty verdict then edge ∷ [] else []
 
--- the text of the fault of its depfile, where it has one
+-- the text of the fault of its depfile, if any
 abbrev pub text_if_faulty : List ReadStatement → Verdict → (edge : ℕ) → List (List ℕ)
 text_if_faulty entries verdict edge = if is_faulty verdict then fault_text entries edge verdict ∷ [] else []
 

@@ -24,7 +24,7 @@ pub record LacksMain (main : List ℕ) (before after : SourceState) (line : List
   pub line_is : line ≡ fault_line fault
   pub loads : Loads main before after (Err fault)
 
--- why a manifest has none
+-- why a manifest has no graph
 pub record LacksManifest (asked : AskedGraph) (times : DeclaredTimes) (before after : SourceState) (line : List ℕ) : Type 0 where
   pub fault : GraphFault
   pub line_is : line ≡ fault_line fault
@@ -39,20 +39,20 @@ pub record Discovers (before after : SourceState) (times : DeclaredTimes) (log :
   pub joins : JoinsDiscovered before after times log stated (Ok found)
   pub is_found : IsDiscovered found caveat known
 
--- why these inputs make none
+-- why discovered inputs do not form a graph
 pub record LacksDiscovered (path : List ℕ) (before after : SourceState) (times : DeclaredTimes) (log : LogModel)
     (stated : List ReadStatement) (line : List ℕ) : Type 0 where
   pub fault : GraphFault
   pub line_is : line ≡ discovered_line path fault
   pub joins : JoinsDiscovered before after times log stated (Err fault)
 
--- the edges and files of these inputs are the graph's
+-- the edges and files of the inputs are the graph's
 abbrev pub AreInputsIn : GraphModel → List UndeclaredInput → Type 0
 AreInputsIn g inputs =
     All (λ (input : UndeclaredInput). input.edge.0 < length (edges_of g)) inputs
     × All (λ (input : UndeclaredInput). input.file.0 < length (files_of g)) inputs
 
--- ---- by a log that is named or Ninja's own
+-- ---- by the named log or Ninja's own
 
 -- a graph with discovered inputs, by the log that is read
 pub record KnowsByLog (named : Option (List ℕ)) (undeclared : Bool) (before after : SourceState) (times : DeclaredTimes)
@@ -64,7 +64,7 @@ pub record KnowsByLog (named : Option (List ℕ)) (undeclared : Bool) (before af
   pub discovers : Discovers between after times log caveat stated known
   pub finds : FindsUndeclared undeclared log stated (undeclared_in known)
 
--- why there is no log, or why its inputs make no graph
+-- why there is no log, or why its inputs do not form a graph
 pub data LacksByLog (named : Option (List ℕ)) (before after : SourceState) (times : DeclaredTimes) (stated : List ReadStatement) :
     (line : List ℕ) → Type 0 where
   no_log : {line : List ℕ} → LacksLog named stated before after line → LacksByLog named before after times stated line
@@ -73,6 +73,6 @@ pub data LacksByLog (named : Option (List ℕ)) (before after : SourceState) (ti
       → LacksDiscovered (log_path named stated) between after times log stated line
       → LacksByLog named before after times stated line
 
--- there are statements of which it is the graph
+-- it is the graph of some statements
 abbrev pub HasStatements : GraphModel → Type 0
 HasStatements g = (entries : List ReadStatement) × IsGraphOf g entries

@@ -1,5 +1,5 @@
 -- Words that are lent, as definitions have them.
-use Rattle.std.specs.Prelude.{ℕ, List, map, option_copied, string_bytes}
+use Rattle.std.specs.Prelude.{ℕ, List, map, string_bytes}
 use Rattle.std.specs.Borrow.{Bor}
 use Rattle.nj_ask.specs.declared.listing.Listed.{Listed}
 use Rattle.nj_ask.specs.declared.report.Change.{Change}
@@ -17,7 +17,8 @@ asked_of listed = record { rules = map string_bytes listed.rules.now; prefix = l
 -- a change of files
 abbrev pub change_model : Change → ChangeModel
 change_model change = record {
-  folder = option_copied change.source_dir;
+  working = change.working.now;
+  folders = map string_bytes change.folders.now;
   paths = texts change.paths.now;
   ignores_unknown = change.ignores_unknown;
 }

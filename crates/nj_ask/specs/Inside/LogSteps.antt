@@ -5,7 +5,7 @@ use Rattle.nj_ask.specs.declared.deps_log.ReadLog.{ReadLog}
 use Rattle.nj_ask.specs.Endings.{program_line}
 use Rattle.nj_ask.specs.LogsRead.{IsLogAt, IsNoLog, ReadsBytes}
 
--- a log was read at a path, which is named or Ninja's own
+-- a log was read at a path, which is the named one or Ninja's own
 pub record ReadsAt (is_named : Bool) (path : List ℕ) (before after : SourceState) (read : ReadLog) : Type 0 where
   pub path_is : string_bytes read.path ≡ path
   pub bytes : Option (List ℕ)
@@ -18,7 +18,7 @@ pub record IsUnreadable (path : List ℕ) (before after : SourceState) (line : L
   pub read : HasRead before after []
   pub rises : Rises before.failures after.failures
 
--- none was read there
+-- no log was read there
 pub data LacksAt (is_named : Bool) (path : List ℕ) (before after : SourceState) (line : List ℕ) : Type 0 where
   unreadable : IsUnreadable path before after line → LacksAt is_named path before after line
   no_log : {bytes : Option (List ℕ)} → is_named ≡ true → ReadsBytes before after path bytes → IsNoLog path bytes line

@@ -1,4 +1,4 @@
--- Flags that tell which nodes are in a list. Nothing here has to be believed.
+-- Flags of the nodes in a list. Nothing here has to be believed.
 use Rattle.std.specs.Prelude.{◌≡◌, ℕ, ◌==◌, Bool, true, false, ◌&&◌, ◌||◌, not, Option, Some, None, List, length, nat_lt, slice_index_or}
 use Rattle.std.specs.List.{list_any}
 use Rattle.nj_graph.specs.Handles.{edge_of, file_of}
@@ -16,12 +16,12 @@ abbrev pub is_full : (limit : Option ℕ) → List Node → Bool
 is_full (Some limit) nodes = not (nat_lt (length nodes) limit)
 is_full None nodes = false
 
--- of each edge and of each file, by number, whether its node is there
+-- for each edge and each file, by number, whether its node is in the list
 pub record AreNodeFlags (nodes : List Node) (edges files : List Bool) : Type 0 where
   pub of_edges : (n : ℕ) → slice_index_or edges n false ≡ list_any (is_edge n) nodes
   pub of_files : (n : ℕ) → slice_index_or files n false ≡ list_any (is_file n) nodes
 
--- what is flagged is there
+-- flagged nodes are in the list
 pub record AreFlagsWithin (nodes : List Node) (edges files : List Bool) : Type 0 where
   pub of_edges : (n : ℕ) → slice_index_or edges n false ≡ true → list_any (is_edge n) nodes ≡ true
   pub of_files : (n : ℕ) → slice_index_or files n false ≡ true → list_any (is_file n) nodes ≡ true
@@ -30,10 +30,10 @@ pub record AreFlagsWithin (nodes : List Node) (edges files : List Bool) : Type 0
 abbrev pub SameFlags : (old new : List Bool) → Type 0
 SameFlags old new = (n : ℕ) → slice_index_or new n false ≡ slice_index_or old n false
 
--- one more is
+-- one more number is flagged
 abbrev pub SetsFlag : (index : ℕ) → (old new : List Bool) → Type 0
 SetsFlag index old new = (n : ℕ) → slice_index_or new n false ≡ (slice_index_or old n false || n == index)
 
--- one is not any more
+-- one number is no longer flagged
 abbrev pub UnsetsFlag : (index : ℕ) → (old new : List Bool) → Type 0
 UnsetsFlag index old new = (n : ℕ) → slice_index_or new n false ≡ (slice_index_or old n false && not (n == index))

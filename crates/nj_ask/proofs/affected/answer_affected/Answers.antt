@@ -15,7 +15,8 @@ use Rattle.nj_ask.proofs.affected.answer_affected.Goals.{else-is_empty-via-then-
 
 pub returns-in-Some : goal.returns-in-Some
 returns-in-Some c entries graph =
-    gives-no-rule c.args.known.now entries (affected_model c.args.options.now) c.args.input.now
+    gives-no-rule c.args.known.now entries c.args.folder.now (affected_model c.args.options.now)
+    c.args.input.now
     c.as_bytes-name.result.now c.in_words.result
     (ap (λ names. unknown_rule c.args.known.now.graph (map string_bytes names)) (sym c.deref.ensures.value)
     ∙ sym c.unknown_rule.ensures ∙ ap (option_map (λ name. name.now)) c.in-Some.is
@@ -24,7 +25,8 @@ returns-in-Some c entries graph =
 
 pub returns-then-not-options : goal.returns-then-not-options
 returns-then-not-options c entries graph =
-    gives-no-path c.args.known.now entries (affected_model c.args.options.now) c.args.input.now
+    gives-no-path c.args.known.now entries c.args.folder.now (affected_model c.args.options.now)
+    c.args.input.now
     c.in_ok-without_paths.field-0
     (ap (λ names. unknown_rule c.args.known.now.graph (map string_bytes names)) (sym c.deref.ensures.value)
     ∙ sym c.unknown_rule.ensures
@@ -37,7 +39,8 @@ returns-then-not-options c entries graph =
 
 pub returns : goal.returns
 returns c entries graph =
-    gives-report c.args.known.now entries (affected_model c.args.options.now) c.args.input.now
+    gives-report c.args.known.now entries c.args.folder.now (affected_model c.args.options.now)
+    c.args.input.now
     c.in_ok-report_of.field-0
     (ap (λ names. unknown_rule c.args.known.now.graph (map string_bytes names)) (sym c.deref.ensures.value)
     ∙ sym c.unknown_rule.ensures
@@ -60,5 +63,6 @@ returns c entries graph =
           (ap texts c.deref-2.ensures.value ∙ c.in_ok-given.ensures) c.in_ok-paths.ensures.left;
     })
     (c.change_of-change.ensures
-    ∙ ap (change_asked (affected_model c.args.options.now)) (ap texts c.deref-3.ensures.value))
+    ∙ ap (change_asked (affected_model c.args.options.now) c.args.folder.now)
+    (ap texts c.deref-3.ensures.value))
     c.listed_by-listed.ensures (c.in_ok-report_of.ensures.report entries graph)

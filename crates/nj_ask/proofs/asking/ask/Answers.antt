@@ -1,10 +1,12 @@
-use Rattle.std.proofs.Common.{Err, refl, subst, sym, ◌∙◌}
+use Rattle.std.proofs.Common.{Err, map, refl, subst, sym, ◌∙◌}
 use Rattle.nj_ask.specs.Asks.Asks.{lists}
-use Rattle.nj_ask.specs.Inside.Asking.LeavesTold.{tells}
 use Rattle.nj_ask.specs.Inside.GraphSteps.{HasStatements}
-use Rattle.nj_ask.specs.KnownGraphs.{KnowsGraph}
+use Rattle.nj_tests.specs.Tests.{test_model}
+use Rattle.nj_ask.specs.Asks.{ReadsFiles}
+use Rattle.nj_ask.specs.KnownGraphs.{sources_of}
+use Rattle.nj_questions.specs.Questions.{question_model}
 use Rattle.nj_ask.proofs.AskingLemmas.{asks-misused, asks-told, listed-kinds, none-listed}
-use Rattle.nj_ask.proofs.AskingLemmas.{task-taken, task-unlisted, tells-lacking}
+use Rattle.nj_ask.proofs.AskingLemmas.{task-taken, task-unlisted, tells-answer, tells-lacking}
 use Rattle.nj_ask.proofs.asking.ask.Goals as goal
 
 pub returns-then-reads_nothing : goal.returns-then-reads_nothing
@@ -20,28 +22,40 @@ returns-in-Err g c =
     rw c.without_graph-in-Err.ensures
     (asks-misused _ _ _ _ _ _ c.in-Err.failure _ c.in-Err.ensures.refused refl refl c.conclude.ensures)
 
-pub perform-told-requires-clause-given : goal.perform-told-requires-clause-given
-perform-told-requires-clause-given g c = (_, c.in-Ok.ensures.taken)
+pub answer_by-told-requires-clause-given : goal.answer_by-told-requires-clause-given
+answer_by-told-requires-clause-given g c = (_, c.in-Ok.ensures.taken)
 
-pub returns-in-Ok-known_graph : goal.returns-in-Ok-known_graph
-returns-in-Ok-known_graph g c =
+pub read_files-requires : goal.read_files-requires
+read_files-requires g c = c.seeks_undeclared-seeks.ensures _ c.in-Ok.ensures.taken
+
+pub returns-in-Ok-read_files : goal.returns-in-Ok-read_files
+returns-in-Ok-read_files g c =
     let same = sym c.deref.ensures in
     let task = c.in-Ok.task in
     let asks = c.in-Ok.ensures.taken in
-    let known = rw (c.seeks_undeclared-seeks.ensures _ asks) at c.in-Ok-known_graph.ensures.known in
-    let knows = subst (KnowsGraph _ _ _ _ _) same known in
-    let stated = subst (λ known. HasStatements known.graph) same c.in-Ok-known_graph.ensures.stated in
-    asks-told _ _ _ _ _ _ c.perform-told.result _ (task-taken _ task asks) (task-unlisted _ task asks)
-    (tells {known = c.deref.result.now} {entries = stated.0} knows stated.1
-    (c.perform-told.ensures stated.0 stated.1 _ asks))
-    c.conclude-in-Ok-known_graph.ensures
+    let question = question_model c.args.question.now in
+    let times = g.T.FileTimes.times c.args.times.now in
+    let old = sources_of (g.S.FileSource.state c.args.files.now) (g.B.FileSource.state c.args.built.now) in
+    let new = sources_of (g.S.FileSource.state c.read_files.new.files)
+    (g.B.FileSource.state c.read_files.new.built) in
+    let list = map test_model c.in-Ok-read_files.field-0.tests.items in
+    let reads = subst (λ known. ReadsFiles question times old new known list) same
+    c.in-Ok-read_files.ensures.read in
+    let all = subst (λ tests. ReadsFiles question times old new c.deref.result.now (map test_model tests))
+    (sym c.deref-in-Ok-read_files.ensures.value) reads in
+    let stated = subst (λ known. HasStatements known.graph) same c.in-Ok-read_files.ensures.stated in
+    asks-told _ _ _ _ _ _ c.answer_by-told.result _ (task-taken _ task asks) (task-unlisted _ task asks)
+    (tells-answer _ _ _ _ _ _ _ _ _ c.deref.result.now stated.0
+    (map test_model c.deref-in-Ok-read_files.result.now) c.answer_by-told.result all stated.1
+    (c.answer_by-told.ensures stated.0 stated.1 _ asks))
+    c.conclude-in-Ok-read_files.ensures
 
-pub returns-in-Err-known_graph : goal.returns-in-Err-known_graph
-returns-in-Err-known_graph g c =
+pub returns-in-Err-read_files : goal.returns-in-Err-read_files
+returns-in-Err-read_files g c =
     let task = c.in-Ok.task in
     let asks = c.in-Ok.ensures.taken in
-    let failure = c.in-Err-known_graph.failure in
-    rw c.without_graph-in-Err-known_graph.ensures
+    let failure = c.in-Err-read_files.failure in
+    rw c.without_graph-in-Err-read_files.ensures
     (asks-told _ _ _ _ _ _ (Err failure) _ (task-taken _ task asks) (task-unlisted _ task asks)
-    (tells-lacking _ _ _ _ _ _ _ failure c.in-Err-known_graph.ensures.lacks)
-    c.conclude-in-Err-known_graph.ensures)
+    (tells-lacking _ _ _ _ _ _ _ failure c.in-Err-read_files.ensures.lacks)
+    c.conclude-in-Err-read_files.ensures)

@@ -1,53 +1,36 @@
-use Rattle.std.proofs.Common.{◌<◌, ◌++◌, Some, None, [], length, take, option_map, sym, ap, ◌∙◌}
-use Rattle.std.proofs.Common.{append-nil, arith}
-use Rattle.std.specs.Prelude.{option_and_then}
-use Rattle.std.specs.List.{cons_option, filter_map}
-use Rattle.std.proofs.lemmas.List.{take_all}
-use Rattle.std.proofs.lemmas.Option.{slice_get-get_or}
+use Rattle.std.proofs.Common.{◌++◌, ◌∷◌, [], take, sym, ap, ◌∙◌, arith}
+use Rattle.std.proofs.lemmas.List.{length-map, take_all, take_more}
+use Rattle.std.proofs.lemmas.Option.{get_or_from_slice_get, slice_get_within}
+use Rattle.nj_changes.specs.FullPaths.{full_path}
 use Rattle.nj_graph.specs.Edges.{is_among}
 use Rattle.nj_graph.specs.Origins.{OpeningModel}
-use Rattle.nj_ask.specs.Affected.{clean_name}
-use Rattle.nj_ask.proofs.LineLemmas.{filter-more}
+use Rattle.nj_names.specs.NameTables.{with_name}
+use Rattle.nj_ask.specs.Manifest.{opened_paths}
 use Rattle.nj_ask.proofs.OpenedLemmas.{among-more}
 use Rattle.nj_ask.proofs.opened.opened_paths.Goals as goal
-use Rattle.nj_ask.proofs.opened.opened_paths.Goals.{in-Some+in_ok-add_path-in-Some, in-None}
-
-no-opening : OpeningModel
-no-opening = record { path = []; named_at = None; scope = 0 }
 
 pub openings-init : goal.openings-init
 openings-init c path = ap (λ names. is_among names path) c.new-paths.ensures
 
 pub openings-preserved : goal.openings-preserved
 openings-preserved c path =
-    let openings = c.args.graph.now.origins.openings in
+    let paths = opened_paths c.args.graph.now c.args.working.now in
     let i = c.openings.index in
-    let name = λ (opening : OpeningModel). clean_name opening.path in
-    let before = filter_map name (take i openings) in
-    let counted = c.opening_count-index-end.ensures.held in
-    let below : i < length openings = omega (arith, counted) in
-    let found = c.in_ok-opened.ensures ∙ ap (option_and_then name)
-    (slice_get-get_or openings i no-opening below) in
-    let more = filter-more name openings i no-opening below in
-    elim c.match-opened.branch [
-      | in-Some+in_ok-add_path-in-Some w ↦
-          let is = sym found ∙ ap (option_map (λ v. v.items)) w.in-Some.is in
-          ap (λ names. is_among names path) (w.paths-is ∙ w.in_ok-add_path-in-Some.ensures)
-          ∙ among-more c.openings.paths before w.deref.result.now path c.openings.invariant
-          ∙ ap (λ name. is_among (before ++ cons_option name []) path)
-          (ap Some w.deref.ensures.value ∙ sym is)
-          ∙ ap (λ names. is_among names path) (sym more)
-      | in-None w ↦
-          let is = sym found ∙ ap (option_map (λ v. v.items)) w.in-None.is in
-          ap (λ names. is_among names path) w.paths-is ∙ c.openings.invariant path
-          ∙ ap (λ names. is_among names path)
-          (sym (more ∙ ap (λ name. before ++ cons_option name []) is ∙ append-nil before))
-    ]
+    let full = c.in_ok-full.full.items in
+    let at = c.in_ok-full.ensures in
+    ap (λ names. is_among names path)
+    (c.in_ok-add.ensures.added ∙ ap (with_name c.openings.paths) c.deref.ensures.value)
+    ∙ among-more c.openings.paths (take i paths) full path c.openings.invariant
+    ∙ ap (λ names. is_among names path)
+    (sym (take_more paths i full (slice_get_within paths i full at)
+    ∙ ap (λ next. take i paths ++ next ∷ []) (get_or_from_slice_get paths i full full at)))
 
 pub returns : goal.returns
 returns c path =
     let openings = c.args.graph.now.origins.openings in
+    let working = c.args.working.now in
+    let paths = opened_paths c.args.graph.now working in
+    let count = length-map openings (λ (opening : OpeningModel). full_path working opening.path) in
     let counted = c.opening_count-index-end.ensures.held in
     c.openings.invariant path
-    ∙ ap (λ os. is_among (filter_map (λ opening. clean_name opening.path) os) path)
-    (take_all c.openings.index openings (omega (arith, counted)))
+    ∙ ap (λ names. is_among names path) (take_all c.openings.index paths (omega (arith, counted, count)))

@@ -1,41 +1,29 @@
-use Rattle.std.proofs.Common.{[], map, take, sym, subst}
-use Rattle.std.specs.Prelude.{Contains}
-use Rattle.std.proofs.lemmas.List.{take_all}
-use Rattle.nj_graph.specs.Graph.{files_of}
-use Rattle.nj_ask.specs.Affected.{changed_file}
-use Rattle.nj_ask.specs.Reports.{HasWarnings}
-use Rattle.nj_ask.specs.Inside.Lent.{change_model}
-use Rattle.nj_ask.specs.Reports.HasWarnings.{none}
-use Rattle.nj_ask.proofs.LineLemmas.{filter-map-map, mapped-more}
-use Rattle.nj_ask.proofs.ReportLaws.{found-there}
+use Rattle.std.proofs.Common.{◌≡◌, ◌<◌, ◌+◌, ℕ, List, [], ◌++◌, take, length, get_or, ap, ◌∙◌}
+use Rattle.std.specs.Borrow.{Bor}
+use Rattle.std.specs.List.{flat_map}
+use Rattle.std.proofs.lemmas.List.{flat_map_more, take_all}
+use Rattle.nj_ask.specs.Inside.Lent.{change_model, texts}
+use Rattle.nj_ask.specs.Inside.Reached.{warning_by}
+use Rattle.nj_ask.proofs.LineLemmas.{mapped-more}
 use Rattle.nj_ask.proofs.report.warnings_about.Goals as goal
 
-pub paths-init : goal.paths-init
-paths-init c entries graph = subst (HasWarnings c.args.graph.now entries (change_model c.args.change) [])
-    (sym c.new-warnings.ensures.items) none
-
-pub push_warning-requires-clause-tells : goal.push_warning-requires-clause-tells
-push_warning-requires-clause-tells c entries graph file is =
-    let files = files_of c.args.graph.now in
-    let q = change_model c.args.change in
-    let paths = c.args.change.paths.now in
-    c.requires.tells entries graph file (subst (λ ns. Contains ns file)
-    (sym (filter-map-map (changed_file files q.folder) (λ v. v.now) paths))
-    (found-there (λ v. changed_file files q.folder v.now) paths c.paths.path-index _ file
-    c.paths-test.true is))
+-- the text about one more path
+text-more : (warn : List ℕ → List ℕ) (paths : List (Bor (List ℕ))) (i : ℕ) (d : Bor (List ℕ))
+    → i < length paths → (text new : List ℕ) → text ≡ flat_map warn (texts (take i paths))
+    → new ≡ text ++ warn (get_or paths i d).now → new ≡ flat_map warn (texts (take (i + 1) paths))
+text-more warn paths i d below text new held more =
+    more ∙ ap (λ t. t ++ warn (get_or paths i d).now) held
+    ∙ flat_map_more warn [] (texts (take i paths)) (get_or paths i d).now
+    ∙ ap (flat_map warn) (mapped-more (λ (v : Bor (List ℕ)). v.now) paths i d below)
 
 pub paths-preserved : goal.paths-preserved
-paths-preserved c entries graph =
-    let q = change_model c.args.change in
-    let paths = c.args.change.paths.now in
-    let i = c.paths.path-index in
-    let before = map (λ v. v.now) (take i paths) in
-    subst (λ ps. HasWarnings c.args.graph.now entries q ps c.push_warning.new.warnings.items)
-    (mapped-more (λ v. v.now) paths i _ c.paths-test.true)
-    (c.in_ok-push_warning.ensures entries graph before (c.paths.invariant entries graph))
+paths-preserved c =
+    let warn = warning_by c.args.opened.now c.args.tables.now (change_model c.args.change) in
+    text-more warn c.args.change.paths.now c.paths.path-index _ c.paths-test.true c.paths.warnings.items
+    c.push_warning.new.warnings.items c.paths.invariant c.in_ok-push_warning.ensures
 
 pub returns : goal.returns
-returns c entries graph =
-    subst (λ paths. HasWarnings c.args.graph.now entries (change_model c.args.change)
-    (map (λ v. v.now) paths) c.paths.warnings.items)
-    (take_all c.paths.path-index c.args.change.paths.now c.paths-test.false) (c.paths.invariant entries graph)
+returns c =
+    c.paths.invariant
+    ∙ ap (λ paths. flat_map (warning_by c.args.opened.now c.args.tables.now (change_model c.args.change))
+    (texts paths)) (take_all c.paths.path-index c.args.change.paths.now c.paths-test.false)

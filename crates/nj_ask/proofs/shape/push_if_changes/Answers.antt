@@ -3,7 +3,8 @@ use Rattle.std.proofs.Common.{ap, subst, ◌∙◌, append-nil}
 use Rattle.std.specs.Prelude.{OnOk}
 use Rattle.nj_ask.specs.Affected.{line}
 use Rattle.nj_ask.specs.Shape.{may_change}
-use Rattle.nj_ask.specs.Manifest.{is_one_of, path_of}
+use Rattle.nj_ask.specs.Manifest.{is_one_of}
+use Rattle.nj_ask.specs.SameFiles.{path_of}
 use Rattle.nj_ask.proofs.shape.push_if_changes.Goals as goal
 use Rattle.nj_ask.proofs.shape.push_if_changes.Goals.{else-is_set-via-then-is_set+else-may_change}
 use Rattle.nj_ask.proofs.shape.push_if_changes.Goals.{else-is_set-via-else-is_set}

@@ -5,15 +5,14 @@ use Rattle.nj_ask.proofs.ManifestLemmas.{tells-opened, tells-unopened}
 use Rattle.nj_ask.proofs.manifest.Manifest.is_made_from.Goals as goal
 
 pub returns-then-is_set : goal.returns-then-is_set
-returns-then-is_set c entries graph =
-    tells-opened c.args.graph.now entries c.args.self.now c.args.file.0 (c.requires.tells entries graph)
-    c.is_set.result
+returns-then-is_set c opened entries graph tells =
+    tells-opened c.args.graph.now opened entries c.args.self.now c.args.file.0 tells c.is_set.result
     (c.is_set.ensures ∙ ap (λ flags. slice_index_or flags c.args.file.0 false) c.deref.ensures.value)
     c.if-is_set.true
 
 pub returns-else-is_set : goal.returns-else-is_set
-returns-else-is_set c entries graph =
-    tells-unopened c.args.graph.now entries c.args.self.now c.args.file.0 (c.requires.tells entries graph)
+returns-else-is_set c opened entries graph tells =
+    tells-unopened c.args.graph.now opened entries c.args.self.now c.args.file.0 tells
     (ap (λ flags. slice_index_or flags c.args.file.0 false) (sym c.deref.ensures.value) ∙ sym c.is_set.ensures
     ∙ c.if-is_set.false)
     c.has_flag.result
