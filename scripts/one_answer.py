@@ -3,7 +3,7 @@
 its contract allows one answer, and what this leaves free.
 
     one_answer.py            writes it, between its marks
-    one_answer.py --check    ends with status 1 if it is out of date, or if nothing tells that a call
+    one_answer.py --check    ends with status 1 if it is out of date, or if nothing shows that a call
                              has one answer
 
 A call has one answer if it is a law; or if it changes nothing and a clause names its value, as an
@@ -156,7 +156,7 @@ def with_parts(page):
 
 
 def untold():
-    """What is wrong: calls of which nothing tells that they have one answer, and functions that make
+    """What is wrong: calls of which nothing shows that they have one answer, and functions that make
     none of the calls twice."""
     used = Counter()
     for crate, _, _, made, lacking in sorted_out():

@@ -96,7 +96,7 @@ module _ (g : GraphModel) (edge : ℕ) where
   none-last _ _ (again {files = fs} file are is) same = absurd (last-apart fs file same)
   none-last _ _ (ordered {files = fs} file are apart) same = absurd (last-apart fs file same)
 
-  -- without the last file, and that one
+  -- without the last file, and the last file
   last-of : (fs : List ℕ) (file : ℕ) (files : List ℕ) (paths : List (List ℕ))
       → AreUnordered g edge files paths
       → fs ++ file ∷ [] ≡ files

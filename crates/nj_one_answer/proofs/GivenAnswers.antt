@@ -14,11 +14,14 @@ use Rattle.nj_globs.specs.declared.glob_fault.GlobFault.{GlobFault}
 use Rattle.nj_globs.specs.declared.glob_fault.GlobFault.TheVariants.{OutOfMemory}
 use Rattle.nj_changes.specs.Ignored.{AreGlobsOf, AreLeft, IsFirstWrong, IsGlob}
 use Rattle.nj_changes.specs.Ignored.AreLeft.{none, ignored, kept}
-use Rattle.nj_questions.specs.Questions.{AffectedModel, affected, audit, draw, json, keys, why}
+use Rattle.nj_questions.specs.Questions.{AffectedModel, TestsModel, affected, audit, draw, json, keys, stale}
+use Rattle.nj_questions.specs.Questions.{tests, why}
 use Rattle.nj_ask.specs.Answers.{keys_misuse}
 use Rattle.nj_ask.specs.Audits.{audit_misuse}
 use Rattle.nj_ask.specs.Given.{folder_misuse, pattern_line, LeavesPaths, MisusesAffected, TakesAffected}
 use Rattle.nj_ask.specs.Given.MisusesAffected.{no_folder, no_glob}
+use Rattle.nj_ask.specs.ChosenTests.{MisusesTests, TakesTests, word_misuse}
+use Rattle.nj_ask.specs.ChosenTests.MisusesTests.{by_change, by_word}
 use Rattle.nj_one_answer.specs.Answers.{MisusedIsNotTaken, OneMisuse}
 
 pub some-or-none : {X : Type 0} (x : X) (o : Option X) → o ≡ Some x → o ≡ None → ⊥
@@ -54,7 +57,7 @@ leaves-agree reading options given one other is also =
     left-agree also.globs given one other (subst (λ globs. AreLeft globs given one) same is.are_left)
     also.are_left
 
--- ---- patterns that are no globs
+-- ---- patterns that are not globs
 
 are-globs : (patterns : List (List ℕ)) (globs : List (List GlobPart)) → AreGlobsOf patterns globs
     → All IsGlob patterns
@@ -107,9 +110,9 @@ module _ (good : GoodPatternsAreRead) where
   affected-misuse fault options _ _ (no_folder {line = a} is) (no_folder {line = b} also) =
       same_Some a b (sym is ∙ also)
   affected-misuse fault options _ _ (no_folder {line = a} is) (no_glob named wrong) =
-      absurd (some-or-none a (folder_misuse options.source_dir) is named)
+      absurd (some-or-none a (folder_misuse options.source_dirs) is named)
   affected-misuse fault options _ _ (no_glob named wrong) (no_folder {line = a} is) =
-      absurd (some-or-none a (folder_misuse options.source_dir) is named)
+      absurd (some-or-none a (folder_misuse options.source_dirs) is named)
   affected-misuse fault options _ _ (no_glob {pattern = p} {fault = f} named wrong)
       (no_glob {pattern = q} {fault = g} also more) =
       first-agree fault options.ignored p q f g wrong more
@@ -117,11 +120,29 @@ module _ (good : GoodPatternsAreRead) where
   affected-apart : (options : AffectedModel) (line : List ℕ) → MisusesAffected options line
       → TakesAffected options → ⊥
   affected-apart options _ (no_folder {line = a} is) taken =
-      absurd (some-or-none a (folder_misuse options.source_dir) is taken.folder)
+      absurd (some-or-none a (folder_misuse options.source_dirs) is taken.folder)
   affected-apart options _ (no_glob {pattern = p} {fault = f} named wrong) taken =
       not-all options.ignored options.ignored p f wrong
       (slice_get_within options.ignored wrong.index p wrong.at)
       refl (are-globs options.ignored taken.globs taken.are_globs)
+
+-- ---- `tests`
+
+tests-misuse : GoodPatternsAreRead → OneFault → (options : TestsModel) (line other : List ℕ)
+    → MisusesTests options line → MisusesTests options other → line ≡ other
+tests-misuse good fault options line other (by_word is) (by_word also) = same_Some line other (sym is ∙ also)
+tests-misuse good fault options line other (by_word is) (by_change fine also) =
+    absurd (some-or-none line (word_misuse options) is fine)
+tests-misuse good fault options line other (by_change fine is) (by_word also) =
+    absurd (some-or-none other (word_misuse options) also fine)
+tests-misuse good fault options line other (by_change fine is) (by_change fine2 also) =
+    affected-misuse good fault options.change line other is also
+
+tests-apart : GoodPatternsAreRead → (options : TestsModel) (line : List ℕ) → MisusesTests options line
+    → TakesTests options → ⊥
+tests-apart good options line (by_word is) taken = some-or-none line (word_misuse options) is taken.words
+tests-apart good options line (by_change fine is) taken =
+    affected-apart good options.change line is taken.change
 
 -- ---- whatever is asked
 
@@ -132,6 +153,8 @@ one-misuse good fault (audit options) line other is also = same_Some line other 
 one-misuse good fault (draw options) line other is also = absurd is
 one-misuse good fault json line other is also = absurd is
 one-misuse good fault (keys options) line other is also = same_Some line other (sym is ∙ also)
+one-misuse good fault (stale options) line other is also = absurd is
+one-misuse good fault (tests options) line other is also = tests-misuse good fault options line other is also
 one-misuse good fault (why options) line other is also = absurd is
 
 pub misused-apart : GoodPatternsAreRead → MisusedIsNotTaken
@@ -140,4 +163,6 @@ misused-apart good (audit options) line is taken = some-or-none line (audit_misu
 misused-apart good (draw options) line is taken = absurd is
 misused-apart good json line is taken = absurd is
 misused-apart good (keys options) line is taken = some-or-none line (keys_misuse options) is taken
+misused-apart good (stale options) line is taken = absurd is
+misused-apart good (tests options) line is taken = tests-apart good options line is taken
 misused-apart good (why options) line is taken = absurd is

@@ -5,19 +5,23 @@ use Rattle.std.proofs.Common.{◌++◌, map, refl, sym, ap, subst, ◌∙◌}
 use Rattle.std.specs.Prelude.{find, not, unwrap_or}
 use Rattle.nj_text.specs.Calls.{is_empty}
 use Rattle.nj_scope.specs.ReadingList.{ReadStatement}
+use Rattle.nj_build_log.specs.Logs.{BuildLogModel}
 use Rattle.nj_discovered.specs.Times.{DeclaredTimes}
 use Rattle.nj_graph.specs.declared.EdgeNo.{EdgeNo}
 use Rattle.nj_graph.specs.declared.undeclared.UndeclaredInput.{UndeclaredInput}
 use Rattle.nj_graph.specs.Graph.{GraphModel, edges_of}
 use Rattle.nj_graph.specs.Handles.{GraphEdge, files_in}
 use Rattle.nj_audit.specs.Audits.{IsAudit}
+use Rattle.nj_tests.specs.Tests.{TestModel}
 use Rattle.nj_audit.specs.LoggedInputs.{inputs_in}
 use Rattle.nj_tools.specs.Compdb.{text_fault}
 use Rattle.nj_tools.specs.EdgeObjects.{edge_lines, unwritable_edge}
 use Rattle.nj_tools.specs.declared.EdgeDiscovery.{EdgeDiscovery}
+use Rattle.nj_state.specs.Stale.{AreStaleEdges}
+use Rattle.nj_state.specs.declared.commands.StaleEdge.{StaleEdge}
 use Rattle.nj_questions.specs.Questions.{AffectedModel, AuditModel, DrawModel, KeysModel, SubjectModel}
-use Rattle.nj_questions.specs.Questions.{WhyModel}
-use Rattle.nj_questions.specs.Questions.{affected, audit, draw, json, keys, why}
+use Rattle.nj_questions.specs.Questions.{StaleModel, TestsModel, WhyModel}
+use Rattle.nj_questions.specs.Questions.{affected, audit, draw, json, keys, stale, tests, why}
 use Rattle.nj_ask.specs.declared.discovered.DiscoveredGraph.{DiscoveredGraph}
 use Rattle.nj_ask.specs.declared.doubts.EdgeFault.{EdgeFault}
 use Rattle.nj_ask.specs.declared.status.Status.TheVariants.{Fault}
@@ -34,15 +38,21 @@ use Rattle.nj_ask.specs.Answers.AnswersWhy.{no_start, no_end, no_depfile as unli
 use Rattle.nj_ask.specs.Asks.{Answers}
 use Rattle.nj_ask.specs.Audits.{AnswersAudit, lookup_lines}
 use Rattle.nj_ask.specs.Chains.{HasChain}
+use Rattle.nj_ask.specs.ChosenTests.{AnswersTests, Reaches, WritesTests}
+use Rattle.nj_ask.specs.ChosenTests.AnswersTests.{chosen, no_folder}
 use Rattle.nj_ask.specs.DiscoveredGraphs.{IsTouched, TouchedBy}
 use Rattle.nj_ask.specs.Drawings.{IsDrawing, ListsEdges, drawing_text}
 use Rattle.nj_ask.specs.Drawings.ListsEdges.{needed, touched}
 use Rattle.nj_ask.specs.DrawnNodes.{drawn_nodes}
 use Rattle.nj_ask.specs.Endings.{Ending, answered, fault_line, program_line, refused}
-use Rattle.nj_ask.specs.Manifest.{is_one_of}
+use Rattle.nj_ask.specs.Manifest.{is_one_of, opened_files}
 use Rattle.nj_ask.specs.Pages.{mark_line}
-use Rattle.nj_ask.specs.Reports.{ChangeModel, IsReport, changed_numbers, changed_paths}
+use Rattle.nj_ask.specs.Reports.{HasCaveats, ChangeModel, IsReport, changed_numbers, changed_paths}
 use Rattle.nj_ask.specs.Shape.{caveat_text, dyndep_text, shape_text}
+use Rattle.nj_ask.specs.Stales.{AnswersStale, AreStaleFor, manifest_asked, manifest_text, numbers_of_stale}
+use Rattle.nj_ask.specs.Stales.{stale_caveats, stale_text}
+use Rattle.nj_ask.specs.Stales.AnswersStale.{no_target as unjudged_target, no_depfile as unjudged_depfile}
+use Rattle.nj_ask.specs.Stales.AnswersStale.{no_time, listed, remade}
 use Rattle.nj_one_answer.specs.Answers.{SameKnown, SameKnownHaveSameAnswers}
 
 -- ---- faults of depfiles
@@ -150,6 +160,27 @@ module _ (one other : DiscoveredGraph) (same : SameKnown one other) where
     first = none-moves (is_one_of is.needed) one.faults.items other.faults.items same.faulty is.first;
   })
 
+  caveats-move : (entries : List ReadStatement) (q : ChangeModel) (edges text : List ℕ)
+      → HasCaveats one entries q edges text → HasCaveats mid entries q edges text
+  caveats-move entries q edges text is = record {
+    about = is.about;
+    warns = is.warns;
+    all = is.all ∙ ap (λ (c : List ℕ). c ++ is.about
+        ++ shape_text one entries (opened_files one.graph q.working) (changed_numbers one.graph q)
+        edges) same.caveats;
+  }
+
+  reach-moves : (entries : List ReadStatement) (q : ChangeModel) (edges text : List ℕ)
+      → Reaches one entries q edges text → Reaches mid entries q edges text
+  reach-moves entries q edges text is = record {
+    touched = λ e. (
+      (λ has. touches (changed_paths one.graph q) e ((is.touched e).0 has)),
+      (λ it. (is.touched e).1 (touches-back (changed_paths one.graph q) e it)),
+    );
+    rises = is.rises;
+    are_caveats = caveats-move entries q edges text is.are_caveats;
+  }
+
   report : (entries : List ReadStatement) (q : ChangeModel) (asked : Asked) (outputs warnings : List ℕ)
       → IsReport one entries q asked outputs warnings → IsReport mid entries q asked outputs warnings
   report entries q asked outputs warnings is = record {
@@ -162,20 +193,42 @@ module _ (one other : DiscoveredGraph) (same : SameKnown one other) where
       rises = is.lists.rises;
       lines = is.lists.lines;
     };
-    about = is.about;
-    warns = is.warns;
-    all = is.all ∙ ap (λ (c : List ℕ). c ++ is.about
-        ++ shape_text one entries (changed_numbers one.graph q) is.lists.edges) same.caveats;
+    caveats = caveats-move entries q is.lists.edges warnings is.caveats;
   }
 
-  affected-moves : (entries : List ReadStatement) (options : AffectedModel) (input output : List ℕ)
-      (ending : Ending)
-      → AnswersAffected one entries options input output ending
-      → AnswersAffected mid entries options input output ending
-  affected-moves entries options input _ _ (no_rule is) = no_rule is
-  affected-moves entries options input _ _ (no_path none empty asks) = no_path none empty asks
-  affected-moves entries options input _ _ (reported {outputs = o} {warnings = w} none some leaves is) =
+  affected-moves : (entries : List ReadStatement) (folder : List ℕ) (options : AffectedModel)
+      (input output : List ℕ) (ending : Ending)
+      → AnswersAffected one entries folder options input output ending
+      → AnswersAffected mid entries folder options input output ending
+  affected-moves entries folder options input _ _ (no_rule is) = no_rule is
+  affected-moves entries folder options input _ _ (no_path none empty asks) = no_path none empty asks
+  affected-moves entries folder options input _ _
+      (reported {outputs = o} {warnings = w} none some leaves is) =
       reported none some leaves (report entries _ _ o w is)
+
+  writes-move : (entries : List ReadStatement) (q : ChangeModel) (edges : List ℕ) (options : TestsModel)
+      (list : List TestModel) (whole : Bool) (text : List ℕ)
+      → WritesTests one entries q edges options list whole text
+      → WritesTests mid entries q edges options list whole text
+  writes-move entries q edges options list whole text is = record {
+    sought = is.sought;
+    are_sought = is.are_sought;
+    change = is.change;
+    is_change = is.is_change;
+    chosen = is.chosen;
+    are_chosen = is.are_chosen;
+    text_is = is.text_is;
+  }
+
+  tests-move : (entries : List ReadStatement) (folder : List ℕ) (options : TestsModel)
+      (list : List TestModel) (input output : List ℕ) (ending : Ending)
+      → AnswersTests one entries folder options list input output ending
+      → AnswersTests mid entries folder options list input output ending
+  tests-move entries folder options list input _ _ (no_folder is) = no_folder is
+  tests-move entries folder options list input _ _
+      (chosen {edges = es} {caveats = c} {output = o} some leaves reaches said writes) =
+      chosen some leaves (reach-moves entries _ es c reaches) said
+      (writes-move entries _ es options list _ o writes)
 
   why-moves : (entries : List ReadStatement) (options : WhyModel) (output : List ℕ) (ending : Ending)
       → AnswersWhy one entries options output ending → AnswersWhy mid entries options output ending
@@ -274,24 +327,67 @@ module _ (one other : DiscoveredGraph) (same : SameKnown one other) where
         (sym (caveats entries));
   }
 
-  moves : (entries : List ReadStatement) (times : DeclaredTimes) (folder : List ℕ) (subject : SubjectModel)
-      (input output : List ℕ) (ending : Ending) → Answers one entries times folder subject input output ending
-      → Answers mid entries times folder subject input output ending
-  moves entries times folder (affected options) input output ending is =
-      affected-moves entries options input output ending is
-  moves entries times folder (audit options) input output ending is =
+  stale-for : (entries : List ReadStatement) (log : BuildLogModel) (times : DeclaredTimes)
+      (paths : List (List ℕ)) (edges : List StaleEdge) → AreStaleFor one entries log times paths edges
+      → AreStaleFor mid entries log times paths edges
+  stale-for entries log times paths edges is = record {
+    files = is.files;
+    are_files = is.are_files;
+    are_stale = subst (λ (ns : List EdgeNo). AreStaleEdges one.graph.built.graph entries
+        (map (λ (e : EdgeNo). e.0) ns) log times is.files edges) same.unknown is.are_stale;
+  }
+
+  stale-said : (entries : List ReadStatement) (edges : List StaleEdge)
+      → stale_caveats mid entries edges ≡ stale_caveats one entries edges
+  stale-said entries edges =
+      ap (λ (c : List ℕ). c ++ dyndep_text one.graph entries [] (numbers_of_stale edges)) (sym same.caveats)
+
+  stale-moves : (entries : List ReadStatement) (log : BuildLogModel) (times : DeclaredTimes)
+      (options : StaleModel) (output : List ℕ) (ending : Ending)
+      → AnswersStale one entries log times options output ending
+      → AnswersStale mid entries log times options output ending
+  stale-moves entries log times options _ _ (unjudged_target bad) = unjudged_target bad
+  stale-moves entries log times options _ _ (unjudged_depfile {line = line} at has) =
+      unjudged_depfile at (faulty _ line has)
+  stale-moves entries log times options _ _ (no_time at fine first) = no_time at (clear _ fine) first
+  stale-moves entries log times options _ _ (listed {stale = s} at fine are none) =
+      subst (λ (c : List ℕ). AnswersStale mid entries log times options (stale_text one.graph options.why s)
+      (answered (not (is_empty s)) c)) (stale-said entries s)
+      (listed at (clear _ fine) (stale-for entries log times _ s are) none)
+  stale-moves entries log times options _ _ (remade {all = a} {stale = s} at fine whole some are) =
+      subst (λ (c : List ℕ). AnswersStale mid entries log times options (stale_text one.graph options.why s)
+      (answered (not (is_empty s)) (c ++ manifest_text one.graph a (manifest_asked one.graph options))))
+      (stale-said entries s)
+      (remade at (clear _ fine) (stale-for entries log times _ a whole) some
+      (stale-for entries log times _ s are))
+
+  moves : (entries : List ReadStatement) (log : BuildLogModel) (times : DeclaredTimes) (folder : List ℕ)
+      (subject : SubjectModel)
+      (list : List TestModel) (input output : List ℕ) (ending : Ending)
+      → Answers one entries log times folder subject list input output ending
+      → Answers mid entries log times folder subject list input output ending
+  moves entries log times folder (affected options) list input output ending is =
+      affected-moves entries folder options input output ending is
+  moves entries log times folder (audit options) list input output ending is =
       audit-moves entries times folder options output ending is
-  moves entries times folder (draw options) input output ending is =
+  moves entries log times folder (draw options) list input output ending is =
       draw-moves entries options output ending is
-  moves entries times folder json input output ending is = json-moves entries output ending is
-  moves entries times folder (keys options) input output ending is =
+  moves entries log times folder json list input output ending is = json-moves entries output ending is
+  moves entries log times folder (keys options) list input output ending is =
       keys-moves entries options (unwrap_or (asked_mark options) []) output ending is
-  moves entries times folder (why options) input output ending is = why-moves entries options output ending is
+  moves entries log times folder (stale options) list input output ending is =
+      stale-moves entries log times options output ending is
+  moves entries log times folder (tests options) list input output ending is =
+      tests-move entries folder options list input output ending is
+  moves entries log times folder (why options) list input output ending is =
+      why-moves entries options output ending is
 
 pub same-answers : SameKnownHaveSameAnswers
-same-answers one other same entries times folder subject input output ending is =
-    subst (λ (known : DiscoveredGraph). Answers known entries times folder subject input output ending)
-    (mid-is one other same) (moves one other same entries times folder subject input output ending is)
+same-answers one other same entries log times folder subject list input output ending is =
+    subst (λ (known : DiscoveredGraph). Answers known entries log times folder subject list input output
+    ending)
+    (mid-is one other same)
+    (moves one other same entries log times folder subject list input output ending is)
 
 pub same-back : (one other : DiscoveredGraph) → SameKnown one other → SameKnown other one
 same-back one other same = record {

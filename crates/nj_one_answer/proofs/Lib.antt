@@ -14,5 +14,7 @@ mod QuestionAnswers
 mod ReportAnswers
 mod RunAnswers
 mod RunRows
+mod StaleAnswers
+mod TestAnswers
 mod ToolAnswers
 mod WhyAnswers

@@ -1,4 +1,4 @@
--- From which files a manifest is made, told twice.
+-- Which files a manifest is made from, asked twice.
 use Rattle.std.proofs.Common.{◌≡◌, ℕ, Bool, Result, Ok, Err, IfOk, List}
 use Rattle.std.specs.Global.{Vec}
 use Rattle.nj_scope.specs.ReadingList.{ReadStatement}

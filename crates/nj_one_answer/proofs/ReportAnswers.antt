@@ -16,8 +16,9 @@ use Rattle.nj_ask.specs.Answers.AnswersAffected.{no_path, no_rule, reported}
 use Rattle.nj_ask.specs.Endings.{Ending, answered, program_line, refused}
 use Rattle.nj_ask.specs.Given.{given_paths}
 use Rattle.nj_ask.specs.Laws.{WarningsAreUnique}
+use Rattle.nj_ask.specs.Manifest.{opened_files}
 use Rattle.nj_globs.specs.Laws.{OneReading}
-use Rattle.nj_ask.specs.Reports.{ChangeModel, IsReport, IsTouchedBy, changed_numbers}
+use Rattle.nj_ask.specs.Reports.{ChangeModel, HasCaveats, IsReport, IsTouchedBy, changed_numbers}
 use Rattle.nj_ask.specs.Shape.{shape_text}
 use Rattle.nj_one_answer.specs.Answers.{OneAffectedAnswer}
 use Rattle.nj_agreement.proofs.ReachedAnswers.{rising-agree}
@@ -25,28 +26,34 @@ use Rattle.nj_one_answer.proofs.GivenAnswers.{leaves-agree, some-or-none}
 
 module _ (reading : OneReading) (unique : WarningsAreUnique) (known : DiscoveredGraph)
     (entries : List ReadStatement) where
+  pub caveats-agree : (q : ChangeModel) (edges warnings more : List ℕ)
+      → HasCaveats known entries q edges warnings → HasCaveats known entries q edges more → warnings ≡ more
+  caveats-agree q edges warnings more is also =
+      is.all ∙ ap (λ a. known.caveats.items ++ a
+      ++ shape_text known entries (opened_files known.graph q.working) (changed_numbers known.graph q) edges)
+      (unique known.graph entries q q.paths is.about also.about is.warns also.warns)
+      ∙ sym also.all
+
   reports-agree : (q : ChangeModel) (asked : Asked) (output other warnings more : List ℕ)
       → IsReport known entries q asked output warnings → IsReport known entries q asked other more
       → (output ≡ other) × (warnings ≡ more)
   reports-agree q asked output other warnings more is also =
       let edges = rising-agree (IsTouchedBy known q) is.lists.edges also.lists.edges is.lists.touched
-      is.lists.rises also.lists.touched also.lists.rises in
-      let about = unique known.graph entries q q.paths is.about also.about is.warns also.warns in
-      let text : List ℕ → List ℕ → List ℕ = λ a es.
-      known.caveats.items ++ a ++ shape_text known entries (changed_numbers known.graph q) es in (
+      is.lists.rises also.lists.touched also.lists.rises in (
         is.lists.lines ∙ ap (flat_map (lines_of_outputs known.graph asked)) edges ∙ sym also.lists.lines,
-        is.all ∙ ap (λ a. text a is.lists.edges) about ∙ ap (text also.about) edges ∙ sym also.all,
+        caveats-agree q also.lists.edges warnings more
+            (subst (λ es. HasCaveats known entries q es warnings) edges is.caveats) also.caveats,
       )
 
-  module _ (options : AffectedModel) (input : List ℕ) where
+  module _ (folder : List ℕ) (options : AffectedModel) (input : List ℕ) where
     unmade : (lines : List (List ℕ)) → lines ≡ [] → options.allow_empty ≡ false
         → (lines ≢ []) ⊎ (options.allow_empty ≡ true) → ⊥
     unmade lines none asks (inl some) = absurd (some none)
     unmade lines none asks (inr allowed) = absurd (both_ways options.allow_empty asks allowed)
 
     pub answers-agree : (output other : List ℕ) (ending end : Ending)
-        → AnswersAffected known entries options input output ending
-        → AnswersAffected known entries options input other end → (output ≡ other) × (ending ≡ end)
+        → AnswersAffected known entries folder options input output ending
+        → AnswersAffected known entries folder options input other end → (output ≡ other) × (ending ≡ end)
     answers-agree _ _ _ _ (no_rule {name = a} is) (no_rule {name = b} also) = (
       refl,
       ap (λ name. refused (program_line (codes "unknown rule '" ++ name ++ codes "'")) Fault)
@@ -68,12 +75,13 @@ module _ (reading : OneReading) (unique : WarningsAreUnique) (known : Discovered
     answers-agree _ _ _ _ (reported {paths = ps} {outputs = o} {warnings = w} none some leaves report)
         (reported {paths = qs} {outputs = p} {warnings = v} none2 some2 leaves2 report2) =
         let same = leaves-agree reading options (given_paths options input) ps qs leaves leaves2 in
-        let both = reports-agree (change_asked options qs) (outputs_asked options) o p w v
-        (subst (λ paths. IsReport known entries (change_asked options paths) (outputs_asked options) o w) same
+        let both = reports-agree (change_asked options folder qs) (outputs_asked options) o p w v
+        (subst (λ paths. IsReport known entries (change_asked options folder paths) (outputs_asked options) o
+        w) same
         report)
         report2 in
         (both.0, ap (answered false) both.1)
 
 pub one-affected-answer : OneReading → WarningsAreUnique → OneAffectedAnswer
-one-affected-answer reading unique known entries options input =
-    answers-agree reading unique known entries options input
+one-affected-answer reading unique known entries folder options input =
+    answers-agree reading unique known entries folder options input

@@ -8,11 +8,11 @@ use Rattle.nj_one_answer.specs.Runs.{EndAlike, Failed, IsCutOff, SameRuns, SameU
 use Rattle.nj_one_answer.specs.Runs.IsCutOff.{output_failed, error_failed, lacked_memory}
 use Rattle.nj_one_answer.proofs.RunAnswers.{alike-runs-are-same}
 
--- a sink that took these bytes, and has not failed
+-- a sink that received the given bytes, and has not failed
 abbrev took : List ℕ → SinkState
 took bytes = record { taken = Some bytes; failures = 0; took_since_failure = true }
 
--- standard output took the first, and standard error the second
+-- standard output received the first, and standard error the second
 abbrev wrote : (output error : List ℕ) → Sinks
 wrote output error = record { output = took output; error = took error }
 

@@ -1,4 +1,4 @@
--- Two sinks that take the same text.
+-- Two sinks that receive the same text.
 use Rattle.std.proofs.Common.{◌≡◌, inl, inr, ℕ, Option, Some, None, IfSome, Result, Ok, Err, IfOk, OnOk, List}
 use Rattle.std.proofs.Common.{refl, sym, ap, ◌∙◌}
 use Rattle.std.specs.Io.KnownBytes.{Appends}

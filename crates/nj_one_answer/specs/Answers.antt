@@ -1,17 +1,22 @@
 -- When two answers to one question about a graph are the same.
 use Rattle.std.specs.Prelude.{◌≡◌, ℕ, true, false, Ok, List, map}
 use Rattle.nj_scope.specs.ReadingList.{ReadStatement}
+use Rattle.nj_build_log.specs.Logs.{BuildLogModel}
 use Rattle.nj_discovered.specs.Times.{DeclaredTimes}
 use Rattle.nj_graph.specs.Graph.{IsGraphOf}
 use Rattle.nj_graph.specs.Handles.{GraphEdge, files_in}
-use Rattle.nj_questions.specs.Questions.{AffectedModel, AuditModel, DrawModel, KeysModel, WhyModel, SubjectModel, audit, draw}
+use Rattle.nj_tests.specs.Tests.{TestModel}
+use Rattle.nj_questions.specs.Questions.{AffectedModel, AuditModel, DrawModel, KeysModel, StaleModel, TestsModel, WhyModel, SubjectModel}
+use Rattle.nj_questions.specs.Questions.{audit, draw, stale}
 use Rattle.nj_ask.specs.declared.discovered.DiscoveredGraph.{DiscoveredGraph}
 use Rattle.nj_ask.specs.Answers.{AnswersAffected, AnswersDraw, AnswersJson, AnswersKeys, AnswersWhy, asked_targets}
 use Rattle.nj_ask.specs.Asks.{Answers, IsTaken, Misuses}
 use Rattle.nj_ask.specs.Audits.{AnswersAudit}
+use Rattle.nj_ask.specs.ChosenTests.{AnswersTests}
 use Rattle.nj_ask.specs.Drawings.{drawing_text}
 use Rattle.nj_ask.specs.DrawnNodes.{drawn_nodes}
 use Rattle.nj_ask.specs.Endings.{Ending}
+use Rattle.nj_ask.specs.Stales.{AnswersStale}
 use Rattle.nj_agreement.specs.Graphs.{SameButTies}
 use Rattle.nj_agreement.specs.Sources.{TellAll}
 
@@ -23,10 +28,10 @@ HasOneAnswer Is = (output other : List ℕ) (ending end : Ending) → Is output 
 
 -- `affected`
 abbrev pub OneAffectedAnswer : Type 0
-OneAffectedAnswer = (known : DiscoveredGraph) (entries : List ReadStatement) (options : AffectedModel) (input : List ℕ)
-    → HasOneAnswer (AnswersAffected known entries options input)
+OneAffectedAnswer = (known : DiscoveredGraph) (entries : List ReadStatement) (folder : List ℕ) (options : AffectedModel)
+    (input : List ℕ) → HasOneAnswer (AnswersAffected known entries folder options input)
 
--- `audit`, by times that are declared of all paths
+-- `audit`, by times that are declared for all paths
 abbrev pub OneAuditAnswer : Type 0
 OneAuditAnswer = (known : DiscoveredGraph) (entries : List ReadStatement) (times : DeclaredTimes) (folder : List ℕ)
     (options : AuditModel) → TellAll times → HasOneAnswer (AnswersAudit known entries times folder options)
@@ -40,6 +45,17 @@ abbrev pub OneKeysAnswer : Type 0
 OneKeysAnswer = (known : DiscoveredGraph) (entries : List ReadStatement) (options : KeysModel) (mark : List ℕ)
     → IsGraphOf known.graph entries → HasOneAnswer (AnswersKeys known entries options mark)
 
+-- `stale`, by times that are declared of all paths
+abbrev pub OneStaleAnswer : Type 0
+OneStaleAnswer = (known : DiscoveredGraph) (entries : List ReadStatement) (log : BuildLogModel) (times : DeclaredTimes)
+    (options : StaleModel) → IsGraphOf known.graph entries → TellAll times
+    → HasOneAnswer (AnswersStale known entries log times options)
+
+-- `tests`, about one list of tests
+abbrev pub OneTestsAnswer : Type 0
+OneTestsAnswer = (known : DiscoveredGraph) (entries : List ReadStatement) (folder : List ℕ) (options : TestsModel)
+    (tests : List TestModel) (input : List ℕ) → HasOneAnswer (AnswersTests known entries folder options tests input)
+
 -- `why`
 abbrev pub OneWhyAnswer : Type 0
 OneWhyAnswer = (known : DiscoveredGraph) (entries : List ReadStatement) (options : WhyModel)
@@ -47,7 +63,7 @@ OneWhyAnswer = (known : DiscoveredGraph) (entries : List ReadStatement) (options
 
 -- ---- `draw`
 
--- the drawing of these edges for these files
+-- the drawing of the given edges for the given files
 abbrev pub drawing_of : DiscoveredGraph → DrawModel → (files : List (List ℕ)) → List GraphEdge → List ℕ
 drawing_of known options files edges =
     drawing_text known.discoveries.items options.fold (drawn_nodes options (files_in known.graph files) edges) edges
@@ -87,9 +103,10 @@ pub record SameKnown (one other : DiscoveredGraph) : Type 0 where
 
 -- they have the same answers
 abbrev pub SameKnownHaveSameAnswers : Type 0
-SameKnownHaveSameAnswers = (one other : DiscoveredGraph) → SameKnown one other → (entries : List ReadStatement) (times : DeclaredTimes)
-    (folder : List ℕ) (subject : SubjectModel) (input output : List ℕ) (ending : Ending)
-    → Answers one entries times folder subject input output ending → Answers other entries times folder subject input output ending
+SameKnownHaveSameAnswers = (one other : DiscoveredGraph) → SameKnown one other → (entries : List ReadStatement) (log : BuildLogModel)
+    (times : DeclaredTimes) (folder : List ℕ) (subject : SubjectModel) (tests : List TestModel) (input output : List ℕ) (ending : Ending)
+    → Answers one entries log times folder subject tests input output ending
+    → Answers other entries log times folder subject tests input output ending
 
 -- ---- whatever is asked
 
@@ -98,16 +115,20 @@ abbrev pub SameOutput : DiscoveredGraph → SubjectModel → (one other : List �
 SameOutput known (draw options) one other = SameDrawing known options one other
 SameOutput known subject one other = one ≡ other
 
--- `audit` looks sources up, so their times are declared
+-- `audit` looks sources up, and `stale` all files, so their times are declared
 abbrev pub TellTimes : SubjectModel → DeclaredTimes → Type 0
 TellTimes (audit options) times = TellAll times
+TellTimes (stale options) times = TellAll times
 TellTimes subject times = Unit {0}
 
--- One graph, its statements and the options leave one output, but for a drawing's edges that are equally far, and one ending.
+-- One graph, its statements, a build log, the list of tests and the options leave one output, but for a drawing's edges that are equally
+-- far, and one ending.
 abbrev pub OneAnswer : Type 0
-OneAnswer = (known : DiscoveredGraph) (entries : List ReadStatement) (times : DeclaredTimes) (folder : List ℕ) (subject : SubjectModel)
-    (input : List ℕ) (output other : List ℕ) (ending end : Ending) → IsGraphOf known.graph entries → TellTimes subject times
-    → Answers known entries times folder subject input output ending → Answers known entries times folder subject input other end
+OneAnswer = (known : DiscoveredGraph) (entries : List ReadStatement) (log : BuildLogModel) (times : DeclaredTimes)
+    (folder : List ℕ) (subject : SubjectModel) (tests : List TestModel) (input : List ℕ) (output other : List ℕ) (ending end : Ending)
+    → IsGraphOf known.graph entries → TellTimes subject times
+    → Answers known entries log times folder subject tests input output ending
+    → Answers known entries log times folder subject tests input other end
     → SameOutput known subject output other × (ending ≡ end)
 
 -- ---- options that are refused
@@ -116,6 +137,6 @@ OneAnswer = (known : DiscoveredGraph) (entries : List ReadStatement) (times : De
 abbrev pub OneMisuse : Type 0
 OneMisuse = (subject : SubjectModel) (line other : List ℕ) → Misuses subject line → Misuses subject other → line ≡ other
 
--- and then they are not taken
+-- and then they are not accepted
 abbrev pub MisusedIsNotTaken : Type 0
 MisusedIsNotTaken = (subject : SubjectModel) (line : List ℕ) → Misuses subject line → ¬ IsTaken subject

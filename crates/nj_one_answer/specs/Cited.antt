@@ -1,6 +1,7 @@
 -- What the contracts of this crate cite: each name comes from the module in its line.
 pub use Rattle.nj_one_answer.specs.Answers.{MisusedIsNotTaken, OneAffectedAnswer, OneAffectedDrawing, OneAnswer, OneAuditAnswer}
-pub use Rattle.nj_one_answer.specs.Answers.{OneDrawAnswer, OneJsonAnswer, OneKeysAnswer, OneMisuse, OneWhyAnswer, SameKnownHaveSameAnswers}
+pub use Rattle.nj_one_answer.specs.Answers.{OneDrawAnswer, OneJsonAnswer, OneKeysAnswer, OneMisuse, OneStaleAnswer, OneTestsAnswer}
+pub use Rattle.nj_one_answer.specs.Answers.{OneWhyAnswer, SameKnownHaveSameAnswers}
 pub use Rattle.nj_ask.specs.Asks.{around}
 pub use Rattle.nj_ask.specs.AskedWords.{ended_status}
 pub use Rattle.std.specs.IoError.{error_kind}

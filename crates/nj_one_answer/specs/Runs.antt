@@ -1,8 +1,9 @@
 -- When two runs of one question end alike.
 use Rattle.std.specs.Prelude.{◌≡◌, ◌⊎◌, ℕ, Result, Ok, Err, List, ◌++◌}
 use Rattle.nj_scope.specs.ReadingList.{ReadStatement}
+use Rattle.nj_build_log.specs.Logs.{BuildLogModel}
 use Rattle.nj_discovered.specs.Times.{DeclaredTimes}
-use Rattle.nj_graph.specs.Graph.{IsGraphOf}
+use Rattle.nj_tests.specs.Tests.{TestModel}
 use Rattle.nj_tools.specs.Sinks.{SinkState, FailsWithin}
 use Rattle.nj_questions.specs.Questions.{QuestionModel, SubjectModel, question_model}
 use Rattle.nj_questions.specs.QuestionOf.{RefusalModel, question_of, out_of_memory, old_option, shows_help, unparsed}
@@ -11,9 +12,9 @@ use Rattle.nj_questions.specs.declared.refusals.Refusal.{Refusal}
 use Rattle.nj_ask.specs.declared.discovered.DiscoveredGraph.{DiscoveredGraph}
 use Rattle.nj_ask.specs.declared.status.Status.{Status}
 use Rattle.nj_ask.specs.declared.status.Status.TheVariants.{Fault, OutputFailed, Usage}
-use Rattle.nj_ask.specs.Asks.{Around, IsRefusal, seeks_undeclared}
+use Rattle.nj_ask.specs.Asks.{Around, IsRefusal, Knows, Lacks}
 use Rattle.nj_ask.specs.Endings.{Ending, Ends, Reported, Sinks, memory_line, program_line}
-use Rattle.nj_ask.specs.KnownGraphs.{KnowsGraph, LacksGraph, Sources}
+use Rattle.nj_ask.specs.KnownGraphs.{Sources}
 use Rattle.nj_one_answer.specs.Answers.{SameKnown, SameOutput, TellTimes}
 use Rattle.nj_one_answer.specs.Sinks.{SameSinks}
 
@@ -23,11 +24,11 @@ use Rattle.nj_one_answer.specs.Sinks.{SameSinks}
 abbrev pub Failed : (old new : SinkState) → Type 0
 Failed old new = (text : List ℕ) × FailsWithin old new text
 
--- two sinks took the same, unless one of them failed
+-- two sinks received the same, unless one of them failed
 abbrev pub SameUnlessFailed : (old one other : SinkState) → Type 0
 SameUnlessFailed old one other = Failed old one ⊎ (Failed old other ⊎ SameSinks old one other)
 
--- A line says what cannot be done, and then why, in the words of the system. Two such lines begin alike; or memory ran out for one.
+-- A line says what cannot be done, and then why, in the words of the system. Two lines begin alike; or memory ran out for one of them.
 pub data SameErrors (what : List ℕ) (old one other : SinkState) : Type 0 where
   reported : (why more : List ℕ) → Reported old one (program_line (what ++ why)) → Reported old other (program_line (what ++ more))
       → SameErrors what old one other
@@ -35,12 +36,11 @@ pub data SameErrors (what : List ℕ) (old one other : SinkState) : Type 0 where
 
 -- ---- endings
 
--- this output and this ending
+-- the given output and the given ending
 abbrev pub IsJust : (output : List ℕ) → Ending → (other : List ℕ) → (end : Ending) → Type 0
 IsJust output ending other end = (other ≡ output) × (end ≡ ending)
 
--- Two runs have the same output and ending, and each ends as it can with these: its sinks take them, or one of them fails, or memory runs
--- out for it.
+-- Two runs have the same output and ending, and each ends as it can with them: its sinks receive both, or a sink fails, or memory runs out.
 pub record EndAlike (Same : (output other : List ℕ) → Type 0) (old one other : Sinks) (status end : Status) : Type 0 where
   pub output : List ℕ
   pub other_output : List ℕ
@@ -55,7 +55,7 @@ pub data IsCutOff (old new : Sinks) : Status → Type 0 where
   error_failed : {status : Status} → Failed old.error new.error → IsCutOff old new status
   lacked_memory : Reported old.error new.error memory_line → IsCutOff old new Fault
 
--- both sinks took the same, and the statuses are the same
+-- both sinks received the same, and the statuses are the same
 pub record SameRuns (old one other : Sinks) (status end : Status) : Type 0 where
   pub output : SameSinks old.output one.output other.output
   pub error : SameSinks old.error one.error other.error
@@ -74,30 +74,31 @@ pub record LacksMemory (old new : Sinks) (status : Status) : Type 0 where
 
 -- ---- questions
 
--- what the files of a question come to: a graph and its statements, or a line that says why there is none
+-- what the files of a question come to: a graph, its statements, a build log and the tests of a list, or a line that says why one is
+-- lacking
 pub data FilesRead : Type 0 where
-  graph : DiscoveredGraph → List ReadStatement → FilesRead
+  graph : DiscoveredGraph → List ReadStatement → BuildLogModel → List TestModel → FilesRead
   no_graph : (line : List ℕ) → FilesRead
 
--- they come to this
+-- they come to the given result
 abbrev pub ComeTo : QuestionModel → DeclaredTimes → (old new : Sources) → FilesRead → Type 0
-ComeTo question times old new (graph known entries) =
-    KnowsGraph question.graph (seeks_undeclared question.subject) times old new known × IsGraphOf known.graph entries
-ComeTo question times old new (no_graph line) = LacksGraph question.graph times old new line
+ComeTo question times old new (graph known entries log tests) = Knows question times old new known entries log tests
+ComeTo question times old new (no_graph line) = Lacks question times old new line
 
--- they come to the same graph and statements, or to the same line
+-- they come to the same graph, statements, build log and tests, or to the same line
 abbrev pub SameFiles : (one other : FilesRead) → Type 0
-SameFiles (graph known entries) (graph other more) = SameKnown known other × (entries ≡ more)
-SameFiles (graph known entries) (no_graph line) = ⊥
-SameFiles (no_graph line) (graph known entries) = ⊥
+SameFiles (graph known entries log tests) (graph other more log2 others) =
+    SameKnown known other × (entries ≡ more) × (log ≡ log2) × (tests ≡ others)
+SameFiles (graph known entries log tests) (no_graph line) = ⊥
+SameFiles (no_graph line) (graph known entries log tests) = ⊥
 SameFiles (no_graph line) (no_graph more) = line ≡ more
 
--- outputs for a question about files that come to this
+-- outputs for a question about files that come to the given result
 abbrev pub SameFor : SubjectModel → FilesRead → (output other : List ℕ) → Type 0
-SameFor subject (graph known entries) output other = SameOutput known subject output other
+SameFor subject (graph known entries log tests) output other = SameOutput known subject output other
 SameFor subject (no_graph line) output other = output ≡ other
 
--- Two runs of a question: both end alike before anything is read; or both read the files, and end alike if these come to the same; or
+-- Two runs of a question: both end alike before anything is read; or both read the files, and end alike if the files come to the same; or
 -- memory runs out for one of them.
 pub data AskAlike (question : QuestionModel) (times : DeclaredTimes) (old one other : Around) (status end : Status) : Type 0 where
   unread : one.sources ≡ old.sources → other.sources ≡ old.sources
@@ -110,9 +111,9 @@ pub data AskAlike (question : QuestionModel) (times : DeclaredTimes) (old one ot
   lacked_memory : LacksMemory old.sinks one.sinks status ⊎ LacksMemory old.sinks other.sinks end
       → AskAlike question times old one other status end
 
--- ---- arguments that are no question
+-- ---- arguments that are not a question
 
--- both refuse alike, or memory ran out when they were read
+-- both refuse alike, or memory ran out when the arguments were read
 pub data RefuseAlike (old one other : Sinks) (status end : Status) : Type 0 where
   ended : EndAlike (λ a b. a ≡ b) old one other status end → RefuseAlike old one other status end
   lacked_memory : LacksMemory old one status → LacksMemory old other end → RefuseAlike old one other status end
@@ -123,7 +124,7 @@ ReadAlike (Ok question) times old one other status end = AskAlike (question_mode
 ReadAlike (Err refused) times old one other status end =
     (one.sources ≡ old.sources) × (other.sources ≡ old.sources) × RefuseAlike old.sinks one.sinks other.sinks status end
 
--- Two refusals of the same arguments. The words of help, and of what is wrong with arguments, are not told.
+-- Two refusals of the same arguments. The wording of help, and of what is wrong with arguments, is left open.
 abbrev pub RefuseWordsAlike : RefusalModel → (old one other : Sinks) → (status end : Status) → Type 0
 RefuseWordsAlike out_of_memory old one other status end = LacksMemory old one status × LacksMemory old other end
 RefuseWordsAlike old_option old one other status end = EndAlike (λ a b. a ≡ b) old one other status end

@@ -1,10 +1,10 @@
--- What two sinks have in common that took the same text.
+-- What two sinks that received the same text have in common.
 use Rattle.std.specs.Prelude.{◌≡◌, ◌⊎◌, IfSome, Result, Ok, Err}
 use Rattle.nj_tools.specs.Sinks.{SinkState}
 use Rattle.nj_tools.specs.declared.tool_fault.ToolFault.{ToolFault}
 use Rattle.nj_tools.specs.declared.tool_fault.ToolFault.TheVariants.{TextNotUtf8, Write, OutOfMemory}
 
--- Two sinks are in the same state after they were in this one. One that reported nothing then may report anything.
+-- Two sinks that were in the given state are in the same state now. A sink that reported nothing then may report anything.
 pub record SameSinks (before one other : SinkState) : Type 0 where
   pub taken : IfSome before.taken (λ bytes. one.taken ≡ other.taken)
   pub failures : one.failures ≡ other.failures

@@ -1,6 +1,6 @@
 //! What the definitions of `nj_ask` leave open about the answer to a question.
 
-ghost use Rattle.nj_one_answer.specs.Cited.{MisusedIsNotTaken, OneAffectedAnswer, OneAffectedDrawing, OneAnswer, OneAuditAnswer, OneDrawAnswer, OneJsonAnswer, OneKeysAnswer, OneMisuse, OneWhyAnswer, SameKnownHaveSameAnswers};
+ghost use Rattle.nj_one_answer.specs.Cited.{MisusedIsNotTaken, OneAffectedAnswer, OneAffectedDrawing, OneAnswer, OneAuditAnswer, OneDrawAnswer, OneJsonAnswer, OneKeysAnswer, OneMisuse, OneStaleAnswer, OneTestsAnswer, OneWhyAnswer, SameKnownHaveSameAnswers};
 
 /// A graph, its statements, the options and the changed paths have one report.
 pub fn affected_answer_law()
@@ -10,7 +10,7 @@ pub fn affected_answer_law()
     nj_globs::one_reading();
 }
 
-/// Options are refused with one line, or taken.
+/// Options are refused with one line, or accepted.
 pub fn misuse_law()
     ensures line { OneMisuse }
     ensures apart { MisusedIsNotTaken }
@@ -25,7 +25,7 @@ pub fn audit_answer_law()
 {}
 
 /// A graph, its statements and the options have one drawing, but for the order of edges that are
-/// equally far from the targets; with `--affected` they have one.
+/// equally far from the targets; with `--affected` the order is fixed too.
 pub fn draw_answer_law()
     ensures one { OneDrawAnswer }
     ensures affected { OneAffectedDrawing }
@@ -43,6 +43,23 @@ pub fn keys_answer_law()
     nj_keys::lines_law();
 }
 
+/// A graph, its statements, a build log and the options have one list of stale edges, by times that
+/// are declared.
+pub fn stale_answer_law()
+    ensures { OneStaleAnswer }
+{
+    nj_stale::some_state_fits();
+}
+
+/// A graph, its statements, the options, the list of tests and the changed paths have one choice of
+/// tests.
+pub fn tests_answer_law()
+    ensures { OneTestsAnswer }
+{
+    nj_ask::report_law();
+    nj_globs::one_reading();
+}
+
 /// A graph, its statements and the options have one chain, or none.
 pub fn why_answer_law()
     ensures { OneWhyAnswer }
@@ -53,7 +70,7 @@ pub fn known_answer_law()
     ensures { SameKnownHaveSameAnswers }
 {}
 
-/// The same of whatever is asked.
+/// The same for any question.
 pub fn answer_law()
     ensures { OneAnswer }
 {
@@ -62,5 +79,7 @@ pub fn answer_law()
     draw_answer_law();
     json_answer_law();
     keys_answer_law();
+    stale_answer_law();
+    tests_answer_law();
     why_answer_law();
 }

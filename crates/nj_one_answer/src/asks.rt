@@ -12,7 +12,7 @@ use nj_tools::Sink;
 use std::alloc::{AllocError, Global};
 use std::io::{Error, ErrorKind};
 
-/// Free: where a sink fails; what a sink reports that reported nothing before.
+/// Free: where a sink fails; what a sink reports if it reported nothing before.
 pub fn refuse_words<E: Sink>(one: &mut E, other: &mut E) -> (Status, Status)
     requires { E.state one.old ≡ E.state other.old }
     ensures sinks { SameUnlessFailed (E.state one.old) (E.state one.new) (E.state other.new) }
@@ -21,7 +21,7 @@ pub fn refuse_words<E: Sink>(one: &mut E, other: &mut E) -> (Status, Status)
     (nj_ask::refuse_words(one), nj_ask::refuse_words(other))
 }
 
-/// Free: where a sink fails; what a sink reports that reported nothing before.
+/// Free: where a sink fails; what a sink reports if it reported nothing before.
 pub fn report_out_of_memory<E: Sink>(one: &mut E, other: &mut E) -> (Status, Status)
     requires { E.state one.old ≡ E.state other.old }
     ensures sinks { SameUnlessFailed (E.state one.old) (E.state one.new) (E.state other.new) }
@@ -33,8 +33,8 @@ pub fn report_out_of_memory<E: Sink>(one: &mut E, other: &mut E) -> (Status, Sta
     )
 }
 
-/// Free: whether memory lacks; the words of the system; where a sink fails; what a sink reports that
-/// reported nothing before.
+/// Free: whether memory lacks; the wording of the system; where a sink fails; what a sink reports
+/// if it reported nothing before.
 pub fn refuse_folder<E: Sink>(
     alloc: Global,
     one: &mut E,
@@ -57,8 +57,8 @@ pub fn refuse_folder<E: Sink>(
     )
 }
 
-/// Free: whether memory lacks; the words of the system; where a sink fails; what a sink reports that
-/// reported nothing before.
+/// Free: whether memory lacks; the wording of the system; where a sink fails; what a sink reports
+/// if it reported nothing before.
 pub fn refuse_input<E: Sink>(
     alloc: Global,
     one: &mut E,
@@ -98,8 +98,8 @@ pub fn made_from(
 }
 
 /// For a graph of statements, for sources that declare the same at all paths and do not fail, and
-/// for times that are declared of all paths. Free: whether memory lacks; the numbers of files; under
-/// which name the main file was opened.
+/// for times that are declared for all paths. Free: whether memory lacks; the numbers of files;
+/// under which name the main file was opened.
 pub fn with_discovered<S: FileSource, T: FileTimes>(
     alloc: Global,
     graph: Graph,
@@ -126,8 +126,8 @@ pub fn with_discovered<S: FileSource, T: FileTimes>(
 }
 
 /// For sources and sinks in the same states. Free: whether memory lacks; where a sink fails; what a
-/// sink reports that reported nothing before; which of the graphs and statements that the sources
-/// allow is read, or which line says why there is none; the graph that is returned.
+/// sink reports if it reported nothing before; which of the graphs and statements that the sources
+/// allow is read, or which line says why no graph is; the graph that is returned.
 pub fn ask_read_words<S: FileSource, B: FileSource, T: FileTimes, O: Sink, E: Sink>(
     alloc: Global,
     read: &Result<Question, Refusal>,
@@ -173,9 +173,9 @@ pub fn ask_read_words<S: FileSource, B: FileSource, T: FileTimes, O: Sink, E: Si
 }
 
 /// For sources and sinks in the same states. Free: whether memory lacks; where a sink fails; what a
-/// sink reports that reported nothing before; which of the graphs and statements that the sources
-/// allow is read, or which line says why there is none; the words of help, and of what is wrong with
-/// arguments.
+/// sink reports if it reported nothing before; which of the graphs and statements that the sources
+/// allow is read, or which line says why no graph is; the wording of help, and of what is wrong
+/// with arguments.
 pub fn ask_words<S: FileSource, B: FileSource, T: FileTimes, O: Sink, E: Sink>(
     alloc: Global,
     words: &[String],

@@ -15,7 +15,7 @@ pub fn deps_log_read(
     (DepsLog::read(alloc, bytes), DepsLog::read(alloc, bytes))
 }
 
-/// By any keys. Free: whether memory lacks.
+/// With any keys. Free: whether memory lacks.
 pub fn deps_log_read_with_keys(
     alloc: Global,
     keys: HashKeys,

@@ -1,8 +1,8 @@
 //! What the contracts of public calls leave open: each function makes one call twice, with the same
 //! arguments, and its contract says what the two answers have in common.
 //!
-//! The proof of such a function sees the contract of the call alone. So no two answers that the
-//! contract allows differ in more than the function's documentation names as free.
+//! The proof of a function sees the contract of the call alone. So answers that the contract allows
+//! differ only in what the function's documentation names as free.
 #![tactic(auto)]
 
 mod answers;
@@ -17,7 +17,8 @@ mod tools;
 
 pub use answers::{
     affected_answer_law, answer_law, audit_answer_law, draw_answer_law, json_answer_law,
-    keys_answer_law, known_answer_law, misuse_law, why_answer_law,
+    keys_answer_law, known_answer_law, misuse_law, stale_answer_law, tests_answer_law,
+    why_answer_law,
 };
 pub use asks::{
     ask_read_words, ask_words, made_from, refuse_folder, refuse_input, refuse_words,

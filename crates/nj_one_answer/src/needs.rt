@@ -132,8 +132,7 @@ pub fn needs_next_on_page<'g>(
     (one.next_on_page(room), other.next_on_page(other_room))
 }
 
-/// For a page that has all edges that it may have. Free: whether memory lacks; the walk after the
-/// call.
+/// For a complete page. Free: whether memory lacks; the walk after the call.
 pub fn needs_mark_after_page<'g>(
     alloc: Global,
     one: &mut Needs<'g>,

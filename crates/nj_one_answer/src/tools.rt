@@ -8,7 +8,7 @@ use nj_tools::{EdgeDiscovery, InputsStyle, Mark, Needs, Sink, SinkFault, Targets
 use std::alloc::Global;
 
 /// For a graph of statements. Free: whether memory lacks; where a sink fails; what a sink reports
-/// that reported nothing before; the walk after the call.
+/// if it reported nothing before; the walk after the call.
 pub fn write_commands<S: Sink>(
     alloc: Global,
     graph: &Graph,
@@ -35,7 +35,7 @@ pub fn write_commands<S: Sink>(
 }
 
 /// For a graph of statements. Free: whether memory lacks; where a sink fails; what a sink reports
-/// that reported nothing before.
+/// if it reported nothing before.
 pub fn write_single_commands<S: Sink>(
     alloc: Global,
     graph: &Graph,
@@ -56,7 +56,7 @@ pub fn write_single_commands<S: Sink>(
 }
 
 /// For a graph of statements. Free: whether memory lacks; where a sink fails; what a sink reports
-/// that reported nothing before.
+/// if it reported nothing before.
 pub fn write_compdb<S: Sink>(
     alloc: Global,
     graph: &Graph,
@@ -78,7 +78,7 @@ pub fn write_compdb<S: Sink>(
 }
 
 /// For a graph of statements. Free: whether memory lacks; where a sink fails; what a sink reports
-/// that reported nothing before.
+/// if it reported nothing before.
 pub fn write_edge_objects<S: Sink>(
     alloc: Global,
     graph: &Graph,
@@ -97,7 +97,7 @@ pub fn write_edge_objects<S: Sink>(
     )
 }
 
-/// Free: whether memory lacks; where a sink fails; what a sink reports that reported nothing
+/// Free: whether memory lacks; where a sink fails; what a sink reports if it reported nothing
 /// before.
 pub fn write_inputs<S: Sink>(
     alloc: Global,
@@ -120,7 +120,7 @@ pub fn write_inputs<S: Sink>(
 }
 
 /// For a graph of statements. Free: whether memory lacks; where a sink fails; what a sink reports
-/// that reported nothing before.
+/// if it reported nothing before.
 pub fn write_query<S: Sink>(
     alloc: Global,
     graph: &Graph,
@@ -141,7 +141,7 @@ pub fn write_query<S: Sink>(
 }
 
 /// For a graph of statements. Free: whether memory lacks; where a sink fails; what a sink reports
-/// that reported nothing before.
+/// if it reported nothing before.
 pub fn write_rules<S: Sink>(
     alloc: Global,
     graph: &Graph,
@@ -161,7 +161,7 @@ pub fn write_rules<S: Sink>(
 }
 
 /// For a graph of statements. Free: whether memory lacks; where a sink fails; what a sink reports
-/// that reported nothing before.
+/// if it reported nothing before.
 pub fn write_targets<S: Sink>(
     alloc: Global,
     graph: &Graph,
@@ -180,7 +180,7 @@ pub fn write_targets<S: Sink>(
     )
 }
 
-/// Free: where a sink fails; what a sink reports that reported nothing before.
+/// Free: where a sink fails; what a sink reports if it reported nothing before.
 pub fn write_whole<S: Sink>(
     one: &mut S,
     other: &mut S,

@@ -51,8 +51,8 @@ pub fn edge_rule_name<'g>(edge: Edge<'g>) -> (&'g [u8], &'g [u8])
     (edge.rule_name(), edge.rule_name())
 }
 
-/// For a graph of statements, and a scope with those around it: that of a statement, or any that
-/// ends at an outermost scope.
+/// For a graph of statements, and a scope whose enclosing scopes end at an outermost scope, as
+/// those of a statement do.
 pub fn graph_scope_value<'a>(
     graph: &'a Graph,
     scope: ScopeNo,

@@ -40,7 +40,7 @@ pub fn graph_join_discovered(
 }
 
 /// For a graph of statements, for sources that declare the same at all paths and do not fail, and
-/// for times that are declared of all paths. Free: whether memory lacks; the numbers of the paths
+/// for times that are declared for all paths. Free: whether memory lacks; the numbers of the paths
 /// that are discovered.
 pub fn graph_discover<S: FileSource, T: FileTimes>(
     alloc: Global,

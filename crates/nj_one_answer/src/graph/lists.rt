@@ -5,7 +5,7 @@ ghost use Rattle.nj_one_answer.specs.Cited.{edges_in, files_in, files_of, GraphM
 
 use nj_graph::{EdgeNo, Edges, FileList, FileNo, Files, Graph};
 
-/// For files of one graph, in which no path has two numbers.
+/// For files of one graph, whose paths are distinct.
 pub fn files_numbers<'g>(files: &Files<'g>) -> (&'g [FileNo], &'g [FileNo])
     ensures { (graph : GraphModel) (paths : List (List ℕ)) → files.now ≡ files_in graph paths
         → IsDistinct bytes_eq (files_of graph) → result.0.now ≡ result.1.now }

@@ -43,8 +43,8 @@ pub fn join_dyndeps<S: FileSource>(
     )
 }
 
-/// For a graph of statements, for sources that declare the same at all paths, and for times that are
-/// declared of all paths. Free: as of [`load`].
+/// For a graph of statements, for sources that declare the same at all paths, and for times that
+/// are declared for all paths. Free: as of [`load`].
 pub fn join_present_dyndeps<S: FileSource, T: FileTimes>(
     alloc: Global,
     loaded: Loaded,
