@@ -33,12 +33,12 @@
  * index, until the status is NX_NOTHING.
  *
  * nx_outputs, nx_inputs and nx_users return many items of a list in one call: those from an index
- * on, as many as the caller's array has room for; the rest of the array is unchanged. `count` is
- * the length of the whole list, wherever the call begins, and the status is NX_DONE past its end
- * too. With room for none, and a null pointer, a call returns the count alone.
+ * on, as many as fit into the caller's array; the rest of the array is unchanged. `count` is the
+ * length of the whole list, wherever the call begins, and the status is NX_DONE past its end too.
+ * With a null pointer and a room of 0, a call returns the count alone.
  *
- * The results of the library are proved for all inputs from C, as long as C keeps its side, which
- * no proof can check:
+ * The results of the library are proved for all inputs from C, as long as C keeps its side, which a
+ * proof cannot check:
  *  - every pointer points to memory that may be read, and written where the call writes, for the
  *    length beside it. A null pointer may go with the length 0;
  *  - memory that a call writes does not overlap other memory that the same call reads or writes;
@@ -47,7 +47,7 @@
  *  - at most one call at a time uses a session. Calls for different sessions may run at the same
  *    time, in different threads, and a session may be passed to another thread between calls;
  *  - a thread that makes calls has enough stack. 256 KB are enough: files that include one another
- *    as deep as is allowed need less than 90 KB, which is measured;
+ *    to the greatest depth need less than 90 KB, as measured;
  *  - no call is made from a signal handler, or in the forked child of a process with threads.
  */
 #ifndef NINJA_EXPLAIN_H
@@ -60,7 +60,7 @@
 extern "C" {
 #endif
 
-/* The version of the interface that this header declares; nx_version tells that of the library. */
+/* The version of the interface that this header declares; nx_version returns that of the library. */
 #define NX_VERSION_MAJOR 1
 #define NX_VERSION_MINOR 2
 
@@ -68,13 +68,13 @@ extern "C" {
 enum nx_status {
     /* It succeeded. */
     NX_DONE = 0,
-    /* There is nothing there: past the end of a list, a source that no edge makes, no such path. */
+    /* Nothing to return: past the end of a list, a source that no edge makes, no such path. */
     NX_NOTHING = 1,
     /* The buffer is too small. */
     NX_SHORT = 2,
     /* There is a fault; the nx_fault_ calls describe it. */
     NX_FAULT = 3,
-    /* Files are wanted that were not supplied; nx_wanted returns their paths. */
+    /* Files that were not supplied are wanted; nx_wanted returns their paths. */
     NX_WANTED = 4,
     /* No graph is loaded. */
     NX_NOT_LOADED = 5,
@@ -89,7 +89,7 @@ enum nx_status {
     /* An allocation failed, and nothing else happened, except as nx_load, nx_join_deps,
        nx_join_discovered and nx_run say below. The session can be used and closed as before. */
     NX_OUT_OF_MEMORY = 10,
-    /* The bytes are not a deps log, or one of another version than 4. */
+    /* The bytes are not a deps log of version 4. */
     NX_BAD_LOG = 11
 };
 
@@ -97,11 +97,11 @@ enum nx_status {
 enum nx_fault {
     /* a NUL byte, or a carriage return that no line feed follows */
     NX_FAULT_BAD_BYTE = 1,
-    /* a tab as the first byte after the spaces that a line begins with */
+    /* a tab as the first byte after the spaces at the start of a line */
     NX_FAULT_TAB = 2,
     /* a `$` that begins no escape and no reference */
     NX_FAULT_BAD_ESCAPE = 3,
-    /* something else is where a certain unit is wanted */
+    /* something else in the place of a required unit */
     NX_FAULT_EXPECTED = 4,
     /* an indented line that belongs to no block */
     NX_FAULT_UNEXPECTED_INDENT = 5,
@@ -135,7 +135,7 @@ enum nx_fault {
     NX_FAULT_TOO_DEEP = 19,
     /* more than 65,536 files would be opened */
     NX_FAULT_TOO_MANY_OPENINGS = 20,
-    /* the file cannot be read; it does not occur for files that were supplied */
+    /* the file cannot be read; does not occur for supplied files */
     NX_FAULT_IO = 21,
     /* no scope declares the rule */
     NX_FAULT_UNKNOWN_RULE = 22,
@@ -153,7 +153,7 @@ enum nx_fault {
     NX_FAULT_DYNDEP_NO_STATEMENT = 28,
     /* a dyndep file mentions a build statement twice */
     NX_FAULT_DYNDEP_TWICE = 29,
-    /* a dyndep file mentions a path that no build statement bound to it makes */
+    /* a dyndep file mentions a path that is not an output of any build statement bound to it */
     NX_FAULT_DYNDEP_EXTRA = 30,
     /* a path is needed to make itself */
     NX_FAULT_CYCLE = 31,
@@ -170,11 +170,11 @@ enum nx_kind {
     NX_EXPLICIT = 0,
     NX_IMPLICIT = 1,
     NX_ORDER_ONLY = 2,
-    /* No input but a validation, in a step. */
+    /* A validation in place of an input, in a step. */
     NX_VALIDATION = 3
 };
 
-/* A step of a chain: from an edge to a file that is an input of it, of this kind. */
+/* A step of a chain: from an edge to one of its inputs, a file, with the kind of that input. */
 typedef struct nx_step {
     size_t edge;
     size_t file;
@@ -195,23 +195,24 @@ typedef struct nx_session {
 /* The value of a session before its first call. */
 #define NX_SESSION_CLOSED { 0 }
 
-/* Times for nx_join_discovered: of a file that is not there, and one that is not known. */
+/* Times for nx_join_discovered: of a missing file, and an unknown time. */
 #define NX_TIME_ABSENT UINT64_C(0)
 #define NX_TIME_UNKNOWN UINT64_MAX
 
 /* ---- the version ---- */
 
 /*
- * The version of the interface. A program still works with a greater minor number than the one for
- * which it was written; with another major one it may not. NX_DONE.
+ * The version of the interface. A program also works with a greater minor number than that for which
+ * it was written; with another major number it may not. NX_DONE.
  */
 int32_t nx_version(size_t *major, size_t *minor);
 
 /* ---- sessions and files ---- */
 
 /*
- * Opens a session that keeps nothing yet. Its earlier contents are freed. The key is for hashes: a
- * number that nobody can guess, so that untrusted files cannot have names that slow a load down.
+ * Opens a session that keeps nothing yet. Its earlier contents are freed. The key seeds the name
+ * hash: a number that nobody can guess, so that untrusted files cannot choose names that slow a load
+ * down.
  * NX_DONE, or NX_OUT_OF_MEMORY, which leaves the session unchanged.
  */
 int32_t nx_open(nx_session *session, uint64_t key);
@@ -221,36 +222,35 @@ int32_t nx_close(nx_session *session);
 
 /*
  * Supplies the bytes of the file at a path: as the main file is named in nx_load, and as other
- * files are named in `include`, `subninja`, `dyndep` and `depfile`. They are copied. They replace the
- * bytes that were supplied for this path before. A graph that is loaded stays the same.
+ * files are named in `include`, `subninja`, `dyndep` and `depfile`. The bytes are copied, and replace
+ * those supplied for the path before. A loaded graph stays the same.
  * NX_DONE or NX_OUT_OF_MEMORY.
  */
 int32_t nx_add_file(nx_session *session, const void *path, size_t path_length,
                     const void *bytes, size_t length);
 
-/* Records that there is no file at a path. NX_DONE or NX_OUT_OF_MEMORY. */
+/* Records that no file exists at a path. NX_DONE or NX_OUT_OF_MEMORY. */
 int32_t nx_add_absent(nx_session *session, const void *path, size_t path_length);
 
 /*
- * Loads the main file at a path and all files that it includes, from those that were supplied; a
- * file that was not is taken for an empty one, and is wanted. If `joins_dyndeps` is not 0, the
- * dyndep files to which edges are bound are joined too, and a failed join is a failed load. Those
- * of them that were not supplied are wanted all at once, as soon as no other file is. An earlier
- * graph is freed, and so are the lists of nx_affected and nx_page, whatever the status is.
- * NX_DONE; NX_FAULT, with the first fault; NX_WANTED if files are wanted that were not supplied:
- * supply them, or record that they are absent, and load again; NX_NOT_UTF8; NX_OUT_OF_MEMORY. There
- * is a graph only after NX_DONE and a fault only after NX_FAULT, and files are wanted only after
- * NX_WANTED.
+ * Loads the main file at a path and all files that it includes, from the supplied files; any other
+ * file counts as empty, and is wanted. If `joins_dyndeps` is not 0, the dyndep files to which edges
+ * are bound are joined too, and a failed join is a failed load. Dyndep files that were not supplied
+ * are wanted all at once, as soon as no other file is wanted. An earlier graph is freed, and so are
+ * the lists of nx_affected and nx_page, whatever the status is.
+ * NX_DONE; NX_FAULT, with the first fault; NX_WANTED if files are wanted: supply them, or record that
+ * they are absent, and load again; NX_NOT_UTF8; NX_OUT_OF_MEMORY. Only after NX_DONE is there a graph,
+ * only after NX_FAULT a fault, and only after NX_WANTED are files wanted.
  */
 int32_t nx_load(nx_session *session, const void *main, size_t main_length,
                 uint32_t joins_dyndeps);
 
 /*
  * The path at an index among the files that the last load, run or nx_join_discovered wanted and that
- * were not supplied, in the order in which it came to them, dyndep files of a load in the order of
- * the first edges that are bound to them, and depfiles in the order of the edges. More may be wanted
- * once these are there. The list stays the same until the next such call, so files can be supplied
- * while it is gone through.
+ * were not supplied, in the order in which that call reached them: dyndep files of a load in the order
+ * of the first edges bound to them, and depfiles in the order of the edges. Once these files are
+ * supplied, more may be wanted. The list stays the same until the next such call, so files can be
+ * supplied while the list is read.
  * NX_DONE, NX_NOTHING past the end, NX_SHORT.
  */
 int32_t nx_wanted(nx_session *session, size_t index, void *buffer, size_t size, size_t *needed);
@@ -258,9 +258,9 @@ int32_t nx_wanted(nx_session *session, size_t index, void *buffer, size_t size, 
 /*
  * Joins a deps log to the graph: the bytes of `.ninja_deps`, which Ninja writes to the build
  * directory. Each file that it names for the first output of an edge whose value of `deps` is not
- * empty becomes an implicit input of the edge, after those that it has, unless it is an explicit or
- * implicit input of it already. Paths that no edge named become files, after the others. A log that
- * is cut off counts as far as it goes. Lists stay the same, and the same log again changes nothing.
+ * empty becomes an implicit input of the edge, after the others, unless the edge already has it as an
+ * explicit or implicit input. Paths that no edge named become files, after the others. A truncated
+ * log counts as far as it goes. Lists stay the same, and joining the same log again changes nothing.
  * NX_DONE; NX_BAD_LOG, which leaves the graph unchanged; NX_FAULT for a dependency cycle, which a
  * log that is older than the manifest can make; NX_OUT_OF_MEMORY. After the last two there is no
  * graph.
@@ -270,47 +270,47 @@ int32_t nx_join_deps(nx_session *session, const void *log, size_t log_length);
 /*
  * Joins the inputs that builds discovered to the graph, as Ninja loads them before a build: those of
  * an edge with a value of `deps` come from a deps log, and those of another edge with a value of
- * `depfile` from that file, which is one of the supplied ones. They become implicit inputs as in
- * nx_join_deps. `log` has the bytes of `.ninja_deps`, or none for a log without records. `times` has
- * for each edge when its first output was last changed, in nanoseconds since 1970, NX_TIME_ABSENT or
+ * `depfile` from that file, one of the supplied files. They become implicit inputs as in nx_join_deps.
+ * `log` has the bytes of `.ninja_deps`, or none for a log without records. `times` has for each edge
+ * when its first output was last changed, in nanoseconds since 1970, or NX_TIME_ABSENT or
  * NX_TIME_UNKNOWN: a record that is older than its output does not count. The time of an output whose
  * path is not UTF-8 is never known. Where no record counts, or the depfile is absent, empty or faulty,
  * the inputs are unknown, which nx_is_unknown reports.
  * NX_DONE; NX_WANTED for depfiles that were not supplied: supply them, or record that they are absent,
  * and call again; NX_BAD_LOG; NX_BAD_NUMBER if `time_count` is not the number of edges; NX_FAULT for a
- * dependency cycle; NX_OUT_OF_MEMORY. After the last two there is no graph. After NX_WANTED it is
- * unchanged, and after NX_BAD_LOG and NX_BAD_NUMBER so is all else, with what nx_wanted returns.
+ * dependency cycle; NX_OUT_OF_MEMORY. After the last two there is no graph. After NX_WANTED the graph
+ * is unchanged. NX_BAD_LOG and NX_BAD_NUMBER change nothing, not even what nx_wanted returns.
  */
 int32_t nx_join_discovered(nx_session *session, const void *log, size_t log_length,
                            const uint64_t *times, size_t time_count);
 
 /*
- * How many bytes of the deps log were read that was joined to the graph last, and whether that is all
- * of them: 1 or 0. Reading ends before the first record that is cut off or wrong, as in Ninja.
+ * The number of bytes that were read of the deps log joined last, and whether that is the whole log:
+ * 1 or 0. Reading ends before the first record that is cut off or wrong, as in Ninja.
  * NX_DONE, or NX_NOTHING if no log was joined.
  */
 int32_t nx_log_read(nx_session *session, size_t *size, int32_t *is_whole);
 
 /* ---- the last fault: of a load, of a join, or of nx_pick_target ---- */
 
-/* The kind of the fault, one of `enum nx_fault`. NX_DONE, or NX_NOTHING if there is no fault. */
+/* The kind of the fault, one of `enum nx_fault`. NX_DONE, or NX_NOTHING without a fault. */
 int32_t nx_fault_kind(nx_session *session, int32_t *kind);
 
 /*
  * The line and the column of the fault, from 1; columns count bytes.
- * NX_DONE, or NX_NOTHING if there is no fault or it has no place.
+ * NX_DONE, or NX_NOTHING without a fault or a place of it.
  */
 int32_t nx_fault_place(nx_session *session, size_t *line, size_t *column);
 
 /*
  * The file of the fault, by the name under which it was opened.
- * NX_DONE, NX_NOTHING if there is no fault or it has no place, NX_SHORT.
+ * NX_DONE, NX_NOTHING without a fault or a place of it, NX_SHORT.
  */
 int32_t nx_fault_file(nx_session *session, void *buffer, size_t size, size_t *needed);
 
 /*
  * The line that reports the fault: FILE:LINE:COLUMN: TEXT, or TEXT if the fault has no place.
- * NX_DONE, NX_NOTHING if there is no fault, NX_SHORT, NX_OUT_OF_MEMORY.
+ * NX_DONE, NX_NOTHING without a fault, NX_SHORT, NX_OUT_OF_MEMORY.
  */
 int32_t nx_fault_line(nx_session *session, void *buffer, size_t size, size_t *needed);
 
@@ -326,7 +326,7 @@ int32_t nx_file_count(nx_session *session, size_t *count);
 int32_t nx_rule_count(nx_session *session, size_t *count);
 
 /*
- * The name of the rule at an index among these, in byte order.
+ * The name of the rule at an index among the rules of that scope, in byte order.
  * NX_DONE, NX_NOTHING past the end, NX_SHORT.
  */
 int32_t nx_rule_name_at(nx_session *session, size_t index, void *buffer, size_t size,
@@ -337,13 +337,13 @@ int32_t nx_rule_name_at(nx_session *session, size_t index, void *buffer, size_t 
 /* The path of a file. NX_DONE, NX_BAD_NUMBER, NX_SHORT. */
 int32_t nx_path(nx_session *session, size_t file, void *buffer, size_t size, size_t *needed);
 
-/* The file at this path, which is taken verbatim: not cleaned. NX_DONE or NX_NOTHING. */
+/* The file at a path, which is taken verbatim: not cleaned. NX_DONE or NX_NOTHING. */
 int32_t nx_file_named(nx_session *session, const void *path, size_t path_length, size_t *file);
 
 /*
- * The file that an argument of the command line means: the path is cleaned first, and `FILE^` means
- * the first output of the first edge that has FILE as an input.
- * NX_DONE; NX_FAULT if there is none, which is then the last fault; NX_OUT_OF_MEMORY.
+ * The file that an argument of the command line denotes: the path is cleaned first, and `FILE^`
+ * denotes the first output of the first edge that has FILE as an input.
+ * NX_DONE; NX_FAULT if no file matches, which is then the last fault; NX_OUT_OF_MEMORY.
  */
 int32_t nx_pick_target(nx_session *session, const void *word, size_t word_length, size_t *file);
 
@@ -360,7 +360,7 @@ int32_t nx_user(nx_session *session, size_t file, size_t index, size_t *edge);
 int32_t nx_validation_user(nx_session *session, size_t file, size_t index, size_t *edge);
 
 /*
- * The edges that nx_user returns for a file, from an index on: as many as there is room for.
+ * The edges that nx_user returns for a file, from an index on: as many as fit.
  * NX_DONE or NX_BAD_NUMBER.
  */
 int32_t nx_users(nx_session *session, size_t file, size_t from, size_t *edges, size_t room,
@@ -369,17 +369,17 @@ int32_t nx_users(nx_session *session, size_t file, size_t from, size_t *edges, s
 /* ---- the manifest ---- */
 
 /*
- * The path at an index among the files that the load opened: that of the main file, and one more for
- * each `include` and `subninja` statement, also where it opens a file again.
+ * The path at an index among the files that the load opened: that of the main file, and another for
+ * each `include` and `subninja` statement, even if it opens a file again.
  * NX_DONE, NX_NOTHING past the end, NX_SHORT.
  */
 int32_t nx_opened(nx_session *session, size_t index, void *buffer, size_t size, size_t *needed);
 
 /*
- * For each of the given files, whether the manifest depends on it, 1 or 0: whether it was opened in the
- * load, or is an input of an edge that makes such a file or has a value of `generator`, or of an edge
+ * For each of the given files, whether the manifest depends on it, 1 or 0: whether the load opened it,
+ * or it is an input of an edge that makes an opened file or has a value of `generator`, or of an edge
  * that such an edge needs through any chain of inputs. A change of the file may change everything.
- * Stores as many as fit, and leaves the rest of the array unchanged.
+ * Stores as many flags as fit; the rest of the array is unchanged.
  * NX_DONE, NX_BAD_NUMBER, NX_OUT_OF_MEMORY.
  */
 int32_t nx_made_from(nx_session *session, const size_t *files, size_t file_count, int32_t *flags,
@@ -390,7 +390,7 @@ int32_t nx_made_from(nx_session *session, const size_t *files, size_t file_count
 /* The output of an edge at an index. NX_DONE, NX_NOTHING past the end, NX_BAD_NUMBER. */
 int32_t nx_output(nx_session *session, size_t edge, size_t index, size_t *file);
 
-/* The outputs of an edge, from an index on: as many as there is room for. NX_DONE or NX_BAD_NUMBER. */
+/* The outputs of an edge, from an index on: as many as fit. NX_DONE or NX_BAD_NUMBER. */
 int32_t nx_outputs(nx_session *session, size_t edge, size_t from, size_t *files, size_t room,
                    size_t *count);
 
@@ -402,7 +402,7 @@ int32_t nx_input(nx_session *session, size_t edge, size_t index, size_t *file, i
 
 /*
  * The inputs of an edge and their kinds, as nx_input returns them, from an index on: as many of
- * each as there is room for. NX_DONE or NX_BAD_NUMBER.
+ * each as fit. NX_DONE or NX_BAD_NUMBER.
  */
 int32_t nx_inputs(nx_session *session, size_t edge, size_t from, size_t *files, size_t room,
                   int32_t *kinds, size_t kind_room, size_t *count);
@@ -410,18 +410,18 @@ int32_t nx_inputs(nx_session *session, size_t edge, size_t from, size_t *files, 
 /* The validation of an edge at an index. NX_DONE, NX_NOTHING past the end, NX_BAD_NUMBER. */
 int32_t nx_validation(nx_session *session, size_t edge, size_t index, size_t *file);
 
-/* How many outputs of an edge are explicit; these come first. NX_DONE or NX_BAD_NUMBER. */
+/* The number of explicit outputs of an edge, which come first. NX_DONE or NX_BAD_NUMBER. */
 int32_t nx_explicit_outputs(nx_session *session, size_t edge, size_t *count);
 
-/* How many inputs of an edge are explicit; these come first. NX_DONE or NX_BAD_NUMBER. */
+/* The number of explicit inputs of an edge, which come first. NX_DONE or NX_BAD_NUMBER. */
 int32_t nx_explicit_inputs(nx_session *session, size_t edge, size_t *count);
 
 /* Whether the rule of an edge is `phony`: 1 or 0. NX_DONE or NX_BAD_NUMBER. */
 int32_t nx_is_phony(nx_session *session, size_t edge, int32_t *phony);
 
 /*
- * Whether the inputs that an edge discovers are unknown, by nx_join_discovered: 1 or 0. Ninja runs the
- * edge again then. NX_DONE, NX_BAD_NUMBER, or NX_NOTHING before that call.
+ * Whether the discovered inputs of an edge are unknown, by nx_join_discovered: 1 or 0. If so, Ninja
+ * runs the edge again. NX_DONE, NX_BAD_NUMBER, or NX_NOTHING before that call.
  */
 int32_t nx_is_unknown(nx_session *session, size_t edge, int32_t *unknown);
 
@@ -457,8 +457,8 @@ int32_t nx_variable(nx_session *session, size_t edge, const void *name, size_t n
 /* ---- lists ---- */
 
 /*
- * The file at an index among the defaults: those of the `default` lines, or the roots if there is no
- * such line. NX_DONE, or NX_NOTHING past the end.
+ * The file at an index among the defaults: those of the `default` lines or, without such a line, the
+ * roots. NX_DONE, or NX_NOTHING past the end.
  */
 int32_t nx_default(nx_session *session, size_t index, size_t *file);
 
@@ -466,58 +466,56 @@ int32_t nx_default(nx_session *session, size_t index, size_t *file);
 int32_t nx_root(nx_session *session, size_t index, size_t *file);
 
 /*
- * Lists the edges that a change of these files affects: those that need one of them through any
- * chain of inputs, phony edges among them, without duplicates, by number. nx_found returns them.
+ * Lists the edges that a change of the files affects: the edges that need any of the files through
+ * any chain of inputs, phony edges included, without duplicates, by number. nx_found returns them.
  * NX_DONE, NX_BAD_NUMBER, NX_OUT_OF_MEMORY.
  */
 int32_t nx_affected(nx_session *session, const size_t *files, size_t file_count);
 
 /*
- * Lists the edges that are to be built again where these files changed, phony edges among them,
- * without duplicates, by number: those whose discovered inputs are unknown, those that have one of
- * the files as an output or as an explicit or implicit input, and those that have as such an input
- * an output of an edge that is to be built again. nx_found returns them. Call nx_join_discovered
- * first: before it no edge counts as unknown, and discovered inputs are missing.
+ * Lists the edges to build again after a change of the files, phony edges included, without
+ * duplicates, by number. Such an edge has unknown discovered inputs, or has one of the files as an
+ * output or as an explicit or implicit input, or has as an explicit or implicit input an output of
+ * another edge to build again. nx_found returns them. Call nx_join_discovered first: before it, no
+ * edge counts as unknown, and discovered inputs are missing.
  * NX_DONE, NX_BAD_NUMBER, NX_OUT_OF_MEMORY.
  */
 int32_t nx_dirtied(nx_session *session, const size_t *files, size_t file_count);
 
 /*
- * Lists the edges that these files need through any chain of inputs, phony edges among them,
- * without duplicates, nearest first: the edges that make the files, then those that make their
- * inputs, and so on. nx_found returns them.
+ * Lists the edges that the files need through any chain of inputs, phony edges included, without
+ * duplicates, nearest first: the edges that make the files, then the edges that make their inputs,
+ * and so on. nx_found returns them.
  * NX_DONE, NX_BAD_NUMBER, NX_OUT_OF_MEMORY.
  */
 int32_t nx_needed(nx_session *session, const size_t *files, size_t file_count);
 
 /*
  * Lists the edges with commands that the targets need through any chain of inputs, without
- * duplicates, each after all edges that make its inputs: a page of at most `take` of those that are
- * left after a mark. The mark of the first page is the empty text. nx_found returns the edges, and
- * nx_page_mark the mark for the next page. A mark fits the same graph and targets, also in another
- * session or process.
+ * duplicates, each after all edges that make its inputs: a page of at most `take` edges after a mark.
+ * The mark of the first page is the empty text. nx_found returns the edges, and nx_page_mark the mark
+ * for the next page. A mark fits the same graph and targets, also in another session or process.
  * NX_DONE, NX_BAD_NUMBER, NX_BAD_MARK, NX_OUT_OF_MEMORY.
  */
 int32_t nx_page(nx_session *session, const size_t *targets, size_t target_count,
                 const void *mark, size_t mark_length, size_t take);
 
-/* The edge at an index among those that were listed last. NX_DONE, or NX_NOTHING past the end. */
+/* The edge at an index of the last list of edges. NX_DONE, or NX_NOTHING past the end. */
 int32_t nx_found(nx_session *session, size_t index, size_t *edge);
 
-/* The mark at which the last page ends. NX_DONE, NX_NOTHING if no edge is left after it, NX_SHORT. */
+/* The mark at which the last page ends. NX_DONE, NX_NOTHING if no edge is left, NX_SHORT. */
 int32_t nx_page_mark(nx_session *session, void *buffer, size_t size, size_t *needed);
 
 /* ---- chains ---- */
 
 /*
- * A shortest chain of inputs by which one file needs another: its first step is from the edge that makes
- * `from`, its last one to `to`, and each is from the edge that makes the file of the step before
- * it. Of several shortest ones, it is the first when inputs are tried in their order. Validations
- * count as inputs too, after those of their edge, if `with_validations` is not 0. Stores as many
- * steps as there is room for, leaves the rest of the array unchanged, and stores the number of the
- * chain's steps in `count`.
- * NX_DONE, NX_NOTHING if there is no chain, and from a file to itself, NX_BAD_NUMBER,
- * NX_OUT_OF_MEMORY.
+ * A shortest chain of inputs by which one file needs another. Its first step is from the edge that
+ * makes `from`, its last step to `to`, and each step from the edge that makes the file of the step
+ * before it. Of several shortest chains, it is the first when inputs are tried in their order.
+ * Validations count as inputs too, after those of their edge, if `with_validations` is not 0. Stores
+ * as many steps as fit; the rest of the array is unchanged. `count` is the number of steps of the
+ * chain.
+ * NX_DONE, NX_NOTHING without a chain, and from a file to itself, NX_BAD_NUMBER, NX_OUT_OF_MEMORY.
  */
 int32_t nx_path_between(nx_session *session, size_t from, size_t to, uint32_t with_validations,
                         nx_step *steps, size_t room, size_t *count);
@@ -526,13 +524,13 @@ int32_t nx_path_between(nx_session *session, size_t from, size_t to, uint32_t wi
 
 /*
  * The inputs that edges use without declaring them, by the bytes of a deps log as nx_join_deps takes
- * them: the log names a file for the first output of an edge whose value of `deps` is not empty, another
- * edge makes that file, and the edge needs that maker through no chain of inputs, so it may run before
- * the file is made. They come by edge and then in the order of the log, without duplicates. An edge for
- * which the log names `build.ninja`, by that very path, is left out: that says only that it is to run
- * again after the manifest was regenerated. Nothing is joined: call it before nx_join_deps, which makes
- * logged files inputs. Stores as many as fit, and in `count` how many there are; the rest of the array
- * is unchanged. Each call reads the log again.
+ * them. The log names a file for the first output of an edge whose value of `deps` is not empty,
+ * another edge makes that file, and no chain of inputs leads from the edge to that maker. So the edge
+ * may run before the file is made. The inputs come by edge and then in the order of the log, without
+ * duplicates. An edge for which the log names `build.ninja`, by that very path, is left out: such a
+ * record only makes the edge run again after the manifest is regenerated. Nothing is joined: call it
+ * before nx_join_deps, which makes logged files inputs. Stores as many inputs as fit, and in `count`
+ * how many exist; the rest of the array is unchanged. Each call reads the log again.
  * NX_DONE, NX_BAD_LOG, NX_OUT_OF_MEMORY.
  */
 int32_t nx_undeclared(nx_session *session, const void *log, size_t log_length, nx_edge_input *inputs,
@@ -541,9 +539,9 @@ int32_t nx_undeclared(nx_session *session, const void *log, size_t log_length, n
 /* ---- whole runs ---- */
 
 /*
- * Runs the program with the arguments of a text, over the supplied files. The arguments come
- * without the program's own name, and each ends before a zero byte or at the end of the text: as
- * "-t\0commands\0all", or with one more zero byte. The program's output is kept in the session
+ * Runs the program with the arguments in a text, over the supplied files. The arguments come without
+ * the program's own name, and each ends before a zero byte or at the end of the text:
+ * "-t\0commands\0all", with or without a zero byte at the end. The session keeps the program's output
  * until the next run; nx_run_output and nx_run_errors return it. The exit status is the program's:
  * 0 on success, 1 after a fault, 2 for arguments that are not a valid request, 3 if --take stopped
  * the run, which then names the mark for --resume. The graph and the lists stay the same.

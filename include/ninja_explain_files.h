@@ -48,9 +48,9 @@ enum nx_files_status {
     NX_FILES_UNREADABLE = -1,
     /* A path leads out of the directory. */
     NX_FILES_OUTSIDE = -2,
-    /* A file is not a regular one, or is larger than 1 GiB. */
+    /* A file is not regular, or is larger than 1 GiB. */
     NX_FILES_UNFIT = -3,
-    /* Files were still wanted after NX_FILES_MOST_LOADS loads, each naming others. */
+    /* Files were still wanted after NX_FILES_MOST_LOADS loads, each of which named new ones. */
     NX_FILES_ENDLESS = -4
 };
 
@@ -62,7 +62,7 @@ enum nx_files_status {
 struct nx_files {
     /* The directory of the manifest; empty for the working directory. */
     const char *folder;
-    /* 1 if paths may lead out of the directory, else 0. */
+    /* Whether paths may lead out of the directory, 1 or 0. */
     int allow_outside;
     /* After one of `enum nx_files_status` the path that failed, else NULL. nx_files_clear frees it. */
     char *failed;
@@ -113,7 +113,7 @@ static inline int nx_files_leads_out(const char *path)
 /* Opens the file at a path of the directory. Returns a descriptor, or -1 with errno. */
 static inline int nx_files_open(const struct nx_files *files, const char *path)
 {
-    /* (a pipe without a writer would wait for one) */
+    /* (opening a pipe would wait for a writer) */
     const int flags = O_RDONLY | O_CLOEXEC | O_NONBLOCK | O_NOCTTY;
     int folder = AT_FDCWD, descriptor, problem;
     if (files->folder && *files->folder)
@@ -159,7 +159,7 @@ static inline int32_t nx_files_read(int descriptor, size_t guess, char **bytes, 
     }
 }
 
-/* Reads the file of an open descriptor into memory that the caller frees, if it is one to be read. */
+/* Reads the file of an open descriptor into memory that the caller frees, if it may be read. */
 static inline int32_t nx_files_read_open(int descriptor, char **bytes, size_t *length)
 {
     struct stat found;
@@ -170,7 +170,7 @@ static inline int32_t nx_files_read_open(int descriptor, char **bytes, size_t *l
     return nx_files_read(descriptor, (size_t)found.st_size, bytes, length);
 }
 
-/* Reads the file at a path into memory that the caller frees. NX_NOTHING if there is none. */
+/* Reads the file at a path into memory that the caller frees. NX_NOTHING without such a file. */
 static inline int32_t nx_files_content(const struct nx_files *files, const char *path, char **bytes,
                                        size_t *length)
 {
@@ -192,7 +192,7 @@ static inline int32_t nx_files_content(const struct nx_files *files, const char 
     return status;
 }
 
-/* Supplies the file at a path, or that there is none. */
+/* Supplies the file at a path, or records that it is absent. */
 static inline int32_t nx_files_supply(nx_session *session, const struct nx_files *files,
                                       const char *path)
 {
@@ -222,7 +222,7 @@ static inline uint64_t nx_files_changed(const struct nx_files *files, const char
         close(folder);
     if (problem)
         return problem == ENOENT || problem == ENOTDIR ? NX_TIME_ABSENT : NX_TIME_UNKNOWN;
-    /* (all of the first second is one nanosecond, and a time before it is no time) */
+    /* (all of the first second is one nanosecond, and an earlier time does not count) */
     if (found.st_mtim.tv_sec <= 0)
         return found.st_mtim.tv_sec == 0;
     return (uint64_t)found.st_mtim.tv_sec * 1000000000u + (uint64_t)found.st_mtim.tv_nsec;
@@ -248,7 +248,7 @@ static inline int32_t nx_files_path(nx_session *session, size_t file, char **pat
     return status;
 }
 
-/* The path at an index among the wanted ones, in memory that the caller frees. */
+/* The path at an index among the wanted files, in memory that the caller frees. */
 static inline int32_t nx_files_wanted(nx_session *session, size_t index, char **path)
 {
     size_t needed = 0;
@@ -283,7 +283,7 @@ static inline int32_t nx_files_supply_wanted(nx_session *session, struct nx_file
     }
 }
 
-/* After a call: supplies what it wanted, and returns 1 if it is to be made again, else 0. */
+/* After a call: supplies what it wanted, and returns 1 if the call is to be repeated, else 0. */
 static inline int nx_files_again(nx_session *session, struct nx_files *files, int *turn,
                                  int32_t *status)
 {
@@ -311,7 +311,7 @@ static inline int32_t nx_files_load(nx_session *session, const char *main, uint3
     return status;
 }
 
-/* Reads the deps log at a path of the folder into memory that the caller frees. NX_NOTHING without one. */
+/* Reads the deps log at a path of the directory into memory that the caller frees. NX_NOTHING without a log. */
 static inline int32_t nx_files_deps_log(const char *path, char **bytes, size_t *length,
                                         struct nx_files *files)
 {
@@ -326,8 +326,8 @@ static inline int32_t nx_files_deps_log(const char *path, char **bytes, size_t *
 }
 
 /*
- * As nx_join_deps, with the deps log at a path of the directory, as ".ninja_deps". Returns its status or one
- * of `enum nx_files_status`; NX_NOTHING if there is no such file.
+ * As nx_join_deps, with the deps log at a path of the directory, such as ".ninja_deps". Returns its status
+ * or one of `enum nx_files_status`; NX_NOTHING if the file does not exist.
  */
 static inline int32_t nx_files_join_deps(nx_session *session, const char *path, struct nx_files *files)
 {
@@ -341,8 +341,8 @@ static inline int32_t nx_files_join_deps(nx_session *session, const char *path, 
 }
 
 /*
- * When the first output of an edge was last changed, for nx_join_discovered: NX_TIME_ABSENT if it is
- * not there, and NX_TIME_UNKNOWN if it cannot be looked at or is not in the directory.
+ * When the first output of an edge was last changed, for nx_join_discovered: NX_TIME_ABSENT if it does
+ * not exist, and NX_TIME_UNKNOWN if it cannot be looked up or is not in the directory.
  */
 static inline int32_t nx_files_time(nx_session *session, const struct nx_files *files, size_t edge,
                                     uint64_t *time)
@@ -380,7 +380,7 @@ static inline int32_t nx_files_times(nx_session *session, const struct nx_files 
 
 /*
  * As nx_join_discovered, with the deps log at a path of the directory, the depfiles that it wants and the
- * times of outputs. A missing log is one without records. Returns its status or one of
+ * times of outputs. A missing log counts as one without records. Returns its status or one of
  * `enum nx_files_status`.
  */
 static inline int32_t nx_files_join_discovered(nx_session *session, const char *path,
@@ -403,7 +403,10 @@ static inline int32_t nx_files_join_discovered(nx_session *session, const char *
     return status;
 }
 
-/* As nx_undeclared, with such a deps log. The same. */
+/*
+ * As nx_undeclared, with a deps log as in nx_files_join_deps. Returns its status or one of
+ * `enum nx_files_status`; NX_NOTHING if the log does not exist.
+ */
 static inline int32_t nx_files_undeclared(nx_session *session, const char *path, nx_edge_input *inputs,
                                           size_t room, size_t *count, struct nx_files *files)
 {

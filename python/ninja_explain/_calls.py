@@ -15,18 +15,18 @@ from ninja_explain._errors import STATUS_ERRORS, Fault, FaultKind
 
 SONAME = "libninja_explain.so.1"
 VARIABLE = "NINJA_EXPLAIN_LIBRARY"
-# The version of the interface that is called here: a greater minor number serves too.
+# The version of the interface that is called here: a greater minor number works too.
 MAJOR, MINOR = 1, 2
 
 DONE, NOTHING, SHORT, FAULT, WANTED = range(5)
 # The greatest number that a call takes.
 GREATEST = c_size_t(-1).value
-# Times of outputs: of one that is not there, and one that is not known.
+# Times of outputs: of a missing output, and an unknown time.
 TIME_ABSENT, TIME_UNKNOWN = 0, c_uint64(-1).value
-# How many items of a list one call gives at most.
+# How many items of a list one call returns at most.
 ROOM = 4096
-# How many times a manifest is loaded at most. Each load names all files that it lacks, and only a
-# file that another one of these names takes a load of its own.
+# How many times a manifest is loaded at most. Each load names all files that it lacks. Only a file
+# that one of those files names takes another load.
 MOST_LOADS = 1_000
 
 
@@ -101,8 +101,8 @@ _CALLS: dict[str, Sequence[Any]] = {
 
 
 def _open_library() -> ctypes.CDLL:
-    """The library: the one that the environment names, else the one that lies beside this module, as
-    in a wheel, else the one that the system's loader finds."""
+    """The library that the environment names, else the library beside this module, as in a wheel, else
+    the library that the system's loader finds."""
     packed = Path(__file__).with_name(SONAME)
     name = os.environ.get(VARIABLE) or (str(packed) if packed.is_file() else SONAME)
     advice = (
@@ -145,7 +145,7 @@ class Files(Protocol):
     """Where files are read."""
 
     def content(self, path: bytes) -> bytes | None:
-        """The bytes of a file; None if there is no file at this path."""
+        """The bytes of the file at a path; None if it does not exist."""
 
 
 Method = TypeVar("Method", bound=Callable[..., Any])
@@ -154,8 +154,8 @@ Method = TypeVar("Method", bound=Callable[..., Any])
 def in_turn(method: Method) -> Method:
     """The method of a session, refused with RuntimeError while the session is in use.
 
-    Whoever else may ask in the meantime, such as the handler of a signal or a finalizer in the same
-    thread, would find a half-read list, and replace it.
+    Any other caller in the meantime, such as a signal handler or a finalizer in the same thread, would
+    find a half-read list, and replace it.
     """
 
     @functools.wraps(method)
@@ -169,7 +169,7 @@ def in_turn(method: Method) -> Method:
 class Session:
     """A session of the library: a graph, and its last list and run.
 
-    The methods without an underscore are `in_turn`; they call only those with one.
+    The methods without an underscore are `in_turn`; they call only methods with an underscore.
     """
 
     def __init__(self) -> None:
@@ -182,9 +182,9 @@ class Session:
     def turn(self) -> threading.Lock:
         """The lock under which calls are made. Raises RuntimeError while it is held.
 
-        A caller enters it by `with` at once, and not by `acquire`, after which an exception that the
-        handler of a signal raises could keep it held for ever. Between the question and the entry
-        only another thread can take it, and then the caller waits.
+        A caller enters it by `with` at once, and not by `acquire`: after `acquire` an exception from a
+        signal handler could keep it held for ever. Between the test and the entry only another thread
+        can take the lock, and then the caller waits.
         """
         if self._turn.locked():
             raise RuntimeError("the graph is in use by another call")
@@ -202,7 +202,7 @@ class Session:
     # ---- one call
 
     def _call(self, name: str, *arguments: Any) -> int:
-        """Makes a call. Returns its status if that is no error, or raises its exception."""
+        """Makes a call. Returns its status, or raises its exception if that is an error."""
         status: int = getattr(_library, name)(ctypes.byref(self._kept), *arguments)
         if status <= WANTED and status != FAULT:
             return status
@@ -213,7 +213,7 @@ class Session:
         return self._call(name, *arguments) == DONE
 
     def _number(self, name: str, *arguments: Any) -> int | None:
-        """The number that a call gives; None if there is none."""
+        """The number that a call returns, if any."""
         number = c_size_t()
         return number.value if self._is_there(name, *arguments, ctypes.byref(number)) else None
 
@@ -221,7 +221,7 @@ class Session:
         return self._number(name, *arguments) or 0
 
     def _optional_flag(self, name: str, *arguments: Any) -> int | None:
-        """The small number that a call gives; None if there is none."""
+        """The small number that a call returns, if any."""
         flag = c_int32()
         return flag.value if self._is_there(name, *arguments, ctypes.byref(flag)) else None
 
@@ -229,14 +229,14 @@ class Session:
         return self._optional_flag(name, *arguments) or 0
 
     def _place(self, name: str, *arguments: Any) -> tuple[int, int] | None:
-        """The line and the column that a call gives; None if there is no place."""
+        """The line and the column that a call returns; None without a place."""
         line, column = c_size_t(), c_size_t()
         if not self._is_there(name, *arguments, ctypes.byref(line), ctypes.byref(column)):
             return None
         return line.value, column.value
 
     def _optional_text(self, name: str, *arguments: Any) -> str | None:
-        """The text that a call gives; None if there is none."""
+        """The text that a call returns, if any."""
         length = c_size_t()
         while True:
             size = len(self._buffer)
@@ -254,11 +254,11 @@ class Session:
     # ---- lists, which take many calls
 
     def _numbers(self, name: str, *arguments: Any) -> list[int]:
-        """All numbers that a call gives by an index."""
+        """All numbers that a call returns by an index."""
         return list(self._by_index(lambda index: self._number(name, *arguments, index)))
 
     def _texts(self, name: str) -> list[str]:
-        """All texts that a call gives by an index."""
+        """All texts that a call returns by an index."""
         return list(self._by_index(lambda index: self._optional_text(name, index)))
 
     @staticmethod
@@ -270,7 +270,7 @@ class Session:
 
     @in_turn
     def items(self, name: str, of: int) -> list[int]:
-        """All numbers of the list that a call gives of an edge or a file, many at a time."""
+        """All numbers of the list that a call returns for an edge or a file, many at a time."""
         items: list[int] = []
         count = c_size_t()
         while True:
@@ -296,8 +296,8 @@ class Session:
 
     @in_turn
     def steps(self, start: int, end: int, with_validations: bool) -> list[tuple[int, int, int]] | None:
-        """The steps of a shortest chain from one file to another, each an edge, a file and a kind;
-        None if there is no chain."""
+        """The steps of a shortest chain from one file to another, each an edge, a file and a kind; None
+        without a chain."""
         count, room = c_size_t(), 64
         while True:
             given = (_Step * room)()
@@ -334,14 +334,14 @@ class Session:
     # ---- files
 
     def _add(self, path: str, content: bytes | None) -> None:
-        """Supplies the bytes of a file, or that there is none."""
+        """Supplies the bytes of a file, or records that it is absent."""
         if content is None:
             self._call("nx_add_absent", *text_arguments(path))
         else:
             self._call("nx_add_file", *text_arguments(path), content, len(content))
 
     def _call_with(self, files: Files, name: str, *arguments: Any) -> None:
-        """Makes a call, again and again until it wants no more files, which these files have."""
+        """Repeats a call until it wants no more files, which the given source supplies."""
         for _ in range(MOST_LOADS):
             if self._call(name, *arguments) != WANTED:
                 return
@@ -360,13 +360,13 @@ class Session:
 
     @in_turn
     def join_discovered(self, files: Files, log: bytes, times: Sequence[int]) -> None:
-        """Joins what builds discovered, by a deps log, by these depfiles and by times of outputs."""
+        """Joins what builds discovered, by a deps log, by depfiles and by times of outputs."""
         given = (c_uint64 * len(times))(*times)
         self._call_with(files, "nx_join_discovered", log, len(log), given, len(times))
 
     @in_turn
     def log_read(self) -> tuple[int, bool] | None:
-        """How many bytes of the log that was joined last were read, and whether these are all."""
+        """How many bytes were read of the log joined last, and whether that is the whole log."""
         size, is_whole = c_size_t(), c_int32()
         if not self._is_there("nx_log_read", ctypes.byref(size), ctypes.byref(is_whole)):
             return None

@@ -6,7 +6,7 @@ from enum import IntEnum
 
 
 class FaultKind(IntEnum):
-    """The kinds of faults, as `enum nx_fault` of the library for C has them, whose comments say more."""
+    """The kinds of faults, as in `enum nx_fault` of the header for C, whose comments say more."""
 
     UNKNOWN = 0
     BAD_BYTE = 1
@@ -46,7 +46,7 @@ class FaultKind(IntEnum):
 
     @classmethod
     def of(cls, number: int) -> FaultKind:
-        """The kind of this number; UNKNOWN for one that a newer library has added."""
+        """The kind with the given number; UNKNOWN if a newer library has added it."""
         try:
             return cls(number)
         except ValueError:

@@ -31,7 +31,7 @@ NOWHERE = _Nowhere()
 class Folder:
     """The files of a directory.
 
-    A path that a manifest names is taken below the directory. One that is absolute or has a component
+    Paths that a manifest names are relative to the directory. A path that is absolute or has a component
     `..` is refused with PermissionError, unless `allow_outside` is true. Symbolic links are followed,
     wherever they lead.
     """
@@ -46,15 +46,15 @@ class Folder:
             return None
 
     def required(self, path: bytes) -> bytes:
-        """The bytes of a file; raises FileNotFoundError if there is none."""
+        """The bytes of a file; raises FileNotFoundError if it is missing."""
         if self._is_refused(path):
             text = "a file outside of the folder needs allow_outside=True"
             raise PermissionError(errno.EACCES, text, decoded(path))
         return _regular_content(os.path.join(self.path, path))
 
     def time(self, path: bytes) -> int:
-        """When a file was last changed, in nanoseconds since 1970, as Ninja counts them. The time of a
-        file outside of the directory is not known, and nor is one that cannot be read."""
+        """When a file was last changed, in nanoseconds since 1970, as Ninja counts them. The time is
+        unknown if the file is outside of the directory, or its time cannot be read."""
         if self._is_refused(path):
             return TIME_UNKNOWN
         try:
@@ -63,7 +63,7 @@ class Folder:
             return TIME_ABSENT
         except OSError:
             return TIME_UNKNOWN
-        # (all of the first second is one nanosecond, and a time before it is no time)
+        # (all of the first second is one nanosecond, and an earlier time does not count)
         return time if time >= SECOND else int(time >= 0)
 
     def _is_refused(self, path: bytes) -> bool:
@@ -71,7 +71,7 @@ class Folder:
 
 
 def _regular_content(path: bytes) -> bytes:
-    # (a pipe without a writer would wait for one)
+    # (opening a pipe would wait for a writer)
     descriptor = os.open(path, os.O_RDONLY | os.O_CLOEXEC | os.O_NONBLOCK)
     with open(descriptor, "rb", buffering=0) as file:
         found = os.fstat(descriptor)
@@ -83,9 +83,9 @@ def _regular_content(path: bytes) -> bytes:
 
 
 def _content(file: FileIO, path: bytes) -> bytes:
-    """The bytes of a file, read in pieces: it may have more than it states, and room for the most that
-    it may have is more than a limit of memory allows."""
-    # (whose bytes are not copied when they are taken, unlike those of a list or a bytearray)
+    """The bytes of a file, read in pieces: it may have more bytes than it states, and a buffer of the
+    greatest size would exceed a limit of memory."""
+    # (its bytes are not copied when they are taken, unlike those of a list or a bytearray)
     content = BytesIO()
     while piece := file.read(PIECE):
         content.write(piece)

@@ -46,7 +46,7 @@ class Kind(IntEnum):
 _KINDS = tuple(Kind)
 # Where Ninja keeps its deps log, in the build directory.
 _DEPS_LOG = b".ninja_deps"
-# The number that the library gives for a validation in place of a kind.
+# The number that the library returns for a validation in place of a kind.
 _VALIDATION = 3
 
 
@@ -71,13 +71,13 @@ class Run(NamedTuple):
 
 
 class _Numbered:
-    """Something of a graph that has a number. Equal are those of one type, graph and number."""
+    """A numbered part of a graph. Parts with the same type, graph and number are equal."""
 
     __slots__ = ("_graph", "_number")
     _noun, _count = "", ""
 
     def __init__(self, graph: Graph, number: SupportsIndex) -> None:
-        """The one of a number. Raises TypeError for one that is no integer."""
+        """The item with the given number. Raises TypeError if the number is not an integer."""
         number = operator.index(number)
         if not 0 <= number < graph._session.count(self._count):
             raise ValueError(f"there is no {self._noun} {number}")
@@ -85,7 +85,7 @@ class _Numbered:
 
     @classmethod
     def _of(cls, graph: Graph, number: int) -> Self:
-        """The one of a number that the graph has given."""
+        """The item with a number that the graph has returned."""
         known = cls.__new__(cls)
         known._graph, known._number = graph, number
         return known
@@ -234,9 +234,9 @@ class Edge(_Numbered):
 
     @property
     def is_unknown(self) -> bool | None:
-        """Whether the inputs that it discovers are unknown, so that Ninja runs it again: it has no record
-        that counts in the deps log, or its depfile is missing, empty or faulty. None if the graph was
-        loaded without discovered inputs."""
+        """Whether its discovered inputs are unknown, so that Ninja runs it again: the deps log lacks a
+        record that counts, or its depfile is missing, empty or faulty. None if the graph was loaded
+        without discovered inputs."""
         flag = self._session.optional_flag("nx_is_unknown", self._number)
         return None if flag is None else bool(flag)
 
@@ -247,7 +247,7 @@ class Edge(_Numbered):
         return self._session.text("nx_command", self._number)
 
     def variable(self, name: str) -> str:
-        """The value of a variable, as `description`, `depfile` or any other name; empty if it is
+        """The value of a variable, such as `description`, `depfile` or any other name; empty if it is
         bound nowhere."""
         return self._session.text("nx_variable", self._number, *text_arguments(name))
 
@@ -262,8 +262,8 @@ class Edge(_Numbered):
 
 
 class Step(NamedTuple):
-    """A step of a chain: an edge, a file that is an input of it, and the kind of that input, which is
-    None for a validation."""
+    """A step of a chain: an edge, one of its inputs, a file, and the kind of that input, which is None
+    for a validation."""
 
     edge: Edge
     file: File
@@ -285,8 +285,8 @@ class LogRead(NamedTuple):
 
 
 class Page(NamedTuple):
-    """Some of the edges that targets need, and the mark at which the next ones begin, which is None
-    if no edge is left."""
+    """Some of the edges that targets need, and the mark at which the next page begins: None if no edge
+    is left."""
 
     edges: list[Edge]
     mark: str | None
@@ -324,8 +324,8 @@ class Graph:
 
     It keeps memory until it is closed, by `close`, at the end of a `with` block or with its last
     reference. Any thread may use it, for one call at a time: a call that comes during another one is
-    refused with RuntimeError, even in the same thread, as from the handler of a signal or from a
-    finalizer. It can be neither copied nor pickled.
+    refused with RuntimeError, even in the same thread, as from a signal handler or a finalizer. It can
+    be neither copied nor pickled.
     """
 
     def __init__(self) -> None:
@@ -345,17 +345,17 @@ class Graph:
         """The graph of a manifest and of all files that it includes, which are read in a directory.
 
         With `joins_dyndeps` its dyndep files are read and joined too. `deps_log` is the path of a deps
-        log, which Ninja keeps as `.ninja_deps` in the build directory: the files that it names for the first output
-        of an edge with a value of `deps` becomes an implicit input of the edge. With `joins_discovered`
-        the inputs that builds discovered are joined as Ninja loads them: by that log, or by
-        `.ninja_deps` if there is one, where a record that is older than its output does not count, and
-        by depfiles. Only regular files of at most 1 GiB are read, and only below the directory, unless
+        log, which Ninja keeps as `.ninja_deps` in the build directory: each file that it names for the
+        first output of an edge with a value of `deps` becomes an implicit input of the edge. With
+        `joins_discovered` the inputs that builds discovered are joined as Ninja loads them: by that log,
+        or by `.ninja_deps` if any, where a record that is older than its output does not count, and by
+        depfiles. Only regular files of at most 1 GiB are read, and only below the directory, unless
         `allow_outside` is true; symbolic links are followed.
 
         Raises the first Fault of the manifest, or of joining the log: a dependency cycle, if the log
         is older than the manifest; BadDepsLog; PermissionError for a path outside of the directory;
-        FileNotFoundError if there is no deps log; another OSError for a file that is there and cannot
-        be read; MemoryError.
+        FileNotFoundError for a missing deps log; another OSError for an existing file that cannot be
+        read; MemoryError.
         """
         graph = cls()
         place = Folder(encoded(folder), allow_outside)
@@ -377,10 +377,10 @@ class Graph:
         deps_log: bytes | None = None,
         times: Mapping[str, int] | None = None,
     ) -> Graph:
-        """The graph of a manifest among these files, given by their paths; no other file is there.
+        """The graph of a manifest among the given files, by their paths; no other file exists.
         `deps_log` has the bytes of a deps log. With `times`, when outputs were last changed, in
         nanoseconds since 1970, the inputs that builds discovered are joined as by `joins_discovered`
-        of `load`; an output without a time is not there."""
+        of `load`; an output without a time does not exist."""
         graph = cls()
         for name, content in files.items():
             graph._session.add(name, encoded(content))
@@ -396,13 +396,13 @@ class Graph:
         self._session.call("nx_join_deps", *_log_arguments(log))
 
     def _discover(self, files: Files, log: bytes | None, time: Callable[[bytes], int]) -> None:
-        """Joins what builds discovered, by a log if there is one, by depfiles and by times of outputs."""
+        """Joins what builds discovered, by a log if any, by depfiles and by times of outputs."""
         content, _ = _log_arguments(b"" if log is None else log)
         times = [_checked_time(time(encoded(edge.outputs[0].path))) for edge in self.edges]
         self._session.join_discovered(files, content, times)
 
     def close(self) -> None:
-        """Frees its memory. A graph that is closed remains closed."""
+        """Frees its memory. Closing a closed graph has no effect."""
         self._session.close()
 
     @property
@@ -446,7 +446,7 @@ class Graph:
         return self._session.texts("nx_rule_name_at")
 
     def defaults(self) -> list[File]:
-        """The files of the `default` lines; the roots where there is no such line."""
+        """The files of the `default` lines or, without such a line, the roots."""
         return self._files_at("nx_default")
 
     def roots(self) -> list[File]:
@@ -454,49 +454,49 @@ class Graph:
         return self._files_at("nx_root")
 
     def file(self, path: AnyPath) -> File | None:
-        """The file at this path, which is compared verbatim; None if no edge names it."""
+        """The file at a path, which is compared verbatim; None if no edge names it."""
         number = self._session.number("nx_file_named", *text_arguments(path))
         return None if number is None else File._of(self, number)
 
     def target(self, word: AnyPath) -> File:
-        """The file that an argument of Ninja's command line means: its path is cleaned, and `FILE^` is
-        the first output of the first edge that has FILE as an input. Raises Fault if there is none."""
+        """The file that an argument of Ninja's command line denotes: its path is cleaned, and `FILE^` is
+        the first output of the first edge that has FILE as an input. Raises Fault if no file matches."""
         return File._of(self, self._session.count("nx_pick_target", *text_arguments(word)))
 
     def affected(self, files: Iterable[File]) -> list[Edge]:
-        """The edges that a change of these files affects, by number: those that need one of them
+        """The edges that a change of the files affects, by number: the edges that need any of the files
         through any chain of inputs."""
         return self._listed("nx_affected", files)
 
     def dirtied(self, files: Iterable[File]) -> list[Edge]:
-        """The edges that are to be built again where these files changed, by number: those whose
-        discovered inputs are unknown, those that have one of the files as an output or as an explicit
-        or implicit input, and those that have as such an input an output of another one of them. Ask a
-        graph that was loaded with discovered inputs; without, no edge counts as unknown."""
+        """The edges to build again after a change of the files, by number. Such an edge has unknown
+        discovered inputs, or has one of the files as an output or as an explicit or implicit input, or
+        has as an explicit or implicit input an output of another edge to build again. Load the graph
+        with discovered inputs first: without them, no edge counts as unknown."""
         return self._listed("nx_dirtied", files)
 
     @property
     def log_read(self) -> LogRead | None:
-        """How far the deps log was read that was joined; None if none was."""
+        """How far the joined deps log was read; None if no log was joined."""
         read = self._session.log_read()
         return None if read is None else LogRead(*read)
 
     def opened(self) -> list[str]:
-        """The paths of the files that were opened: the manifest, and one more for each `include` and
+        """The paths of the files that were opened: the manifest, and another for each `include` and
         `subninja` statement."""
         return self._session.texts("nx_opened")
 
     def made_from(self, files: Iterable[File]) -> list[File]:
-        """Those of these files from which the manifest is made: they were opened, or are inputs of an
-        edge that makes such a file or has a value of `generator`, or of an edge that one of these
-        needs through any chain of inputs. If one of them changes, everything may."""
+        """The files among the given ones on which the manifest depends: they were opened, or are inputs
+        of an edge that makes an opened file or has a value of `generator`, or of an edge that such an
+        edge needs through any chain of inputs. If one of them changes, everything may."""
         numbers = self._numbers(files)
         flags = self._session.made_from(numbers)
         return File._each_of(self, (number for number, is_set in zip(numbers, flags) if is_set))
 
     def needed(self, files: Iterable[File]) -> list[Edge]:
-        """The edges that these files need through any chain of inputs, phony edges among them, nearest
-        first: the edges that make the files, then those that make their inputs, and so on."""
+        """The edges that the files need through any chain of inputs, phony edges included, nearest first:
+        the edges that make the files, then the edges that make their inputs, and so on."""
         return self._listed("nx_needed", files)
 
     def path_between(
@@ -505,7 +505,7 @@ class Graph:
         """The steps of a shortest chain of inputs by which `start` needs `end`; None if it does not,
         or if they are the same file.
 
-        The first step is from the edge that makes `start`, the last one to `end`, and each is from
+        The first step is from the edge that makes `start`, the last step to `end`, and each step from
         the edge that makes the file of the step before it. Of several shortest chains it is the first
         when inputs are tried in their order. Validations count as inputs too, after those of their
         edge, if `with_validations` is true.
@@ -522,10 +522,10 @@ class Graph:
         """The inputs that edges use without declaring them, by the bytes of a deps log.
 
         The log names the file for the first output of the edge, whose value of `deps` is not empty,
-        another edge makes it, and the edge needs that maker through no chain of inputs, so that it may
-        run before the file is made. They come by edge, then in the order of the log, without
-        duplicates; an edge for which the log names `build.ninja` is left out. Nothing is joined: ask
-        a graph that was loaded without `deps_log`, which makes inputs of all that the log names.
+        another edge makes the file, and no chain of inputs leads from the edge to that maker. So the
+        edge may run before the file is made. The inputs come by edge, then in the order of the log,
+        without duplicates; an edge for which the log names `build.ninja` is left out. Nothing is joined.
+        Load the graph without `deps_log`, which makes inputs of all that the log names.
 
         Raises BadDepsLog for other bytes, and MemoryError.
         """
@@ -533,7 +533,7 @@ class Graph:
         return [UndeclaredInput(Edge._of(self, edge), File._of(self, file)) for edge, file in found]
 
     def commands(self, targets: Iterable[File]) -> list[Edge]:
-        """The edges with commands that the targets need, each after all that it needs: those whose
+        """The edges with commands that the targets need, each after all that it needs: the edges whose
         commands `ninja -t commands` lists."""
         return self.page(targets).edges
 
@@ -542,9 +542,9 @@ class Graph:
     ) -> Page:
         """At most `take` of the edges with commands that the targets need, from a mark on.
 
-        The mark of the first page is empty. It fits the same manifest and targets, also in another
-        process. Raises BadMark for one that does not fit, ValueError for a negative `take`, and
-        TypeError for one that is no integer.
+        The mark of the first page is empty. A mark fits the same manifest and targets, also in another
+        process. Raises BadMark if the mark does not fit, ValueError if `take` is negative, and
+        TypeError if it is not an integer.
         """
         most = GREATEST if take is None else operator.index(take)
         if not 0 <= most <= GREATEST:
@@ -558,7 +558,7 @@ class Graph:
     def run(
         self, words: Iterable[str], folder: AnyPath = ".", *, allow_outside: bool = False
     ) -> Run:
-        """Runs the program with these arguments, without its own name, over the files in a directory,
+        """Runs the program with the given arguments, without its own name, over the files in a directory,
         which are read as `load` reads them. What was read before is not read again. The loaded graph
         stays. Raises ValueError for an argument with a zero byte."""
         return _run(self._session, words, Folder(encoded(folder), allow_outside))
@@ -566,7 +566,7 @@ class Graph:
     # ---- lists
 
     def _numbers(self, files: Iterable[File]) -> list[int]:
-        """The numbers of these files, which have to be of this graph."""
+        """The numbers of the files, which have to be of this graph."""
         return [self._number_of(file) for file in files]
 
     def _number_of(self, file: object) -> int:
@@ -577,7 +577,7 @@ class Graph:
         return file.number
 
     def _listed(self, name: str, files: Iterable[File]) -> list[Edge]:
-        """The edges that a call lists of these files, which may be read from this graph meanwhile."""
+        """The edges that a call lists for the files, which may be read from this graph meanwhile."""
         numbers = number_arguments(self._numbers(files))
         return Edge._each_of(self, self._session.listed(name, *numbers))
 
@@ -589,7 +589,7 @@ class Graph:
 
 
 def _checked_time(time: SupportsIndex) -> int:
-    """A time as a number. Raises ValueError for one that is out of range."""
+    """A time as a number. Raises ValueError if it is out of range."""
     number = operator.index(time)
     if not 0 <= number <= TIME_UNKNOWN:
         raise ValueError(f"a time is out of range: {time}")
@@ -604,7 +604,7 @@ def _log_arguments(log: object) -> tuple[bytes, int]:
 
 
 def run(words: Iterable[str], folder: AnyPath = ".", *, allow_outside: bool = False) -> Run:
-    """Runs the program with these arguments, without its own name, over the files in a directory,
+    """Runs the program with the given arguments, without its own name, over the files in a directory,
     which are read as `Graph.load` reads them. Raises ValueError for an argument with a zero byte."""
     return _run(Session(), words, Folder(encoded(folder), allow_outside))
 

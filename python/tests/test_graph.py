@@ -107,7 +107,7 @@ class Reading(unittest.TestCase):
         self.assertEqual(found, [(2, "a.o", Kind.EXPLICIT), (0, "check", None)])
 
     def test_long_path(self) -> None:
-        """A chain that is longer than one call gives."""
+        """A chain that is longer than one call returns."""
         with graph_of("".join(f"build {at}: phony {at + 1}\n" for at in range(500))) as graph:
             chain = graph.path_between(graph.target("0"), graph.target("500"))
             self.assertEqual([step.file.path for step in chain or []], [f"{at}" for at in range(1, 501)])
@@ -116,7 +116,7 @@ class Reading(unittest.TestCase):
         self.assertEqual(self.graph.rules(), ["cc", "link", "phony"])
 
     def test_long_lists(self) -> None:
-        """Lists that are longer than one call gives."""
+        """Lists that are longer than one call returns."""
         names = [f"{number}" for number in range(10_000)]
         texts = [f"build {name}: phony all\n" for name in names]
         texts += [f"build {' '.join(f'o{name}' for name in names)}: phony\n"]
@@ -158,7 +158,7 @@ class Reading(unittest.TestCase):
 
 
 def deps_log(version: int, *paths: str) -> bytes:
-    """A deps log in which the first of these paths depends on the others."""
+    """A deps log in which the first of the paths depends on the others."""
     records = [b"# ninjadeps\n", struct.pack("<I", version)]
     for number, path in enumerate(paths):
         padded = path.encode() + b"\0" * (-len(path) % 4)
@@ -205,7 +205,7 @@ class DepsLogs(unittest.TestCase):
             self.assertEqual(graph.undeclared(log), [])
 
     def test_many_undeclared(self) -> None:
-        """More than one call gives at first."""
+        """More than one call returns at first."""
         names = [f"{number}.h" for number in range(1000)]
         with graph_of(DEPS + "".join(f"build {name}: phony\n" for name in names)) as graph:
             found = graph.undeclared(deps_log(4, "a.o", *names))
@@ -385,7 +385,7 @@ class Misuse(unittest.TestCase):
                     graph.page(graph.defaults(), take)
 
     def test_no_integers(self) -> None:
-        """Numbers that are no integers are refused, as by `range`; what has `__index__` is one."""
+        """A number that is not an integer is refused, as by `range`; `__index__` makes an integer."""
 
         class Two:
             def __index__(self) -> int:
@@ -471,7 +471,7 @@ class Misuse(unittest.TestCase):
         self.assertEqual(refused, ["the graph is in use by another call"] * 2)
 
 
-# Prints how many edges there are, after a deps log that is none, and the size of a large file.
+# Prints the number of edges, after bytes that are not a deps log, and the size of a large file.
 LIMITED = """
 from ninja_explain import BadDepsLog, Graph, _files
 try:
@@ -550,7 +550,7 @@ class Disk(unittest.TestCase):
         self.assertEqual((ran.returncode, ran.stdout, ran.stderr), (0, "5 500000000\n", ""))
 
     def test_large(self) -> None:
-        """A file of many pieces is read whole, and a larger one than 1 GiB is refused unread."""
+        """A file of many pieces is read whole, and a file larger than 1 GiB is refused unread."""
         lines = (f"# {'x' * 90}\n" for _ in range(30_000))
         (self.folder / "build.ninja").write_text(f"{''.join(lines)}{MANIFEST}")
         with Graph.load(folder=self.folder) as graph:
@@ -562,7 +562,7 @@ class Disk(unittest.TestCase):
         self.assertEqual((caught.exception.errno, caught.exception.filename[-5:]), (errno.EFBIG, "large"))
 
     def test_largest(self) -> None:
-        """A file of the greatest size is read, as is one that states no size, and no larger one."""
+        """A file of the greatest size is read, as is a file that states no size; a larger file is refused."""
         (self.folder / "build.ninja").write_text(MANIFEST)
         with mock.patch("ninja_explain._files.LARGEST", len(MANIFEST)):
             Graph.load(folder=self.folder).close()

@@ -27,7 +27,7 @@ Question = Callable[[], object]
 
 
 def input_paths(number: int) -> "list[str]":
-    """The inputs of the edge of this number, which no other edge has."""
+    """The inputs of the edge with the given number, which no other edge has."""
     return [f"in{number}.{at}" for at in range(number % MOST_INPUTS + 1)]
 
 
@@ -201,7 +201,7 @@ class Turns(OneGraph):
         self.expect_both(*others)
 
     def test_raising_handler(self) -> None:
-        """An exception that a handler raises ends the call into which it comes, and no later one."""
+        """An exception that a handler raises ends the interrupted call, and no later call."""
 
         class Stop(Exception):
             pass

@@ -51,7 +51,7 @@ one-for-each g entries is =
     ap length is.built.assigned ∙ counts entries
     ∙ sym (length-map (edges_read entries) (λ (e : EdgeModel). e.paths)) ∙ sym (ap length is.built.paths)
 
--- ---- those that are lacking
+-- ---- the lacking files
 
 with-once : (xs : List (List ℕ)) (x : List ℕ)
     → with_name (each_once bytes_eq xs) x ≡ each_once bytes_eq (xs ++ x ∷ [])

@@ -234,7 +234,7 @@ module _ (h : Supplied) where
 
 -- ---- of readings
 
--- each reading is of a path for which something was supplied, and found that
+-- each reading is of a path for which something was supplied, and found what was supplied
 abbrev AllSupplied : Supplied → List Reading → Type 0
 AllSupplied h read = AllByRecursion (λ r. is_some (supplied_for h r.path) ≡ true) read
 
@@ -293,7 +293,7 @@ module _ (between after : Supplied) (same : (path : List ℕ)
         by None some is = absurd (true≢false (sym some))
         by (Some meant) some is = is
 
--- After a joining of files without lacking ones, as before it, all files read were supplied.
+-- After a joining without lacking files, as before it, all files read were supplied.
 module _ (between after : Supplied) (loaded : LoadedModel) (stated : List ReadStatement)
     (is : IsGraphOf loaded.graph stated) where
   module _ (none : wanted_paths between ≡ [])

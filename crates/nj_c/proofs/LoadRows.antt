@@ -91,7 +91,7 @@ found-or-not (r ∷ rs) path are = by_test (bytes_eq path r.path) refl (found-or
     by_test true same later = inr (ap Some (is-given r path are.0 same))
     by_test false same later = later
 
--- ---- the readings of such files
+-- ---- the readings of the given files
 
 abbrev at : ℕ → Spot
 at column = record { line = 1; column = column }
@@ -163,7 +163,7 @@ come-to : (reached_from m whole).paths ≡ m ∷ a ∷ []
 unfolding on_files
 come-to = refl
 
--- ---- the files that such a load reads
+-- ---- the files that a load of them reads
 
 abbrev is-whole : End → Bool
 is-whole Whole = true
@@ -186,7 +186,7 @@ whole-paths files are ends came = by_found (found-or-not files m are) (found-or-
     by_found (inr first) (inr second) = sym came
         ∙ ap (λ r. (reached_from m r).paths) (reads-whole files first second) ∙ come-to
 
--- these files and the two
+-- the given files and the two
 abbrev with-both : List Reading → List Reading
 with-both files = files ++ given m ∷ given a ∷ []
 
@@ -290,7 +290,7 @@ module _ (before after : Kept) (is : unread before.files ≡ begun)
       (subst (λ fs. LoadedOr (supplied_state begun) (supplied_state after.files) fs (main_reached m) loaded)
       these or)
 
--- without dyndep files those that were read and not supplied are wanted
+-- without dyndep files, the files that were read and not supplied are wanted
 paths_or-none : (paths : List (List ℕ)) → paths_or paths [] ≡ paths
 paths_or-none [] = refl
 paths_or-none (path ∷ paths) = refl
@@ -310,7 +310,7 @@ wants-what-is-named before after is (same, lists, run, (no-graph, no-fault, want
     (are-given before after is same after.files.read wants.found) in
     wants.are ∙ are ∙ one-wanted (paths_of after.files.read) first (λ none. wants.some (are ∙ none))
 
--- So no load can make up that another one is.
+-- So a load cannot invent another wanted file.
 wants-no-other : (before after : Kept) → unread before.files ≡ begun → LoadsKept before after m false Wanted
     → map (λ p. p.items) after.wanted.items ≡ a ∷ codes "zz" ∷ [] → ⊥
 wants-no-other before after is loads other =
@@ -332,8 +332,8 @@ with_bound g files = record g { built = record g.built { assigned = map bound_to
 abbrev with_d : Supplied
 with_d = record { paths = m ∷ codes "d" ∷ []; files = Some [] ∷ None ∷ []; read = given m ∷ [] }
 
--- Both that are not there are wanted, without duplicates, in the order of their first edges; `d` is
--- known to be absent, and one path is not UTF-8.
+-- Both missing files are wanted, without duplicates, in the order of their first edges; `d` is known to be
+-- absent, and one path is not UTF-8.
 all-at-once : (g : GraphModel) → lacking_dyndeps with_d true
     (with_bound g (Some (codes "b") ∷ Some (codes "d") ∷ None ∷ Some (255 ∷ []) ∷ Some a ∷ Some (codes "b") ∷
     []))

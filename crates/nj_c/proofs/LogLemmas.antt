@@ -33,7 +33,7 @@ module _ (before after : Kept) (bytes : List ℕ) (log : LogModel) (is : IsLogOf
   keeps (Err fault) status edges files origins joins (inr (failed, kept)) =
       subst (JoinsDeps before after bytes) (sym failed) (some-is-not-none was, kept)
 
--- the log of these bytes was joined
+-- the log in the given bytes was joined
 pub joined : (before after : Kept) (bytes : List ℕ) (log : LogModel) (status : Status) → IsLogOf bytes log
     → JoinsKnown before after log status
     → JoinsDeps before after bytes status

@@ -65,7 +65,7 @@ module _ {one other : ℤ} {Same : Type 0} (refuse : Refuses one other Same) {K 
       (λ kept _ a b. at-option refuse (graph kept) NotLoaded not-loaded D E (λ g _ d e. both g d e) a b) is
       also
 
--- this is so, of a graph only if that is one of statements
+-- it holds, of a graph only if that is the graph of statements
 abbrev pub OfStated : {K G E : Type 0} → (graph : K → Option G) → (Is : G → E → Type 0) → (session : Option K)
     → (holds : Type 0) → Type 0
 OfStated {E = E} graph Is session holds =

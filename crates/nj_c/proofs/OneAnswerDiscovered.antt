@@ -127,7 +127,7 @@ module _ (g : GraphModel)
         mapped f None bad = absurd cc
         mapped f (Some x) there = refl
 
--- ---- the depfiles that count are supplied
+-- ---- the depfiles that Ninja would read are supplied
 
 module _ {X : Type 0} (f : ℕ → Option X) (p : X → Bool) where
   none-passes : (x : X) (rest : List X) → filter p (x ∷ rest) ≡ [] → (p x ≡ false) × (filter p rest ≡ [])

@@ -23,7 +23,7 @@ passed {one = one} {other = other} P fits fits2 is =
 
 -- ---- what is refused
 
--- a status with which a call gives nothing
+-- a status with which a call returns nothing
 abbrev pub IsRefusal : Status → Type 0
 IsRefusal status = IsGiven (code_of status) → ⊥
 

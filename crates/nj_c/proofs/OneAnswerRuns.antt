@@ -52,9 +52,9 @@ use Rattle.nj_c.proofs.OneAnswerLemmas.{refused, not-open}
 use Rattle.nj_c.proofs.OneAnswerLoads.{all-meant, are-declared, meant, rest-of, wanted-of, AreAsSupplied}
 use Rattle.nj_c.proofs.RunLemmas.{fails-once}
 
--- ---- what sinks took
+-- ---- what sinks received
 
--- what a sink in memory took that did not fail
+-- what a sink in memory that did not fail received
 took : (m : Memory) (text : List ℕ) → m.failures ≡ 0 → Reported untouched (state_of m) text → m.bytes ≡ text
 took m text none (inl takes) = takes.taken
 took m text none (inr fails) = absurd (fails-once untouched (state_of m) fails.0 refl fails.2 none)
@@ -99,7 +99,7 @@ module _ (h : Supplied) (file : List ℕ) where
   abbrev begun : SourceState
   begun = supplied_state (unread h)
 
-  -- a run ended so, after these readings
+  -- a run ended so, after the given readings
   abbrev IsRun : (dyndep : Bool) → (after : Supplied) → (files : List Reading) → Outcome → Type 0
   IsRun dyndep after files (Ok entries) = AreStatements file dyndep begun (supplied_state after) files entries
       × NoEdgeNeedsItself (edges_by_path entries)

@@ -1,4 +1,4 @@
--- Two answers to one word that means a target.
+-- Two answers to one word that denotes a target.
 use Rattle.std.proofs.Common.{◌≡◌, ◌≢◌, inl, inr, ℕ, ℤ, List, Option, Some, None, Ok, Err, refl, sym, ap}
 use Rattle.std.proofs.Common.{slice_get, subst, ◌∙◌, bytes_eq}
 use Rattle.std.specs.List.{IsDistinct}

@@ -30,7 +30,7 @@ use Rattle.nj_c.proofs.OneAnswerLemmas.{bad-log, bad-number, refused-buffer, IsR
 
 -- ---- logs
 
--- bytes are not both a log and none
+-- bytes cannot be both a log and not a log
 pub log-or-none : (bytes : List ℕ) (log : LogModel) → IsLogOf bytes log → IsNoLog bytes → ⊥
 log-or-none bytes log is (inl none) =
     let e : log_fault.NoDepsLog ≡ log_fault.OutOfMemory =

@@ -39,7 +39,7 @@ all-numbered count numbers held k d within =
     let below = subst (λ n. k < n) (length-map numbers as_file) within in
     subst (λ n. n < count) (ap (λ f. f.0) (sym (get_or-map as_file numbers k 0 d below))) (held k 0 below)
 
--- what holds of the edges of a graph and of files does so of those that are the same
+-- what holds of the edges of a graph and of files holds of equal edges and files
 pub same-files : (holds : EdgeGraph → List FileNo → Type 0) {graph other : EdgeGraph}
     {files others : List FileNo} → graph ≡ other → files ≡ others → holds graph files → holds other others
 same-files holds {graph = graph} {others = others} same are held =

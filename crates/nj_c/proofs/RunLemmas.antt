@@ -160,7 +160,7 @@ is-failed other = false
 other-status : (status is : run.Status) → is-failed is ≡ false → status ≡ is → status ≢ OutputFailed
 other-status status is other same failed = true≢false (ap is-failed (sym failed ∙ same) ∙ other)
 
--- a sink that failed counts that
+-- a sink that failed counts its failure
 pub fails-once : (old new : SinkState) (front : List ℕ) → old ≡ untouched → FailsAfter old new front
     → new.failures ≡ 0 → ⊥
 fails-once old new front begun fails none =

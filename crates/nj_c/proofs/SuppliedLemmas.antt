@@ -51,7 +51,7 @@ found-is (p ∷ ps) files q = by_test (bytes_eq q p) refl files (λ fs. found-is
         ∙ shifted f fs (position (bytes_eq q) ps) ∙ more fs
         ∙ ap (λ b. cond b (Some f) (found ps fs q)) (sym is)
 
--- ---- one that is set
+-- ---- a file that is set
 
 same-path : (path p q : List ℕ) (v f : File) (rest : Option File) → bytes_eq path p ≡ true
     → cond (bytes_eq q p) (Some v) rest ≡ cond (bytes_eq q path) (Some v) (cond (bytes_eq q p) (Some f) rest)
@@ -110,7 +110,7 @@ found-set (p ∷ ps) (f ∷ fs) path q n v at below =
         (one-less (position (bytes_eq path) ps) n (sym (position-no path p ps is) ∙ at)) (omega arith))
         ∙ other-path path p q v f (found ps fs q) is
 
--- ---- one that is added
+-- ---- a file that is added
 
 first-other : (path p : List ℕ) (b : Bool) → (bytes_eq path p || b) ≡ false → bytes_eq path p ≡ false
 first-other path p b none = by_test (bytes_eq path p) none
@@ -134,7 +134,7 @@ found-push (p ∷ ps) (f ∷ fs) path q v none same =
     (others (bytes_eq path p) (list_any (bytes_eq path) ps) none) (omega (arith, same)))
     ∙ other-path path p q v f (found ps fs q) (first-other path p (list_any (bytes_eq path) ps) none)
 
--- ---- whether there is one
+-- ---- whether a file is there
 
 found-some : (paths : List (List ℕ)) (files : List File) (q : List ℕ) → length files ≡ length paths
     → is_some (found paths files q) ≡ is_some (position (bytes_eq q) paths)

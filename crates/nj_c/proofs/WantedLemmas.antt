@@ -30,12 +30,12 @@ wanted-push old new path r none same more =
     ap (map bytes_of) more ∙ map_push bytes_of old path ∙ ap (λ p. map bytes_of old ++ p ∷ []) same
     ∙ ap (λ b. map bytes_of old ++ cond b [] (r.path.items ∷ [])) (sym none)
 
--- none, of one that was
+-- no more paths, of a reading that was supplied
 pub wanted-same : (old : List (List ℕ)) (r : NumberedReading) → is_some r.number ≡ true
     → old ≡ old ++ wanted_of r
 wanted-same old r some = sym (append-nil old) ∙ ap (λ b. old ++ cond b [] (r.path.items ∷ [])) (sym some)
 
--- the wanted paths of the readings in memory are those of the readings
+-- the wanted paths of the readings in memory are the wanted paths of the readings
 wanted-one : (path : List ℕ) (others : List (List ℕ)) (b : Bool)
     → cond b [] (path ∷ []) ++ others ≡ cons_option (cond b None (Some path)) others
 wanted-one path others true = refl
@@ -58,7 +58,7 @@ wanted-held paths files (r ∷ rs) same are =
     ∙ wanted-one r.path.items others (is_some
     (option_and_then (slice_get files) (position (bytes_eq r.path.items) paths)))
 
--- each reading in memory found the supplied file or an empty one
+-- each reading in memory found the supplied file or an empty file
 found-one : (files : List (Option (List ℕ))) (at : Option ℕ)
     → is_some (option_and_then (slice_get files) at) ≡ is_some at
     → read_bytes files at ≡ unwrap_or (option_and_then (slice_get files) at) (Some [])

@@ -10,19 +10,19 @@ use Rattle.nj_c.specs.declared.session_state.Kept.{Kept}
 use Rattle.nj_c.specs.declared.status.Status.TheVariants.{Done, Nothing, Short, NotLoaded, BadNumber, NotOpen, OutOfMemory}
 use Rattle.nj_c.specs.Statuses.{code_of}
 
--- a session that is not open returns that, and an open one does this with its contents
+-- the result is that the session is not open; or it is open, and `does` holds of its contents
 abbrev pub IfOpen : Option Kept → ℤ → (Kept → Type 0) → Type 0
 IfOpen session result does = MatchOption session (result ≡ code_of NotOpen) does
 
--- without a graph that is returned, and with one this is so
+-- the result is that no graph is loaded; or a graph is, and `does` holds of it
 abbrev pub IfLoaded : Option GraphModel → ℤ → (GraphModel → Type 0) → Type 0
 IfLoaded graph result does = MatchOption graph (result ≡ code_of NotLoaded) does
 
--- of the graph of an open session
+-- the same of the graph of an open session
 abbrev pub AtGraph : Option Kept → ℤ → (GraphModel → Type 0) → Type 0
 AtGraph session result does = IfOpen session result (λ kept. IfLoaded kept.graph result does)
 
--- a number below the count does this, and any other is refused
+-- `does` holds if a number is below the count, and any other number is refused
 pub record IfNumber (number count : ℕ) (result : ℤ) (does : Type 0) : Type 0 where
   pub is : number < count → does
   pub is_not : count ≤ number → result ≡ code_of BadNumber
@@ -35,11 +35,11 @@ AtEdge session edge result does = AtGraph session result (λ g. IfNumber edge (l
 abbrev pub AtFile : Option Kept → ℕ → ℤ → (GraphModel → Type 0) → Type 0
 AtFile session file result does = AtGraph session result (λ g. IfNumber file (length (files_of g)) result (does g))
 
--- the item of a list at an index was returned, or there is none
+-- the item of a list at an index was returned, if any
 abbrev pub GivesItem : {A : Type 0} → Option A → ℤ → (A → Type 0) → Type 0
 GivesItem item result gives = MatchOption item (result ≡ code_of Nothing) (λ x. (result ≡ code_of Done) × gives x)
 
--- the number of the file of this path was returned, if there is one
+-- the number of the file with the given path was returned, if any
 abbrev pub GivesFile : (files : List (List ℕ)) → Option (List ℕ) → ℤ → ℕ → Type 0
 GivesFile files path result file = GivesItem path result (λ p. slice_get files file ≡ Some p)
 
@@ -59,7 +59,7 @@ kind_code Explicit = pos 0
 kind_code Implicit = pos 1
 kind_code OrderOnly = pos 2
 
--- the number of the kind of a step; a validation has none, and a number of its own
+-- the number of the kind of a step; a validation has no kind, but a number of its own
 abbrev pub step_kind_code : Option Kind → ℤ
 step_kind_code (Some kind) = kind_code kind
 step_kind_code None = pos 3
@@ -78,16 +78,16 @@ abbrev pub GivesValue : GraphModel → (edge : ℕ) → (name before after : Lis
 GivesValue g edge name before after needed_before needed_after result = (entries : List ReadStatement) → IsGraphOf g entries
     → GivesTextOrNot (late_text_of entries edge name) before after needed_before needed_after result
 
--- the text of a list at an index was returned, or there is none
+-- the text of a list at an index was returned, if any
 abbrev pub GivesTextAt : List (List ℕ) → (index : ℕ) → (before after : List ℕ) → (needed : ℕ) → ℤ → Type 0
 GivesTextAt texts index before after needed result =
     MatchOption (slice_get texts index) (result ≡ code_of Nothing) (λ text. GivesText text before after needed result)
 
--- of the last fault of an open session, if there is one
+-- of the last fault of an open session, if any
 abbrev pub OfFault : Option Kept → ℤ → (GraphFault → Type 0) → Type 0
 OfFault session result does = IfOpen session result (λ kept. MatchOption kept.fault (result ≡ code_of Nothing) does)
 
--- of its place, if one is to blame
+-- of its place, if any
 abbrev pub IfPlace : Option GraphFault → ℤ → (Place → Type 0) → Type 0
 IfPlace fault result does = MatchOption (option_and_then (λ f. f.place) fault) (result ≡ code_of Nothing) does
 
@@ -95,7 +95,7 @@ IfPlace fault result does = MatchOption (option_and_then (λ f. f.place) fault) 
 abbrev pub OfPlace : Option Kept → ℤ → (Place → Type 0) → Type 0
 OfPlace session result does = IfOpen session result (λ kept. IfPlace kept.fault result does)
 
--- the text of a mark was returned; the empty text is none
+-- the text of a mark was returned; the empty text is not a mark
 abbrev pub GivesMark : (text before after : List ℕ) → (needed : ℕ) → ℤ → Type 0
 GivesMark [] before after needed result = result ≡ code_of Nothing
 GivesMark (b ∷ bs) before after needed result = GivesText (b ∷ bs) before after needed result

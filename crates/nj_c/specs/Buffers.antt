@@ -8,7 +8,7 @@ use Rattle.nj_c.specs.declared.status.Status.TheVariants.{Done}
 use Rattle.nj_c.specs.Asking.{kind_code}
 use Rattle.nj_c.specs.Statuses.{code_of}
 
--- a buffer with as many of these items at its front as it has room for, and unchanged after them
+-- a buffer with as many of the given items at its front as fit, and unchanged after them
 abbrev pub filled : {A : Type 0} → (items before : List A) → List A
 filled items before = take (length before) items ++ drop (length items) before
 
@@ -18,7 +18,7 @@ abbrev pub GivesNumbers : (numbers : List ℕ) → (from : ℕ) → (before afte
 GivesNumbers numbers from before after count result =
     (result ≡ code_of Done) × (count ≡ length numbers) × (after ≡ filled (drop from numbers) before)
 
--- so were the numbers of the files of these paths
+-- the same for the numbers of the files with the given paths
 abbrev pub GivesFiles : (files paths : List (List ℕ)) → (from : ℕ) → (before after : List ℕ) → (count : ℕ) → ℤ → Type 0
 GivesFiles files paths from before after count result =
     (numbers : List FileNo) × AreFiles files numbers paths × GivesNumbers (map (λ f. f.0) numbers) from before after count result

@@ -16,7 +16,7 @@ flagged flags count = filter (λ edge. slice_index_or flags edge false) (range_w
 abbrev pub unknown_edges : Kept → GraphModel → List ℕ
 unknown_edges kept g = flagged kept.unknown.items (length (edges_of g))
 
--- exactly the edges that are to be built again where these files changed, by number, and no mark
+-- exactly the edges that are to be built again where the given files changed, by number, and no mark
 abbrev pub AreDirty : Kept → (files : List ℕ) → GraphModel → (edges mark : List ℕ) → Type 0
 AreDirty kept files g edges mark = IsStrictlyIncreasing edges
     × ((edge : ℕ) → Contains edges edge ↔ IsDirty (edges_of g) (paths_of_files g files) (unknown_edges kept g) edge) × (mark ≡ [])

@@ -28,7 +28,7 @@ use Rattle.nj_c.specs.Loading.{is_lacking, unread, SameRun}
 
 -- ---- the log
 
--- the bytes of a log; none are given for one of version 4 without records
+-- the bytes of a log; no bytes stand for a log of version 4 without records
 abbrev pub log_bytes : (given : List ℕ) → List ℕ
 log_bytes [] = first_line ++ 4 ∷ 0 ∷ 0 ∷ 0 ∷ []
 log_bytes (byte ∷ bytes) = byte ∷ bytes
@@ -40,7 +40,7 @@ given_read (byte ∷ bytes) log = read_of log
 
 -- ---- the times
 
--- a given time: 0 for a file that is not there, and the greatest number for a time that is not known
+-- a given time: 0 for a missing file, and the greatest number for a time that is not known
 abbrev pub time_of : (given : ℕ) → TimeFound
 time_of given = if given == 0 then Time None else (if given == 2 ^ 64 - 1 then NoAnswer else Time (Some given))
 
@@ -54,13 +54,13 @@ abbrev pub maker_at : GraphModel → (path : List ℕ) → Option ℕ
 maker_at g path =
     option_and_then (λ file. maker_of (edges_of g) (path_at (files_of g) (record { 0 = file }))) (position (bytes_eq path) (files_of g))
 
--- the time of an output: the one that was given for the edge that makes it
+-- the time of an output: the time that was given for the edge that makes it
 abbrev pub times_of : GraphModel → (times : List ℕ) → DeclaredTimes
 times_of g times path = option_map (λ edge. time_found (slice_get times edge)) (maker_at g path)
 
 -- ---- the depfiles
 
--- the depfile of an edge by its values of `deps` and `depfile`: with `deps` the log counts
+-- the depfile of an edge by its values of `deps` and `depfile`: with `deps` Ninja reads the log instead
 abbrev pub depfile_by : (deps depfile : List ℕ) → Option (List ℕ)
 depfile_by deps depfile = if is_empty deps && not (is_empty depfile) then Some depfile else None
 
@@ -68,7 +68,7 @@ depfile_by deps depfile = if is_empty deps && not (is_empty depfile) then Some d
 abbrev pub depfile_at : List ReadStatement → (edge : ℕ) → Option (List ℕ)
 depfile_at stated edge = depfile_by (late_text_of stated edge (codes "deps")) (late_text_of stated edge (codes "depfile"))
 
--- those of the first edges that were not supplied, without duplicates
+-- the depfiles of the first edges that were not supplied, without duplicates
 abbrev pub lacking_depfiles : Supplied → List ReadStatement → (count : ℕ) → List (List ℕ)
 lacking_depfiles h stated count = each_once bytes_eq (filter (is_lacking h) (filter_map (depfile_at stated) (range_with_len 0 count)))
 
@@ -80,11 +80,11 @@ is_unknown Known = false
 is_unknown (Unknown reason) = true
 is_unknown (Faulty fault) = true
 
--- for each edge
+-- the same for each edge
 abbrev pub unknown_of : DiscoveriesModel → List Bool
 unknown_of found = map (λ edge. is_unknown edge.verdict) found.edges
 
--- The edges of a graph discovered this by a log, the supplied depfiles and these times, and it was joined: this is the graph of all, or
+-- What the edges of a graph discovered, by a log, the supplied depfiles and the given times, was joined: the result is the joined graph, or
 -- the fault.
 pub record FindsInputs (g : GraphModel) (before after : Supplied) (log : LogModel) (times : List ℕ) (stated : List ReadStatement)
     (found : DiscoveriesModel) (result : Result GraphModel GraphFault)

@@ -13,7 +13,7 @@ use Rattle.nj_c.specs.declared.session_state.LogRead.{LogRead}
 use Rattle.nj_c.specs.declared.status.Status.{Status}
 use Rattle.nj_c.specs.declared.status.Status.TheVariants.{Done, Fault, NotLoaded, BadLog, OutOfMemory}
 
--- the bytes are no deps log, or one of another version than 4
+-- the bytes are not a deps log, or have another version than 4
 abbrev pub IsNoLog : (bytes : List ℕ) → Type 0
 IsNoLog bytes = IsLogFault bytes NoDepsLog ⊎ ((version : ℕ) × IsLogFault bytes (OtherVersion version))
 
@@ -21,7 +21,7 @@ IsNoLog bytes = IsLogFault bytes NoDepsLog ⊎ ((version : ℕ) × IsLogFault by
 abbrev pub read_of : LogModel → LogRead
 read_of log = record { size = log.size; is_whole = log.is_whole }
 
--- a log was joined to a graph: this is the graph of all, or the fault
+-- a log was joined to a graph: the result is the joined graph, or the fault
 abbrev pub JoinsToGraph : GraphModel → LogModel → Result GraphModel GraphFault → Type 0
 JoinsToGraph g log result = (stated : List ReadStatement) → IsGraphOf g stated → JoinsLog log stated result
 

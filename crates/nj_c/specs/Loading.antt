@@ -17,11 +17,11 @@ use Rattle.nj_c.specs.declared.status.Status.TheVariants.{Done, Fault, Wanted, N
 use Rattle.nj_c.specs.Statuses.{code_of}
 use Rattle.nj_c.specs.SuppliedFiles.{Supplied, supplied_for, supplied_state, wanted_paths, ReadsAsSupplied, SameFiles, SetsFile}
 
--- a status was returned, with this property
+-- a status with the given property was returned
 abbrev pub Returns : ℤ → (Status → Type 0) → Type 0
 Returns result is = (status : Status) × (result ≡ code_of status) × is status
 
--- an open session stays open and does this, by its status; one that is not open remains closed
+-- an open session stays open, and `does` relates its contents, by the status; a closed session stays closed
 abbrev pub Changes : (before after : Option Kept) → ℤ → ((before after : Kept) → Status → Type 0) → Type 0
 Changes before after result does = MatchOption before ((after ≡ None) × (result ≡ code_of NotOpen))
     (λ kept. (new : Kept) × (after ≡ Some new) × Returns result (does kept new))
@@ -45,7 +45,7 @@ pub record IsEmpty (kept : Kept) : Type 0 where
   pub output : kept.output.bytes ≡ []
   pub errors : kept.errors.bytes ≡ []
 
--- a session was opened anew; or an allocation failed, and it is unchanged
+-- a session was opened again; or an allocation failed, and it is unchanged
 abbrev pub Opens : (before after : Option Kept) → ℤ → Type 0
 Opens before after result =
     ((kept : Kept) × (result ≡ code_of Done) × (after ≡ Some kept) × IsEmpty kept)
@@ -57,7 +57,7 @@ TakesFile before after path file Done = SetsFile before after path file
 TakesFile before after path file OutOfMemory = after ≡ before
 TakesFile before after path file other = ⊥
 
--- so does an open session, which keeps all else
+-- the same for an open session, which keeps all else
 abbrev pub TakesPath : (before after : Kept) → (path : List ℕ) → (file : Option (List ℕ)) → Status → Type 0
 TakesPath before after path file status =
     (files : Supplied) × (after ≡ record before { files = files }) × TakesFile before.files files path file status
@@ -72,7 +72,7 @@ unread h = record { paths = h.paths; files = h.files; read = [] }
 abbrev pub dyndeps_of : GraphModel → List (List ℕ)
 dyndeps_of g = filter_map (λ a. a.dyndep) g.built.assigned
 
--- nothing was supplied for a path; one that is not UTF-8 is never read
+-- nothing was supplied for a path; a path that is not UTF-8 is never read
 abbrev pub is_lacking : Supplied → (path : List ℕ) → Bool
 is_lacking h path = is_utf8 path && not (is_some (supplied_for h path))
 
@@ -80,13 +80,13 @@ is_lacking h path = is_utf8 path && not (is_some (supplied_for h path))
 abbrev pub lacking_dyndeps : Supplied → (joins : Bool) → GraphModel → List (List ℕ)
 lacking_dyndeps h joins g = if joins then each_once bytes_eq (filter (is_lacking h) (dyndeps_of g)) else []
 
--- these paths, or the others if there are none
+-- the first paths, or without any, the others
 abbrev pub paths_or : (paths others : List (List ℕ)) → List (List ℕ)
 paths_or [] others = others
 paths_or (path ∷ paths) others = path ∷ paths
 
--- The paths that are wanted once a main file and all that it includes are loaded: those that were read and not supplied;
--- where there are none of these, all dyndep files that are to be joined and were not supplied.
+-- The paths that are wanted once a main file and all that it includes are loaded: those that were read and not supplied; without any, all
+-- dyndep files that are to be joined and were not supplied.
 abbrev pub paths_to_load : Supplied → (joins : Bool) → Result LoadedModel GraphFault → List (List ℕ)
 paths_to_load h joins (Ok loaded) = paths_or (wanted_paths h) (lacking_dyndeps h joins loaded.graph)
 paths_to_load h joins (Err fault) = wanted_paths h
@@ -125,7 +125,7 @@ pub record LoadsFiles (before after : Supplied) (main : List ℕ) (joins : Bool)
   pub found : ReadsAsSupplied after
   pub none_wanted : wanted_paths after ≡ []
 
--- A main file, whose path is UTF-8, was loaded from the supplied files, and paths are wanted, which are listed.
+-- A main file, whose path is UTF-8, was loaded from the supplied files, and the wanted paths are listed.
 pub record WantsFiles (before after : Kept) (main : List ℕ) (joins : Bool) : Type 0 where
   pub text : is_utf8 main ≡ true
   pub loaded : Result LoadedModel GraphFault

@@ -1,4 +1,4 @@
--- From which files the manifest is made.
+-- Which files the manifest is made from.
 use Rattle.std.specs.Prelude.{◌≡◌, ◌≢◌, ◌⊎◌, ℕ, ℤ, Bool, List, map, Some}
 use Rattle.nj_graph.specs.Graph.{GraphModel}
 use Rattle.nj_ask.specs.MadeFrom.{TellMadeFrom}
@@ -9,7 +9,7 @@ use Rattle.nj_c.specs.Loading.{Returns}
 use Rattle.nj_c.specs.Pages.{AreKnown, AreRefused}
 use Rattle.nj_c.specs.Statuses.{code_of}
 
--- as many of them as there is room for were written to a buffer, or a status says why not
+-- as many of the flags as fit were written to a buffer, or a status says why not
 abbrev pub GivesMadeFrom : GraphModel → (files : List ℕ) → (before after : List ℤ) → ℤ → Type 0
 GivesMadeFrom g files before after result =
     ((made : List Bool) × AreKnown g files × TellMadeFrom g files made × (result ≡ code_of Done)

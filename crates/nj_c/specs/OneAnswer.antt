@@ -11,40 +11,40 @@ use Rattle.nj_c.specs.Pages.{edge_numbers, paths_of_files}
 use Rattle.nj_c.specs.Statuses.{code_of}
 use Rattle.nj_c.specs.SuppliedFiles.{SameFiles}
 
--- a status by which a call gave what was asked, or how much room that takes
+-- a status by which a call returned what was asked, or how much room it takes
 abbrev pub IsGiven : ℤ → Type 0
 IsGiven status = (status ≡ code_of Done) ⊎ (status ≡ code_of Short)
 
--- the same status; and what was given, if anything was, is the same
+-- the same status; and what was returned, if anything, is the same
 pub record SameAnswer (one other : ℤ) (Same : Type 0) : Type 0 where
   pub status : one ≡ other
   pub given : IsGiven one → Same
 
--- the same status and the same buffer, and the same length if one was given
+-- the same status and the same buffer, and the same length if it was returned
 pub record SameBuffer {A : Type 0} (one other : ℤ) (after after_other : List A) (length length_other : ℕ) : Type 0 where
   pub answer : SameAnswer one other (length ≡ length_other)
   pub buffer : after ≡ after_other
 
--- this is so unless an allocation failed in one of the two calls
+-- it holds unless an allocation failed in one of the two calls
 abbrev pub InMemory : (one other : ℤ) → Type 0 → Type 0
 InMemory one other holds = one ≢ code_of OutOfMemory → other ≢ code_of OutOfMemory → holds
 
--- this is so unless a run reported that memory ran out
+-- it holds unless a run reported that memory ran out
 abbrev pub UnlessReported : Option Kept → Type 0 → Type 0
 UnlessReported session holds = MatchOption session holds (λ kept. kept.errors.bytes ≢ line out_of_memory → holds)
 
--- this is so, of a graph only if that is one of statements
+-- it holds, of a graph only if that is the graph of statements
 abbrev pub IfStated : Option Kept → Type 0 → Type 0
 IfStated session holds = MatchOption session holds
     (λ kept. MatchOption kept.graph holds (λ g. (stated : List ReadStatement) → IsGraphOf g stated → holds))
 
--- this is so of the graph, if there is one
+-- it holds of the graph, if any
 abbrev pub OfAnyGraph : Option Kept → (GraphModel → Type 0) → Type 0
 OfAnyGraph session holds = MatchOption session ⊤ (λ kept. MatchOption kept.graph ⊤ holds)
 
 -- ---- what a session keeps
 
--- both have one, and these are the same; or neither has
+-- both have a value, and the values are the same; or neither has
 abbrev pub SameOptions : {A : Type 0} → (Same : A → A → Type 0) → (one other : Option A) → Type 0
 SameOptions Same None None = ⊤
 SameOptions Same None (Some other) = ⊥
@@ -56,8 +56,8 @@ pub record SameJoined (one other : Kept) : Type 0 where
   pub log : one.log ≡ other.log
   pub unknown : one.unknown.items ≡ other.unknown.items
 
--- The contents of two sessions are the same, with graphs and lists of edges that are the same in this sense. How much room lists have
--- does not count, nor which files were read since a load or a run began, nor what was joined to a graph that is gone.
+-- The contents of two sessions are the same, with graphs and lists of edges that are the same in the given sense. Ignored are how much room
+-- lists have, which files were read since a load or a run began, and what was joined to a graph that is gone.
 pub record SameContents (SameGraphs : GraphModel → GraphModel → Type 0) (SameEdges : (edges others : List ℕ) → Type 0) (one other : Kept)
     : Type 0 where
   pub files : SameFiles one.files other.files
@@ -74,14 +74,14 @@ pub record SameContents (SameGraphs : GraphModel → GraphModel → Type 0) (Sam
 abbrev pub Equal : {A : Type 0} → (one other : A) → Type 0
 Equal one other = one ≡ other
 
--- Two calls left this in their sessions: they returned the same status, and both sessions are closed, or both are open with the same
--- contents. Unless an allocation failed in one of them.
+-- What two calls left in their sessions: they returned the same status, and both sessions are closed, or both are open with the same
+-- contents; unless an allocation failed in one of the calls.
 abbrev pub SameChange : (SameGraphs : GraphModel → GraphModel → Type 0) → (SameEdges : (edges others : List ℕ) → Type 0)
     → (one other : ℤ) → (left left_other : Option Kept) → Type 0
 SameChange SameGraphs SameEdges one other left left_other =
     InMemory one other ((one ≡ other) × SameOptions (SameContents SameGraphs SameEdges) left left_other)
 
--- the graph of a session, if there is one
+-- the graph of a session, if any
 abbrev pub graph_of : Option Kept → Option GraphModel
 graph_of session = option_and_then (λ kept. kept.graph) session
 

@@ -23,7 +23,7 @@ use Rattle.nj_c.specs.declared.status.Status.TheVariants.{Done, NotLoaded, BadNu
 abbrev pub edge_numbers : Kept → List ℕ
 edge_numbers kept = map (λ e. e.0) kept.found.items
 
--- each number is below this count
+-- each number is below the count
 abbrev pub AreBelow : (count : ℕ) → List ℕ → Type 0
 AreBelow count numbers = All (λ n. n < count) numbers
 
@@ -31,7 +31,7 @@ AreBelow count numbers = All (λ n. n < count) numbers
 abbrev pub AreKnown : GraphModel → List ℕ → Type 0
 AreKnown g numbers = AreBelow (length (files_of g)) numbers
 
--- these numbers as files
+-- numbers as files
 abbrev pub numbered : List ℕ → List FileNo
 numbered numbers = map (λ n. record { 0 = n }) numbers
 
@@ -46,7 +46,7 @@ AreRefused graph files BadNumber = MatchOption graph ⊥ (λ g. AreKnown g files
 AreRefused graph files OutOfMemory = ⊤
 AreRefused graph files other = ⊥
 
--- Such edges of the graph are listed for files, and such a mark is after them; or a status says why not, and nothing changes.
+-- Edges of the graph with the given property are listed for files, with the mark after them; or a status says why not, and nothing changes.
 abbrev pub ListsEdges : (before after : Kept) → (files : List ℕ) → (are : GraphModel → (edges mark : List ℕ) → Type 0)
     → (refused : Status → Type 0) → Status → Type 0
 ListsEdges before after files are refused status =
@@ -61,19 +61,19 @@ abbrev pub AreReached : (files : List ℕ) → GraphModel → (edges mark : List
 AreReached files g edges mark = IsStrictlyIncreasing edges
     × ((edge : ℕ) → Contains edges edge ↔ IsAffected (edges_of g) (paths_of_files g files) edge) × (mark ≡ [])
 
--- the edges that a change of these files affects are listed, or a status says why not
+-- the edges that a change of the given files affects are listed, or a status says why not
 abbrev pub ListsReached : (before after : Kept) → (files : List ℕ) → Status → Type 0
 ListsReached before after files = ListsEdges before after files (AreReached files) (AreRefused before.graph files)
 
 -- ---- needed edges
 
--- these are the edges that files need through any chain of inputs, without duplicates, nearest first
+-- the edges that files need through any chain of inputs, without duplicates, nearest first
 pub record IsNeededList (edges : List EdgePaths) (files : List (List ℕ)) (numbers : List ℕ) : Type 0 where
   pub are : (edge : ℕ) → Contains numbers edge ↔ IsNeeded edges files edge
   pub each_once : IsDistinct nat_eq numbers
   pub nearest_first : AreNearestFirst edges files numbers
 
--- the edges that these files need, and no mark
+-- the edges that the given files need, and no mark
 abbrev pub AreNeeded : (files : List ℕ) → GraphModel → (edges mark : List ℕ) → Type 0
 AreNeeded files g edges mark = IsNeededList (edges_of g) (paths_of_files g files) edges × (mark ≡ [])
 
@@ -83,7 +83,7 @@ ListsNeeded before after files = ListsEdges before after files (AreNeeded files)
 
 -- ---- pages
 
--- the mark that a text gives: the empty text gives the start
+-- the mark that a text denotes: the empty text denotes the start
 abbrev pub mark_of : (text : List ℕ) → Option (List ℕ)
 mark_of [] = Some []
 mark_of (b ∷ bs) = given_mark (b ∷ bs)
@@ -98,17 +98,17 @@ abbrev pub IsPageOf : WalkState → (limit : ℕ) → (edges : List ℕ) → (en
 IsPageOf walk limit edges end =
     (edges ≡ written (Some limit) walk.left) × ((after : Option (List ℕ)) × (end ≡ end_text after) × StopsAt walk (Some limit) after)
 
--- the same of those that the targets need and that are left after a mark
+-- the same of the edges that the targets need and that are left after a mark
 abbrev pub IsPage : EdgeGraph → (targets : List FileNo) → (mark : List ℕ) → (limit : ℕ) → (edges : List ℕ) → (end : List ℕ) → Type 0
 IsPage g targets mark limit edges end =
     (is_valid (makers_of g) (row_of g targets) mark ≡ true)
     × ((walk : WalkState) × BeginsAt g targets mark walk × IsPageOf walk limit edges end)
 
--- the text gives no mark
+-- the text is not a mark
 abbrev pub IsNoMark : (text : List ℕ) → Type 0
 IsNoMark text = (is_utf8 text ≡ false) ⊎ (mark_of text ≡ None)
 
--- the text gives no mark, or one that leads to no edge
+-- the text is not a mark, or is a mark that does not lead to an edge
 abbrev pub IsBadMark : EdgeGraph → (targets : List FileNo) → (text : List ℕ) → Type 0
 IsBadMark g targets text = IsNoMark text
     ⊎ ((mark : List ℕ) × (mark_of text ≡ Some mark) × (is_valid (makers_of g) (row_of g targets) mark ≡ false))

@@ -36,7 +36,7 @@ without_empty_last (word ∷ next ∷ words) = word ∷ without_empty_last (next
 abbrev pub given_words : List ℕ → List (List ℕ)
 given_words text = without_empty_last (slice_split is_zero text)
 
--- Each list of words without zero bytes can be given, as a text with a zero byte after each word.
+-- Each list of words without zero bytes can be passed, as a text with a zero byte after each word.
 abbrev pub AllWordsCanBeGiven : Type 0
 AllWordsCanBeGiven = (words : List (List ℕ)) → All (All (λ byte. is_zero byte ≡ false)) words
     → given_words (flat_map (λ word. word ++ 0 ∷ []) words) ≡ words
@@ -47,8 +47,8 @@ AllWordsCanBeGiven = (words : List (List ℕ)) → All (All (λ byte. is_zero by
 abbrev pub untouched : SinkState
 untouched = record { taken = Some []; failures = 0; took_since_failure = false }
 
--- The program ran with these arguments over the supplied files, and wrote this to standard output and standard error, without a
--- failure.
+-- The program ran with the given arguments over the supplied files, and wrote the given bytes to standard output and standard error,
+-- without a failure.
 pub record HasRun (begun after : Supplied) (words : List (List ℕ)) (output errors : Memory) (ended : run.Status) : Type 0 where
   pub runs : RunsWords words (around (supplied_state begun) untouched untouched)
       (around (supplied_state after) (state_of output) (state_of errors)) ended
@@ -74,8 +74,7 @@ pub record SameLoad (before after : Kept) : Type 0 where
   pub log : after.log ≡ before.log
   pub unknown : after.unknown ≡ before.unknown
 
--- The session after a run with these arguments, by its status. All files that it read were supplied, unless some are
--- wanted.
+-- The session after a run with the given arguments, by its status. All files that it read were supplied, unless some are wanted.
 abbrev pub LeavesRun : (begun : Supplied) → (after : Kept) → (words : List (List ℕ)) → (exit_before exit_after : ℤ) → Status → Type 0
 LeavesRun begun after words exit_before exit_after Done =
     (ended : run.Status) × (exit_after ≡ pos (exit_code ended)) × HasRun begun after.files words after.output after.errors ended
@@ -88,7 +87,7 @@ LeavesRun begun after words exit_before exit_after OutOfMemory =
     (exit_after ≡ exit_before) × KeepsNoOutput after × (after.wanted.items ≡ [])
 LeavesRun begun after words exit_before exit_after other = ⊥
 
--- The same of a text, which gives the words if it is UTF-8.
+-- The same for a text, which has the arguments if it is UTF-8.
 abbrev pub LeavesRunOfText : (before after : Kept) → (text : List ℕ) → (exit_before exit_after : ℤ) → Status → Type 0
 LeavesRunOfText before after text exit_before exit_after status =
     ((is_utf8 text ≡ true) × LeavesRun (unread before.files) after (given_words text) exit_before exit_after status)

@@ -10,7 +10,7 @@ pub record Supplied : Type 0 where
   pub files : List (Option (List ℕ))
   pub read : List Reading
 
--- the file supplied for a path: bytes, or that no file is there; `None` if nothing was
+-- the file supplied for a path: bytes, or that no file is there; `None` if nothing was supplied
 abbrev pub supplied_for : Supplied → List ℕ → Option (Option (List ℕ))
 supplied_for h path = option_and_then (slice_get h.files) (position (bytes_eq path) h.paths)
 
@@ -26,7 +26,7 @@ wanted_paths h = filter_map (λ r. if is_some (supplied_for h r.path) then None 
 abbrev pub reads_as : Supplied → List ℕ → Option (List ℕ)
 reads_as h path = unwrap_or (supplied_for h path) (Some [])
 
--- each reading found that
+-- each reading found the file as it was supplied
 abbrev pub ReadsAsSupplied : Supplied → Type 0
 ReadsAsSupplied h = AllByRecursion (λ r. r.bytes ≡ reads_as h r.path) h.read
 
@@ -34,7 +34,7 @@ ReadsAsSupplied h = AllByRecursion (λ r. r.bytes ≡ reads_as h r.path) h.read
 abbrev pub supplied_state : Supplied → SourceState
 supplied_state h = record { readings = Some h.read; failures = 0; files = supplied_for h }
 
--- The file supplied for a path is from now on this, and for each other path unchanged. Earlier readings are forgotten.
+-- The given file is supplied for a path, and the files for other paths are unchanged. Earlier readings are forgotten.
 pub record SetsFile (before after : Supplied) (path : List ℕ) (file : Option (List ℕ)) : Type 0 where
   pub files : (other : List ℕ) → supplied_for after other ≡ (if bytes_eq other path then Some file else supplied_for before other)
   pub read : after.read ≡ []

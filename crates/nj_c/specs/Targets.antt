@@ -1,4 +1,4 @@
--- The target that a word means.
+-- The target that a word denotes.
 use Rattle.std.specs.Prelude.{◌≡◌, ℕ, List, Some, None, Ok, Err, slice_get}
 use Rattle.nj_faults.specs.declared.fault.GraphFault.{GraphFault}
 use Rattle.nj_graph.specs.Graph.{GraphModel, edges_of, files_of}
@@ -7,7 +7,7 @@ use Rattle.nj_c.specs.declared.session_state.Kept.{Kept}
 use Rattle.nj_c.specs.declared.status.Status.{Status}
 use Rattle.nj_c.specs.declared.status.Status.TheVariants.{Done, Fault, NotLoaded, OutOfMemory}
 
--- The number of the file of this path was returned; or the fault is kept.
+-- The number of the file with the given path was returned; or the fault is kept.
 abbrev pub PicksFile : (before after : Kept) → (word : List ℕ) → (file_before file_after : ℕ) → Status → Type 0
 PicksFile before after word file_before file_after Done =
     (g : GraphModel) × (before.graph ≡ Some g) × (after ≡ before)

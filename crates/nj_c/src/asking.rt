@@ -1,6 +1,6 @@
 //! How calls use a session: its contents are taken out, read or changed, and put back.
 //!
-//! The macros are bodies of exports, and give the number of a status. **An answer has no `return`
+//! The macros are bodies of exports, and return the number of a status. **An answer has no `return`
 //! and no `?`**, which would leave the session without its contents.
 
 /// Reads the contents of an open session.
@@ -28,7 +28,7 @@ macro_rules! ask_graph {
     };
 }
 
-/// Reads the graph about an edge of this number, which is an `EdgeNo` in the answer.
+/// Reads the graph about an edge with the given number, which is an `EdgeNo` in the answer.
 macro_rules! ask_edge {
     ($session:expr, $alloc:expr, $edge:ident, $graph:ident => $answer:expr) => {
         $crate::asking::ask_graph!($session, $alloc, $graph => if $edge < $graph.edge_count() {
@@ -40,7 +40,7 @@ macro_rules! ask_edge {
     };
 }
 
-/// Reads the graph about a file of this number, which is a `FileNo` in the answer.
+/// Reads the graph about a file with the given number, which is a `FileNo` in the answer.
 macro_rules! ask_file {
     ($session:expr, $alloc:expr, $file:ident, $graph:ident => $answer:expr) => {
         $crate::asking::ask_graph!($session, $alloc, $graph => if $file < $graph.file_count() {

@@ -5,7 +5,7 @@ ghost use Rattle.nj_c.specs.Cited.{GivesText, KeptUnlessDone, code_of};
 
 use crate::status::Status;
 
-/// Copies a text to the front of a buffer if it fits in, and gives its length.
+/// Copies a text to the front of a buffer if it fits, and stores its length.
 pub(crate) fn copy_text(text: &[u8], buffer: &mut [u8], needed: &mut usize) -> Status
     ensures gives { GivesText text.now buffer.old buffer.new needed.new (code_of result) }
     ensures buffer { KeptUnlessDone buffer.old buffer.new (code_of result) }

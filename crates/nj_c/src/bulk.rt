@@ -10,8 +10,8 @@ use crate::status::Status;
 use nj_graph::{EdgeGraph, EdgeNo, FileNo};
 use std::alloc::Global;
 
-/// The outputs of an edge, the explicit ones first, from an index on: as many as there is room for;
-/// and how many there are in all.
+/// The outputs of an edge, the explicit ones first, from an index on: as many as fit; and how many
+/// there are in all.
 #[unsafe(no_mangle)]
 pub extern "C" fn nx_outputs(
     alloc: Global,
@@ -30,8 +30,8 @@ pub extern "C" fn nx_outputs(
     ask_edge!(session, alloc, edge, graph => give_files(graph.outputs(edge), from, files, count))
 }
 
-/// The inputs of an edge and their kinds, as `nx_input` gives them, from an index on: as many of
-/// each as there is room for; and how many inputs there are in all.
+/// The inputs of an edge and their kinds, as `nx_input` returns them, from an index on: as many of
+/// each as fit; and how many inputs there are in all.
 #[unsafe(no_mangle)]
 pub extern "C" fn nx_inputs(
     alloc: Global,
@@ -57,7 +57,7 @@ pub extern "C" fn nx_inputs(
 }
 
 /// The edges that have a file as an input, by number, without duplicates, from an index on: as many
-/// as there is room for; and how many there are in all.
+/// as fit; and how many there are in all.
 #[unsafe(no_mangle)]
 pub extern "C" fn nx_users(
     alloc: Global,
@@ -76,8 +76,8 @@ pub extern "C" fn nx_users(
     ask_file!(session, alloc, file, graph => give_edges(graph.users(file), from, edges, count))
 }
 
-// Writes the numbers of the files of a list from an index on, as many as there is room for, and
-// gives how many it has in all.
+// Writes the numbers of the files of a list from an index on, as many as fit, and stores how many
+// it has in all.
 fn give_files(list: &[FileNo], from: usize, files: &mut [usize], count: &mut usize) -> Status
     ensures gives { (known paths : List (List ℕ)) → AreFiles known list.now paths
         → GivesFiles known paths from files.old files.new count.new (code_of result) }
@@ -92,7 +92,7 @@ fn give_files(list: &[FileNo], from: usize, files: &mut [usize], count: &mut usi
     Status::Done
 }
 
-// The same of the numbers of edges.
+// The same for the numbers of edges.
 fn give_edges(list: &[EdgeNo], from: usize, edges: &mut [usize], count: &mut usize) -> Status
     ensures gives { GivesNumbers (map (λ e. e.0) list.now) from edges.old edges.new count.new
         (code_of result) }
@@ -106,7 +106,7 @@ fn give_edges(list: &[EdgeNo], from: usize, edges: &mut [usize], count: &mut usi
     Status::Done
 }
 
-// Writes the kinds of an edge's inputs from an index on, as many as there is room for.
+// Writes the kinds of an edge's inputs from an index on, as many as fit.
 fn write_kinds(graph: &EdgeGraph, edge: EdgeNo, from: usize, kinds: &mut [i32])
     requires { edge.0 < length graph.now.edges }
     ensures { kinds.new ≡ filled (drop from (kinds_of (edge_at graph.now.edges edge.0))) kinds.old }
@@ -117,7 +117,7 @@ fn write_kinds(graph: &EdgeGraph, edge: EdgeNo, from: usize, kinds: &mut [i32])
     }
 }
 
-// How many of the items from an index on there is room for.
+// How many of the items from an index on fit.
 fn fitting_count(count: usize, from: usize, room: usize) -> usize
     ensures { result ≡ min (count - from) room }
 {

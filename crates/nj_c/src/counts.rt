@@ -8,8 +8,8 @@ use crate::session::Session;
 use crate::status::Status;
 use std::alloc::Global;
 
-/// How many edges there are: one for each build statement, numbered from 0 in reading order
-/// ("Build statements" in the Ninja manual).
+/// The number of edges, one for each build statement, numbered from 0 in reading order ("Build
+/// statements" in the Ninja manual).
 #[unsafe(no_mangle)]
 pub extern "C" fn nx_edge_count(alloc: Global, session: &mut Session, count: &mut usize) -> i32
     ensures kept { session.new.kept ≡ session.old.kept }

@@ -13,11 +13,11 @@ use nj_graph::{Graph, GraphFault};
 use nj_scope::FileSource;
 use std::alloc::Global;
 
-/// Joins the bytes of a deps log, as `.ninja_deps` has them, to the graph that is loaded ("Deps" in
-/// the Ninja manual): each file that it names for the first output of an edge whose value of `deps`
-/// is not empty becomes an implicit input of the edge, unless it is an explicit or implicit one of
-/// it already. A log that is cut off counts as far as it goes. A dependency cycle is a fault; after
-/// it, and after a failed allocation, no graph is loaded.
+/// Joins the bytes of a deps log, as `.ninja_deps` has them, to the loaded graph ("Deps" in the
+/// Ninja manual): each file that it names for the first output of an edge whose value of `deps` is
+/// not empty becomes an implicit input of the edge, unless it is an explicit or implicit input of
+/// it already. A log that is cut off is read as far as it goes. A dependency cycle is a fault;
+/// after it, and after a failed allocation, no graph is loaded.
 #[unsafe(no_mangle)]
 pub extern "C" fn nx_join_deps(alloc: Global, session: &mut Session, log: &[u8]) -> i32
     ensures { Changes session.old.kept session.new.kept result (λ kept after.
@@ -26,9 +26,8 @@ pub extern "C" fn nx_join_deps(alloc: Global, session: &mut Session, log: &[u8])
     alter!(session, alloc, kept => join_bytes(alloc, &mut kept, log))
 }
 
-/// How far the deps log was read that was joined to the graph last: how many of its bytes, and
-/// whether that is the whole log. Reading ends before the first record that does not count, as in
-/// Ninja.
+/// How far the deps log that was joined to the graph last was read: how many of its bytes, and
+/// whether that is the whole log. Reading ends before the first invalid record, as in Ninja.
 #[unsafe(no_mangle)]
 pub extern "C" fn nx_log_read(
     alloc: Global,
@@ -78,7 +77,7 @@ fn join_bytes(alloc: Global, kept: &mut Kept, bytes: &[u8]) -> Status
     }
 }
 
-// Joins a log to the graph that is kept.
+// Joins a log to the kept graph.
 fn join_log(alloc: Global, kept: &mut Kept, log: &DepsLog) -> Status
     requires { kept.old.graph ≢ None }
     ensures { JoinsKnown kept.old kept.new log.now result }

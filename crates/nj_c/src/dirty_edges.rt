@@ -12,12 +12,13 @@ use nj_ask::is_set;
 use nj_graph::{EdgeGraph, EdgeNo};
 use std::alloc::{AllocError, Global};
 
-/// Lists the edges that are to be built again where these files changed, phony edges among them,
-/// without duplicates, by number: those whose discovered inputs are not known, those that have one
-/// of the files as an output or as an explicit or implicit input, and those that have as such an
-/// input an output of an edge that is to be built again. `nx_found` returns them.
+/// Lists the edges that are to be built again where the given files changed, phony edges among
+/// them, without duplicates, by number: those whose discovered inputs are not known, those that
+/// have one of the files as an output or as an explicit or implicit input, and those that have an
+/// output of an edge that is to be built again as an explicit or implicit input. `nx_found` returns
+/// them.
 ///
-/// Before `nx_join_discovered` no edge counts as unknown.
+/// Before `nx_join_discovered` the discovered inputs of all edges are treated as known.
 #[unsafe(no_mangle)]
 pub extern "C" fn nx_dirtied(alloc: Global, session: &mut Session, files: &[usize]) -> i32
     ensures { Changes session.old.kept session.new.kept result (λ kept after.
@@ -26,7 +27,7 @@ pub extern "C" fn nx_dirtied(alloc: Global, session: &mut Session, files: &[usiz
     list!(session, alloc, kept => dirtied(alloc, kept, files))
 }
 
-// The edges that are to be built again where files of these numbers changed.
+// The edges that are to be built again where files with the given numbers changed.
 fn dirtied(alloc: Global, kept: &Kept, numbers: &[usize]) -> Result<Page, Status>
     ensures { FindsEdges kept.now numbers.now (AreDirty kept.now numbers.now)
         (AreRefused kept.now.graph numbers.now) result }

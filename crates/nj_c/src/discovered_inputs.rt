@@ -21,12 +21,12 @@ use std::mem;
 // A deps log without records.
 const EMPTY_LOG: &[u8] = b"# ninjadeps\n\x04\x00\x00\x00";
 
-/// Joins the inputs that builds discovered to the graph that is loaded, as Ninja loads them before
-/// a build ("Deps" and "C/C++ header dependencies" in the Ninja manual): by a deps log for an edge
-/// whose value of `deps` is not empty, else by its depfile, which is one of the supplied files. No
-/// bytes stand for a log without records. `times` has for each edge when its first output was last
-/// changed, in nanoseconds since 1970: 0 if it is not there, and 2^64 - 1 if that is not known. A
-/// record of the log that is older than the output does not count.
+/// Joins the inputs that builds discovered to the loaded graph, as Ninja loads them before a build
+/// ("Deps" and "C/C++ header dependencies" in the Ninja manual): by a deps log for an edge whose
+/// value of `deps` is not empty, else by its depfile, which is one of the supplied files. No bytes
+/// stand for a log without records. `times` has for each edge when its first output was last
+/// changed, in nanoseconds since 1970: 0 if the output is missing, and 2^64 - 1 if the time is not
+/// known. A record of the log that is older than the output is ignored.
 ///
 /// Depfiles that were not supplied are wanted, and the graph is unchanged. A dependency cycle is a
 /// fault; after it, and after a failed allocation, no graph is loaded.
@@ -43,8 +43,8 @@ pub extern "C" fn nx_join_discovered(
     alter!(session, alloc, kept => join_bytes(alloc, &mut kept, log, times))
 }
 
-/// Whether the discovered inputs of an edge are not known: the deps log has no record that counts,
-/// or its depfile is missing, empty or faulty. Nothing before `nx_join_discovered`.
+/// Whether the discovered inputs of an edge are not known: the deps log has no usable record of it,
+/// or its depfile is missing, empty or faulty. `NX_NOTHING` before `nx_join_discovered`.
 #[unsafe(no_mangle)]
 pub extern "C" fn nx_is_unknown(
     alloc: Global,
@@ -100,14 +100,14 @@ fn join_bytes(alloc: Global, kept: &mut Kept, bytes: &[u8], times: &[u64]) -> St
     }
 }
 
-// A log that was given, and how far it was read.
+// A given log, and how far it was read.
 #[derive(Drop)]
 struct GivenLog {
     log: DepsLog,
     read: LogRead,
 }
 
-// The log of these bytes, where none stand for a log without records.
+// The log in the given bytes, where no bytes stand for a log without records.
 fn read_log(alloc: Global, keys: HashKeys, bytes: &[u8]) -> Result<GivenLog, DepsLogFault>
     ensures log { IfOk result (λ given. IsLogOf (log_bytes bytes.now) given.log) }
     ensures read { IfOk result (λ given. given.read ≡ given_read bytes.now given.log) }
@@ -127,7 +127,7 @@ fn log_bytes(bytes: &[u8]) -> &[u8]
     bytes
 }
 
-// How far a log of these bytes was read.
+// How far the log in the given bytes was read.
 fn given_read(bytes: &[u8], log: &DepsLog) -> LogRead
     ensures { result ≡ given_read bytes.now log.now }
 {
@@ -140,7 +140,7 @@ fn given_read(bytes: &[u8], log: &DepsLog) -> LogRead
     log_read(log)
 }
 
-// Frees the graph; no path is wanted then.
+// Frees the graph, and forgets the wanted paths.
 fn forget_graph(kept: &mut Kept)
     ensures { ForgetsGraph kept.old kept.new }
 {
@@ -148,7 +148,7 @@ fn forget_graph(kept: &mut Kept)
     kept.wanted.clear();
 }
 
-// Joins what the edges of the graph that is kept discovered.
+// Joins what the edges of the kept graph discovered.
 fn join_log(alloc: Global, kept: &mut Kept, given: &GivenLog, times: &[u64]) -> Status
     requires { kept.old.graph ≢ None }
     ensures { (g : GraphModel) → kept.old.graph ≡ Some g
@@ -174,7 +174,7 @@ fn join_to(alloc: Global, kept: &mut Kept, graph: Graph, given: &GivenLog, times
     }
 }
 
-// Keeps these paths, and if there is none, joins what the edges discovered.
+// Keeps the wanted paths, or without any, joins what the edges discovered.
 fn join_or_want(
     alloc: Global,
     kept: &mut Kept,
@@ -202,7 +202,7 @@ fn join_or_want(
 #[derive(Drop)]
 pub struct Joined {
     pub(crate) graph: Graph,
-    /// Of each edge whether its discovered inputs are not known.
+    /// For each edge, whether its discovered inputs are not known.
     pub(crate) unknown: Vec<bool>,
 }
 
@@ -222,7 +222,7 @@ fn join_found(
     join_known(alloc, graph, &found)
 }
 
-// Joins this to a graph.
+// Joins the given discoveries to a graph.
 fn join_known(alloc: Global, graph: Graph, found: &Discoveries) -> Result<Joined, GraphFault>
     requires { length found.now.edges ≡ length (edges_of graph) }
     ensures { JoinsTo graph found.now result }
@@ -250,7 +250,7 @@ fn discover(
     graph.discover(alloc, log, files, &EdgeTimes { graph, times })
 }
 
-// Of each edge whether its discovered inputs are not known.
+// For each edge, whether its discovered inputs are not known.
 fn unknown_edges(alloc: Global, found: &Discoveries) -> Result<Vec<bool>, AllocError>
     ensures { IfOk result (λ flags. flags.items ≡ unknown_of found.now) }
 {

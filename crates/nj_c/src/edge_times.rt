@@ -1,12 +1,12 @@
-//! The times of outputs, as C gives them for edges.
+//! The times of outputs, as C passes them for edges.
 
 ghost use Rattle.std.specs.Prelude.{◌≡◌, slice_get};
 ghost use Rattle.nj_c.specs.Cited.{maker_at, time_found, IsAnswer};
 
 use nj_graph::{FileTimes, Graph, SourceFault};
 
-/// The time of the first output of each edge of a graph, in nanoseconds since 1970: 0 if it is not
-/// there, and [`UNKNOWN`] if the time is not known.
+/// The time of the first output of each edge of a graph, in nanoseconds since 1970: 0 if the output
+/// is missing, and [`UNKNOWN`] if the time is not known.
 #[derive(Drop)]
 pub(crate) struct EdgeTimes<'a> {
     pub(crate) graph: &'a Graph,

@@ -27,8 +27,8 @@ pub extern "C" fn nx_output(
     ask_edge!(session, alloc, edge, graph => give_file(graph.outputs(edge), index, file))
 }
 
-/// The input of an edge at an index, and its kind: 0 explicit, 1 implicit, 2 order-only. They come
-/// in this order ("Build dependencies" in the Ninja manual).
+/// The input of an edge at an index, and its kind: 0 explicit, 1 implicit, 2 order-only. Inputs
+/// come in the order of their kinds ("Build dependencies" in the Ninja manual).
 #[unsafe(no_mangle)]
 pub extern "C" fn nx_input(
     alloc: Global,
@@ -67,7 +67,7 @@ pub extern "C" fn nx_validation(
     ask_edge!(session, alloc, edge, graph => give_file(graph.validations(edge), index, file))
 }
 
-/// How many outputs of an edge are explicit; these are the first ones.
+/// How many outputs of an edge are explicit; explicit outputs come first.
 #[unsafe(no_mangle)]
 pub extern "C" fn nx_explicit_outputs(
     alloc: Global,
@@ -86,7 +86,7 @@ pub extern "C" fn nx_explicit_outputs(
     })
 }
 
-/// How many inputs of an edge are explicit; these are the first ones.
+/// How many inputs of an edge are explicit; explicit inputs come first.
 #[unsafe(no_mangle)]
 pub extern "C" fn nx_explicit_inputs(
     alloc: Global,
@@ -142,7 +142,7 @@ pub extern "C" fn nx_rule_name(
     ask_edge!(session, alloc, edge, graph => copy_text(graph.rule_name(edge), buffer, needed))
 }
 
-/// The line and the column of the build statement of an edge, counted from 1; columns count bytes.
+/// The line and the column of the build statement of an edge, counted from 1; columns are in bytes.
 #[unsafe(no_mangle)]
 pub extern "C" fn nx_edge_place(
     alloc: Global,

@@ -27,8 +27,8 @@ pub extern "C" fn nx_fault_kind(alloc: Global, session: &mut Session, kind: &mut
     })
 }
 
-/// The line and the column of the fault, counted from 1; columns count bytes. Nothing if the fault
-/// has no place.
+/// The line and the column of the fault, counted from 1; columns are in bytes. `NX_NOTHING` if the
+/// fault has no place.
 #[unsafe(no_mangle)]
 pub extern "C" fn nx_fault_place(
     alloc: Global,
@@ -50,7 +50,8 @@ pub extern "C" fn nx_fault_place(
     })
 }
 
-/// The file of the fault, by the name under which it was opened. Nothing if the fault has no place.
+/// The file of the fault, by the name under which it was opened. `NX_NOTHING` if the fault has no
+/// place.
 #[unsafe(no_mangle)]
 pub extern "C" fn nx_fault_file(
     alloc: Global,

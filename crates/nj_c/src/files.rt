@@ -29,7 +29,7 @@ pub extern "C" fn nx_path(
     ask_file!(session, alloc, file, graph => copy_text(graph.path(file), buffer, needed))
 }
 
-/// The file at this path, which has to be clean: the path as Ninja shows it.
+/// The file at the given path, which has to be clean: the path as Ninja shows it.
 #[unsafe(no_mangle)]
 pub extern "C" fn nx_file_named(
     alloc: Global,
@@ -51,7 +51,7 @@ pub extern "C" fn nx_file_named(
     })
 }
 
-/// The edge that makes a file; nothing for a source.
+/// The edge that makes a file; `NX_NOTHING` for a source.
 #[unsafe(no_mangle)]
 pub extern "C" fn nx_maker(
     alloc: Global,

@@ -6,7 +6,7 @@ ghost use Rattle.nj_c.specs.Cited.{AreFiles, GivesFile, GivesItem, kind_code, st
 use crate::status::Status;
 use nj_graph::{EdgeNo, FileNo, Kind};
 
-/// Gives the number of the file at an index of a list.
+/// Stores the number of the file at an index of a list.
 pub(crate) fn give_file(list: &[FileNo], index: usize, file: &mut usize) -> Status
     ensures { (files paths : List (List ℕ)) → AreFiles files list.now paths
         → GivesFile files (slice_get paths index) (code_of result) file.new }
@@ -26,7 +26,7 @@ fn file_at(list: &[FileNo], index: usize) -> Option<FileNo>
     list.get(index).copied()
 }
 
-/// Gives the number of the edge at an index of a list.
+/// Stores the number of the edge at an index of a list.
 pub(crate) fn give_edge(list: &[EdgeNo], index: usize, edge: &mut usize) -> Status
     ensures { GivesItem (slice_get (map (λ e. e.0) list.now) index) (code_of result)
         (λ number. edge.new ≡ number) }
@@ -51,7 +51,7 @@ pub(crate) fn kind_number(kind: Kind) -> i32
     }
 }
 
-/// The number of a validation, beside those of kinds.
+/// The number of a validation, beside the numbers of kinds.
 const VALIDATION: i32 = 3;
 
 /// The number of the kind of a step, which is `None` for a validation.

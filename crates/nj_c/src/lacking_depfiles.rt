@@ -10,8 +10,8 @@ use nj_graph::{EdgeNo, Graph};
 use nj_scope::FileSource;
 use std::alloc::{AllocError, Global};
 
-/// The depfiles of edges that were not supplied, without duplicates. With a value of `deps` the
-/// deps log counts, and the depfile does not.
+/// The depfiles of edges that were not supplied, without duplicates. For an edge with a value of
+/// `deps`, Ninja reads the deps log instead of the depfile.
 pub(crate) fn lacking_depfiles(
     alloc: Global,
     files: &SuppliedFiles,
@@ -44,7 +44,7 @@ fn lacking_names(alloc: Global, files: &SuppliedFiles, graph: &Graph) -> Result<
     Ok(lacking)
 }
 
-// The depfile of an edge, if it counts.
+// The depfile of an edge, if Ninja would read it.
 fn depfile_at(alloc: Global, graph: &Graph, edge: EdgeNo) -> Result<Option<Vec<u8>>, AllocError>
     requires { edge.0 < length (edges_of graph.now) }
     ensures { (stated : List ReadStatement) → IsGraphOf graph.now stated

@@ -2,7 +2,7 @@
 
 ghost use Rattle.nj_c.specs.Cited.{AllWordsCanBeGiven, OutputsNeverFail};
 
-/// Each list of words without zero bytes can be given, as a text with a zero byte after each word.
+/// Each list of words without zero bytes can be passed, as a text with a zero byte after each word.
 pub fn all_words_can_be_given()
     ensures { AllWordsCanBeGiven }
 {}

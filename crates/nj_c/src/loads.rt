@@ -14,10 +14,10 @@ use nj_graph::{Cause, Graph, GraphFault, Loaded, join_dyndeps, load};
 use std::alloc::Global;
 use std::mem;
 
-/// Loads the main file at a path and all files that it includes, from those that were supplied; and
-/// joins the dyndep files to which edges are bound, if `joins_dyndeps` is not 0 ("Dynamic
-/// Dependencies" in the Ninja manual). An earlier graph is freed. If files are wanted that were not
-/// supplied, `nx_wanted` returns their paths; the `nx_fault_` calls return a fault.
+/// Loads the main file at a path and all files that it includes, from the supplied files; and joins
+/// the dyndep files to which edges are bound, if `joins_dyndeps` is not 0 ("Dynamic Dependencies"
+/// in the Ninja manual). An earlier graph is freed. If files that were not supplied are wanted,
+/// `nx_wanted` returns their paths; the `nx_fault_` calls return a fault.
 #[unsafe(no_mangle)]
 pub extern "C" fn nx_load(
     alloc: Global,
@@ -80,7 +80,7 @@ fn forget_load(kept: &mut Kept)
     kept.unknown.clear();
 }
 
-// Keeps the paths that are wanted, or the result of the load.
+// Keeps the wanted paths, or the result of the load.
 fn finish_load(
     alloc: Global,
     kept: &mut Kept,
@@ -112,7 +112,7 @@ fn lacks_memory(loaded: &Result<Loaded, GraphFault>) -> bool
     }
 }
 
-// Keeps these paths, or where there is none, the result of the load.
+// Keeps the wanted paths, or without any, the result of the load.
 fn keep_load(
     alloc: Global,
     kept: &mut Kept,

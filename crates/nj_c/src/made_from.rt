@@ -1,4 +1,4 @@
-//! From which files the manifest is made.
+//! Which files the manifest is made from.
 
 ghost use Rattle.std.specs.Prelude.{◌≡◌, map, IfErr, IfOk, Some};
 ghost use Rattle.nj_c.specs.Cited.{AreRefused, bool_code, AtGraph, filled, TellMadeFrom, FlagsKeptUnlessDone, GivesMadeFrom, AreKnown, code_of};
@@ -12,11 +12,11 @@ use nj_graph::Graph;
 use nj_scope::{FileSource, HashKeys};
 use std::alloc::Global;
 
-/// Of each of these files whether the manifest is made from it: whether it was opened in the load,
-/// or is an input of an edge that makes such a file or has a value of `generator`, or that one of
-/// these needs through any chain of inputs. A change of the file may change everything.
+/// For each given file, whether the manifest is made from it: whether it was opened in the load, or
+/// is an input of an edge that makes an opened file or has a value of `generator`, or that such an
+/// edge needs through any chain of inputs. A change of the file may change everything.
 ///
-/// Gives 1 or 0 for as many files as there is room for.
+/// Stores 1 or 0 for as many files as fit.
 #[unsafe(no_mangle)]
 pub extern "C" fn nx_made_from(
     alloc: Global,
@@ -54,7 +54,7 @@ fn give_made_from(
     }
 }
 
-// Of each file of these numbers whether the manifest is made from it.
+// For each file with one of the given numbers, whether the manifest is made from it.
 fn made_from_numbers(
     alloc: Global,
     graph: &Graph,
@@ -69,7 +69,7 @@ fn made_from_numbers(
     Ok(made_from(alloc, graph, keys, &files)?)
 }
 
-// Writes as many flags as there is room for.
+// Writes as many flags as fit.
 fn write_flags(made: &[bool], flags: &mut [i32])
     ensures { flags.new ≡ filled (map bool_code made.now) flags.old }
 {

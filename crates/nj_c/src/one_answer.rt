@@ -1,9 +1,9 @@
 //! What the contracts of the exports leave open.
 //!
 //! Each function makes one call twice, in two sessions with the same contents and with the same
-//! arguments, and its contract says what the two answers have in common. Its proof sees the contract
-//! of the call alone. So no two answers that the contract allows differ in more than the function's
-//! documentation names as free. C does not see these functions.
+//! arguments, and its contract says what the two answers have in common. Its proof sees the
+//! contract of the call alone. So answers that the contract allows differ only in what the
+//! function's documentation names as free. C does not see the functions.
 
 pub mod counts;
 pub mod edge_lists;

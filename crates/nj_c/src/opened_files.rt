@@ -11,7 +11,7 @@ use nj_graph::Graph;
 use std::alloc::Global;
 
 /// The path at an index among the files that the load opened: that of the main file, and one more
-/// for each `include` and `subninja` statement, also where it opens a file again ("Ninja file
+/// for each `include` and `subninja` statement, even where it opens a file again ("Ninja file
 /// reference" in the Ninja manual).
 #[unsafe(no_mangle)]
 pub extern "C" fn nx_opened(

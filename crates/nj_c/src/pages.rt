@@ -16,8 +16,9 @@ use nj_needs::{Mark, Needs};
 use std::alloc::{AllocError, Global};
 use std::mem;
 
-/// Lists the edges that a change of these files affects: those that need one of them through any
-/// chain of inputs, phony edges among them, without duplicates, by number. `nx_found` returns them.
+/// Lists the edges that a change of the given files affects: those that need one of them through
+/// any chain of inputs, phony edges among them, without duplicates, by number. `nx_found` returns
+/// them.
 #[unsafe(no_mangle)]
 pub extern "C" fn nx_affected(alloc: Global, session: &mut Session, files: &[usize]) -> i32
     ensures { Changes session.old.kept session.new.kept result (λ kept after.
@@ -26,7 +27,7 @@ pub extern "C" fn nx_affected(alloc: Global, session: &mut Session, files: &[usi
     list!(session, alloc, kept => affected(alloc, kept, files))
 }
 
-/// Lists the edges that these files need through any chain of inputs, phony edges among them,
+/// Lists the edges that the given files need through any chain of inputs, phony edges among them,
 /// without duplicates, nearest first: the edges that make the files, then those that make their
 /// inputs, and so on. `nx_found` returns them.
 #[unsafe(no_mangle)]
@@ -39,7 +40,7 @@ pub extern "C" fn nx_needed(alloc: Global, session: &mut Session, files: &[usize
 
 /// Lists the edges with commands that targets need, without duplicates, each after all edges that
 /// make its inputs: at most `take` of those that are left after a mark. The mark is the empty text
-/// for the first page, and that of `nx_page_mark` for the next one. `nx_found` returns the edges.
+/// for the first page, and that of `nx_page_mark` for the next page. `nx_found` returns the edges.
 #[unsafe(no_mangle)]
 pub extern "C" fn nx_page(
     alloc: Global,
@@ -69,7 +70,7 @@ pub extern "C" fn nx_found(
     ask!(session, alloc, kept => give_edge(&kept.found, index, edge))
 }
 
-/// The mark at which the last page ends. Nothing if no edge is left after it.
+/// The mark at which the last page ends. `NX_NOTHING` if no edge is left after it.
 #[unsafe(no_mangle)]
 pub extern "C" fn nx_page_mark(
     alloc: Global,
@@ -102,7 +103,7 @@ pub(crate) struct Page {
     pub(crate) mark: Vec<u8>,
 }
 
-/// Keeps a list in place of the last one.
+/// Keeps a list in place of the last list.
 pub(crate) fn keep_page(seal: Seal, found: Result<Page, Status>) -> (Seal, Status)
     ensures { KeepsPage seal.kept result.0.kept found result.1 }
 {
@@ -121,7 +122,7 @@ fn keep_edges(seal: Seal, edges: Vec<EdgeNo>, mark: Vec<u8>) -> Seal
     Seal::new(kept)
 }
 
-// The edges that a change of files of these numbers affects.
+// The edges that a change of files with the given numbers affects.
 fn affected(alloc: Global, kept: &Kept, numbers: &[usize]) -> Result<Page, Status>
     ensures { FindsEdges kept.now numbers.now (AreReached numbers.now)
         (AreRefused kept.now.graph numbers.now) result }
@@ -132,7 +133,7 @@ fn affected(alloc: Global, kept: &Kept, numbers: &[usize]) -> Result<Page, Statu
     Ok(Page { edges, mark })
 }
 
-// The edges that files of these numbers need.
+// The edges that files with the given numbers need.
 fn needed(alloc: Global, kept: &Kept, numbers: &[usize]) -> Result<Page, Status>
     ensures { FindsEdges kept.now numbers.now (AreNeeded numbers.now)
         (AreRefused kept.now.graph numbers.now) result }
@@ -143,7 +144,7 @@ fn needed(alloc: Global, kept: &Kept, numbers: &[usize]) -> Result<Page, Status>
     Ok(Page { edges, mark })
 }
 
-/// The graph of a session, and the files of these numbers.
+/// The graph of a session, and the files with the given numbers.
 pub(crate) fn graph_and_files<'k>(
     alloc: Global,
     kept: &'k Kept,
@@ -162,7 +163,7 @@ pub(crate) fn graph_and_files<'k>(
     Ok((graph, files))
 }
 
-/// The files of these numbers.
+/// The files with the given numbers.
 pub(crate) fn known_files(
     alloc: Global,
     graph: &Graph,
@@ -200,7 +201,7 @@ fn page_of(
     page_after(alloc, graph, &targets, &mark, take)
 }
 
-// The mark that a text gives; the empty text is the start.
+// The mark that a text denotes; the empty text is the start.
 fn read_mark(alloc: Global, text: &[u8]) -> Result<Mark, Status>
     ensures mark { IfOk result (λ mark. mark_of text.now ≡ Some mark) }
     ensures refused { IfErr result (MarkRefused (IsNoMark text.now)) }

@@ -17,17 +17,18 @@ use std::alloc::Global;
 pub struct PathStep {
     pub edge: usize,
     pub file: usize,
-    /// The kind of the input, as `nx_input` gives it; 3 for a validation.
+    /// The kind of the input, as `nx_input` returns it; 3 for a validation.
     pub kind: i32,
 }
 
-/// A shortest chain of inputs by which one file needs another: its first step goes from the edge
-/// that makes `from`, its last one to `to`, and each goes from the edge that makes the file of the
-/// step before it. Of several shortest ones it is the first when inputs are tried in their order.
-/// Validations count as inputs too, after those of their edge, if `with_validations` is not 0.
+/// A shortest chain of inputs by which one file needs another: its first step starts at the edge
+/// that makes `from`, its last step leads to `to`, and each step starts at the edge that makes the
+/// file of the step before it. Of several shortest chains it is the first when inputs are tried in
+/// their order. If `with_validations` is not 0, validations are treated as inputs too, after those
+/// of their edge.
 ///
-/// Gives as many steps as there is room for, and how many there are; nothing if there is no chain,
-/// and from a file to itself.
+/// Stores as many steps as fit, and how many there are; `NX_NOTHING` without a chain, and from a
+/// file to itself.
 #[unsafe(no_mangle)]
 pub extern "C" fn nx_path_between(
     alloc: Global,
@@ -83,7 +84,7 @@ fn give_path(
     }
 }
 
-// Writes as many steps as there is room for.
+// Writes as many steps as fit.
 fn write_steps(found: &[Step], steps: &mut [PathStep])
     ensures { steps.new ≡ filled (map numbered_step found.now) steps.old }
 {

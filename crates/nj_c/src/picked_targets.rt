@@ -10,9 +10,9 @@ use crate::status::Status;
 use nj_graph::{Cause, GraphFault, pick_target};
 use std::alloc::Global;
 
-/// The file that a word of the command line means: the one at its path, which is cleaned first; for
-/// `FILE^` the first output of the first edge that has FILE as an input ("Running Ninja" in the
-/// Ninja manual). If there is none, that is the last fault of the session.
+/// The file that a word of the command line denotes: the file at its path, which is cleaned first;
+/// for `FILE^` the first output of the first edge that has FILE as an input ("Running Ninja" in the
+/// Ninja manual). Without such a file, that is the last fault of the session.
 #[unsafe(no_mangle)]
 pub extern "C" fn nx_pick_target(
     alloc: Global,

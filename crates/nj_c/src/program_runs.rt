@@ -16,8 +16,8 @@ use std::mem;
 
 /// Runs the program with the arguments of a text, over the supplied files: as `ninja-explain` does,
 /// with its exit status, but standard output and standard error are kept in the session. Each
-/// argument ends before a zero byte or at the end of the text. If files are wanted that were not
-/// supplied, `nx_wanted` returns their paths, and nothing is kept of the two outputs.
+/// argument ends before a zero byte or at the end of the text. If files that were not supplied are
+/// wanted, `nx_wanted` returns their paths, and neither output is kept.
 #[unsafe(no_mangle)]
 pub extern "C" fn nx_run(alloc: Global, session: &mut Session, words: &[u8], exit: &mut i32) -> i32
     ensures { Changes session.old.kept session.new.kept result (λ kept after.
@@ -87,7 +87,7 @@ fn forget_outputs(alloc: Global, kept: &mut Kept)
     drop(mem::replace(&mut kept.errors, MemorySink::new(alloc, None)));
 }
 
-// Runs the program with these arguments, and keeps its output.
+// Runs the program with the given arguments, and keeps its output.
 fn run_over(alloc: Global, kept: &mut Kept, words: &[String], exit: &mut i32) -> Status
     requires wanted { kept.old.wanted.items ≡ [] }
     requires run { NoRun kept.old }
@@ -149,7 +149,7 @@ fn has_failed(kept: &Kept) -> bool
     kept.output.failures() > 0 || kept.errors.failures() > 0
 }
 
-// Keeps the paths that a run wanted, and if there are any, nothing of its output.
+// Keeps the paths that a run wanted and, where it wanted any, nothing of its output.
 fn keep_wanted(alloc: Global, kept: &mut Kept, wanted: Vec<Vec<u8>>) -> Status
     requires paths { map (λ p. p.items) wanted.items ≡ wanted_paths kept.old.files }
     requires none { kept.old.wanted.items ≡ [] }
@@ -170,7 +170,7 @@ fn keep_wanted(alloc: Global, kept: &mut Kept, wanted: Vec<Vec<u8>>) -> Status
     Status::Wanted
 }
 
-// Whether a text is this line.
+// Whether a text is the given line.
 fn is_line_of(text: &[u8], line: &[u8]) -> bool
     ensures { result ≡ false → text.now ≢ line.now }
 {

@@ -12,7 +12,7 @@ use nj_graph::Graph;
 use std::alloc::Global;
 
 /// The file at an index among the defaults in force: those of the `default` lines in their order,
-/// or the roots where there is no such line ("Default target statements" in the Ninja manual).
+/// or without such lines the roots ("Default target statements" in the Ninja manual).
 #[unsafe(no_mangle)]
 pub extern "C" fn nx_default(
     alloc: Global,
@@ -44,8 +44,8 @@ pub extern "C" fn nx_root(
     ask_graph!(session, alloc, graph => give_file(graph.roots(), index, file))
 }
 
-/// The name of the rule at an index among those of the main file's scope, which are in byte order
-/// and `phony` among them, as `nx_rule_count` counts them.
+/// The name of the rule at an index among the rules of the main file's scope, in byte order and
+/// with `phony` among them, as in `nx_rule_count`.
 #[unsafe(no_mangle)]
 pub extern "C" fn nx_rule_name_at(
     alloc: Global,
@@ -63,7 +63,7 @@ pub extern "C" fn nx_rule_name_at(
     ask_graph!(session, alloc, graph => give_rule_name(graph, index, buffer, needed))
 }
 
-// Gives the name of the rule at an index.
+// Copies the name of the rule at an index.
 fn give_rule_name(graph: &Graph, index: usize, buffer: &mut [u8], needed: &mut usize) -> Status
     ensures gives { GivesTextAt (map (λ r. r.name) (main_rules graph.now)) index
         buffer.old buffer.new needed.new (code_of result) }

@@ -24,7 +24,7 @@ impl Model for Seal {
 }
 
 impl Seal {
-    /// Keeps this.
+    /// Keeps the contents of a box.
     pub(crate) fn new(value: Box<Kept>) -> Seal
         ensures { result.kept ≡ value.value }
     {

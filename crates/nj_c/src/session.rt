@@ -72,7 +72,7 @@ impl Session {
         mem::replace(self, Session::empty(alloc)).into_seal()
     }
 
-    /// Keeps this from now on.
+    /// Keeps the given contents from now on.
     pub(crate) fn put(&mut self, kept: Seal)
         ensures { self.new.kept ≡ Some kept.kept }
     {

@@ -23,9 +23,9 @@ pub struct Kept {
     pub(crate) found: Vec<EdgeNo>,
     /// The text of the mark at which the last page ends; empty if nothing is left after it.
     pub(crate) mark: Vec<u8>,
-    /// How far the deps log was read that was joined to the graph last.
+    /// How far the deps log that was joined to the graph last was read.
     pub(crate) log: Option<LogRead>,
-    /// Of each edge whether its discovered inputs are not known; empty if none were joined.
+    /// For each edge, whether its discovered inputs are not known; empty if none were joined.
     pub(crate) unknown: Vec<bool>,
     /// The standard output of the last run.
     pub(crate) output: MemorySink,

@@ -12,8 +12,8 @@ use crate::supplied_files::SuppliedFiles;
 use nj_scope::HashKeys;
 use std::alloc::{AllocError, Global};
 
-/// The version of the interface. A program still works with a greater minor number than the one for
-/// which it was written; with another major one it may not.
+/// The version of the interface. A program still works with a greater minor number than it was
+/// written for; with another major number it may not.
 #[unsafe(no_mangle)]
 pub extern "C" fn nx_version(major: &mut usize, minor: &mut usize) -> i32
     ensures { (result ≡ code_of Done) × (major.new ≡ 1) × (minor.new ≡ 2) }
@@ -47,7 +47,7 @@ fn new_session(alloc: Global, key: u64) -> Result<Seal, AllocError>
     }
 }
 
-/// Closes a session, and frees all that it keeps. One that is not open remains closed.
+/// Closes a session, and frees all that it keeps. Closing a closed session has no effect.
 #[unsafe(no_mangle)]
 pub extern "C" fn nx_close(alloc: Global, session: &mut Session) -> i32
     ensures closed { session.new.kept ≡ None }
@@ -57,8 +57,8 @@ pub extern "C" fn nx_close(alloc: Global, session: &mut Session) -> i32
     Status::Done.code()
 }
 
-/// Supplies the bytes of the file at a path, in place of those supplied for it before. A graph that
-/// is loaded stays the same.
+/// Supplies the bytes of the file at a path, in place of any supplied for it before. A loaded graph
+/// stays the same.
 #[unsafe(no_mangle)]
 pub extern "C" fn nx_add_file(
     alloc: Global,

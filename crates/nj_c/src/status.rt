@@ -11,17 +11,17 @@ use std::alloc::{AllocError, AllocFailed};
 pub enum Status {
     /// It succeeded.
     Done,
-    /// There is nothing there: past the end of a list, no maker, no file of this path.
+    /// There is nothing there: past the end of a list, no maker, no file with the given path.
     Nothing,
     /// The buffer is too small, and nothing was written to it.
     Short,
     /// There is a fault, which is kept.
     Fault,
-    /// Files are wanted that were not supplied.
+    /// Files that were not supplied are wanted.
     Wanted,
     /// No graph is loaded.
     NotLoaded,
-    /// No edge or file has this number.
+    /// The number is not that of an edge or a file.
     BadNumber,
     /// The text is not a mark, or leads to no edge.
     BadMark,
@@ -31,7 +31,7 @@ pub enum Status {
     NotOpen,
     /// An allocation failed.
     OutOfMemory,
-    /// The bytes are no deps log of version 4.
+    /// The bytes are not a deps log of version 4.
     BadLog,
 }
 

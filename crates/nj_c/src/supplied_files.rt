@@ -8,14 +8,14 @@ use nj_scope::{FileSource, HashKeys, SourceFault};
 use std::alloc::{AllocError, Global};
 use std::marker::Model;
 
-// One reading: the path, and the number of its file; `None` if that was not supplied.
+// One reading: the path, and the number of its file; `None` if the file was not supplied.
 #[derive(Drop)]
 struct NumberedReading {
     path: Vec<u8>,
     number: Option<usize>,
 }
 
-/// The supplied files. One that was not supplied reads as an empty file, and is then wanted.
+/// The supplied files. A file that was not supplied reads as an empty file, and is then wanted.
 #[derive(Drop)]
 pub struct SuppliedFiles {
     keys: HashKeys,
@@ -44,7 +44,7 @@ impl Model for SuppliedFiles {
 }
 
 impl SuppliedFiles {
-    /// No files, whose paths are hashed by these keys. It allocates nothing.
+    /// No files, whose paths are hashed with the given keys. It allocates nothing.
     pub(crate) fn new(alloc: Global, keys: HashKeys) -> SuppliedFiles
         ensures { result ≡ record { paths = []; files = []; read = [] } }
     {
@@ -71,7 +71,7 @@ impl SuppliedFiles {
         }
     }
 
-    // Sets the file of a number.
+    // Sets the file with the given number.
     fn replace(&mut self, number: usize, file: Option<Vec<u8>>)
         requires { number < length self.old.files }
         ensures { self.new ≡ record {
@@ -185,7 +185,7 @@ fn push_wanted(
     Ok(())
 }
 
-// The reading of the file of this number.
+// The reading of the file with the given number.
 fn copy_at(
     alloc: Global,
     files: &[Option<Vec<u8>>],

@@ -1,4 +1,4 @@
-//! Inputs that deps logs name for edges, and that these do not declare.
+//! Inputs that deps logs name for edges that do not declare them.
 
 ghost use Rattle.std.specs.Prelude.{◌≡◌, ◌⊎◌, map};
 ghost use Rattle.nj_c.specs.Cited.{AtGraph, OutOfMemory, code_of, filled, numbered_input, GivesInputs, GivesUndeclared, InputsKeptUnlessDone};
@@ -20,14 +20,14 @@ pub struct EdgeInput {
 }
 
 /// The inputs that edges use without declaring them ("Deps" in the Ninja manual), by the bytes of a
-/// deps log, as `.ninja_deps` has them: it names a file for the first output of an edge whose value
-/// of `deps` is not empty, another edge makes that file, and the edge needs that maker through no
-/// chain of inputs. By edge, then in the log's order, without duplicates. An edge for which the log
-/// names `build.ninja`, by that very path, is left out. A log that is cut off counts as far as it
-/// goes.
+/// deps log, as `.ninja_deps` has them: the log names a file for the first output of an edge whose
+/// value of `deps` is not empty, another edge makes that file, and the edge does not need that
+/// maker through any chain of inputs. By edge, then in the log's order, without duplicates. An edge
+/// for which the log names `build.ninja`, by that very path, is left out. A log that is cut off is
+/// read as far as it goes.
 ///
-/// Gives as many as there is room for, and how many there are. It reads the log anew each time, and
-/// joins nothing: ask before `nx_join_deps`, after which what the log names are inputs.
+/// Stores as many inputs as fit, and how many there are. It reads the log again each time, and
+/// joins nothing: call it before `nx_join_deps`, which makes logged files inputs.
 #[unsafe(no_mangle)]
 pub extern "C" fn nx_undeclared(
     alloc: Global,
@@ -69,7 +69,7 @@ fn give_undeclared(
     }
 }
 
-// The same by a log.
+// The same, by a log that was read.
 fn give_inputs(
     alloc: Global,
     graph: &Graph,
@@ -91,7 +91,7 @@ fn give_inputs(
     }
 }
 
-// Writes as many inputs as there is room for.
+// Writes as many inputs as fit.
 fn write_inputs(found: &[UndeclaredInput], inputs: &mut [EdgeInput])
     ensures { inputs.new ≡ filled (map numbered_input found.now) inputs.old }
 {

@@ -11,8 +11,8 @@ use nj_graph::{EdgeNo, Graph};
 use std::alloc::Global;
 
 /// The value of a variable for an edge, where its rule is used after all statements ("Rule
-/// variables" in the Ninja manual): `description`, `depfile`, `rspfile` or any other name. A name
-/// that is bound nowhere has the empty value.
+/// variables" in the Ninja manual): `description`, `depfile`, `rspfile` or any other name. An
+/// unbound name has the empty value.
 #[unsafe(no_mangle)]
 pub extern "C" fn nx_variable(
     alloc: Global,
@@ -30,8 +30,8 @@ pub extern "C" fn nx_variable(
     ask_edge!(session, alloc, edge, graph => value(alloc, graph, edge, name, buffer, needed))
 }
 
-/// The command of an edge, as it is passed to a shell; of a phony one the value that its block
-/// binds to `command`, which is mostly empty.
+/// The command of an edge, as it is passed to a shell; for a phony edge, the value that its block
+/// binds to `command`, usually empty.
 #[unsafe(no_mangle)]
 pub extern "C" fn nx_command(
     alloc: Global,

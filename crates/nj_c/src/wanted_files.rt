@@ -44,7 +44,7 @@ fn wanted_with_fault(
     Ok(wanted)
 }
 
-// Where the load gave a graph: these paths, or if there is none, the dyndep files.
+// Where the load has a graph: the same paths, or without any, the dyndep files.
 fn wanted_with(
     alloc: Global,
     files: &SuppliedFiles,
@@ -94,7 +94,7 @@ fn lacking_dyndeps(alloc: Global, files: &SuppliedFiles, graph: &Graph) -> Resul
     Ok(lacking)
 }
 
-/// Names a path that was not supplied.
+/// Adds a path to a table if it was not supplied.
 pub(crate) fn name_if_lacking(
     files: &SuppliedFiles,
     path: &[u8],
@@ -110,7 +110,7 @@ pub(crate) fn name_if_lacking(
     Ok(())
 }
 
-// Whether nothing was supplied for a path; one that is not UTF-8 is never read.
+// Whether nothing was supplied for a path; a path that is not UTF-8 is never read.
 fn is_lacking(files: &SuppliedFiles, path: &[u8]) -> bool
     ensures { result ≡ is_lacking files.now path.now }
 {

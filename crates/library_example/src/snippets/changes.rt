@@ -4,7 +4,7 @@ use crate::snippets::lines::append_line;
 use ninja::{Edges, Error, File, Graph, clean_path};
 use std::alloc::{AllocError, Global};
 
-/// Appends the outputs that are made anew when the file at a path changes.
+/// Appends the outputs that are made again when the file at a path changes.
 pub fn append_affected(
     alloc: Global,
     text: &mut Vec<u8>,

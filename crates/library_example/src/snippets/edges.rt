@@ -36,7 +36,7 @@ pub fn append_inputs(text: &mut Vec<u8>, edge: Edge<'_>) -> Result<(), AllocErro
     append_files(text, b"order-only ", edge.order_only_inputs())
 }
 
-/// Appends a line for each of these files, which are of one kind.
+/// Appends a line for each of the given files, which are of one kind.
 fn append_files(text: &mut Vec<u8>, kind: &[u8], files: Files<'_>) -> Result<(), AllocError> {
     for file in files {
         append_line(text, &[kind, file.path()])?;

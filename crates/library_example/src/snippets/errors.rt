@@ -12,8 +12,8 @@ pub fn log_line(alloc: Global, error: &Error) -> Result<Vec<u8>, AllocError> {
     }
 }
 
-/// Whether the error is of an argument of the user, and not of a file: it names no target, or is
-/// not a mark.
+/// Whether the error is in an argument of the user, and not in a file: the argument does not name a
+/// target, or is not a mark.
 pub fn is_of_words(error: &Error) -> bool {
     match error {
         Error::Graph(fault) => matches!(

@@ -2,7 +2,7 @@
 
 use std::alloc::AllocError;
 
-/// Appends these parts and a line end.
+/// Appends the given parts and a line end.
 pub fn append_line(text: &mut Vec<u8>, parts: &[&[u8]]) -> Result<(), AllocError> {
     for part in parts {
         text.extend_from_slice(part)?;

@@ -17,7 +17,7 @@ pub fn append_order(
 }
 
 /// Writes two of the commands that targets need, from a mark on. Returns the mark of the next page,
-/// if there is one.
+/// if any.
 pub fn write_page<S: Sink>(
     alloc: Global,
     targets: &FileList<'_>,
@@ -29,7 +29,7 @@ pub fn write_page<S: Sink>(
     Ok(next)
 }
 
-/// A mark as a text, which `Mark::read` reads in another process too; `none` where there is none.
+/// A mark as a text, which `Mark::read` reads in another process too; `none` without a mark.
 pub fn mark_text(alloc: Global, mark: Option<&Mark>) -> Result<String, AllocError> {
     match mark {
         Some(mark) => mark.to_text(alloc),

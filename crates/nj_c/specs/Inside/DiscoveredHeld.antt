@@ -21,13 +21,13 @@ use Rattle.nj_c.specs.SuppliedFiles.{Supplied}
 use Rattle.nj_c.specs.JoinedLogs.{KeepsNumbers}
 use Rattle.nj_c.specs.Inside.Results.{KeepsFault}
 
--- the answer of a source that has this time
+-- the answer of a source that has the given time
 abbrev pub IsAnswer : TimeFound → Result (Option ℕ) SourceFault → Type 0
 IsAnswer found (Ok time) = found ≡ Time time
 IsAnswer found (Err Io) = found ≡ NoAnswer
 IsAnswer found (Err OutOfMemory) = ⊤
 
--- what was discovered was joined to a graph, and this is the graph of all; or the fault
+-- what was discovered was joined to a graph: the result is the joined graph, or the fault
 abbrev pub JoinsTo : GraphModel → DiscoveriesModel → Result Joined GraphFault → Type 0
 JoinsTo g found (Ok joined) = (joined.unknown.items ≡ unknown_of found) × KeepsNumbers g joined.graph
     × ((stated : List ReadStatement) → IsGraphOf g stated → JoinsNamed (λ edge. (discovery_at found edge).inputs) stated (Ok joined.graph))

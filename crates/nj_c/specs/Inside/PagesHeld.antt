@@ -14,7 +14,7 @@ use Rattle.nj_c.specs.Pages.{AreKnown}
 abbrev pub numbers_of : List EdgeNo → List ℕ
 numbers_of edges = map (λ e. e.0) edges
 
--- such edges of the graph of a session were found for files, and such a mark after them; or a status says why not
+-- edges of the graph of a session with the given property were found for files, with the mark after them; or a status says why not
 abbrev pub FindsEdges : Kept → (files : List ℕ) → (are : GraphModel → (edges mark : List ℕ) → Type 0)
     → (refused : Status → Type 0) → Result Page Status → Type 0
 FindsEdges kept files are refused (Ok page) =
@@ -32,6 +32,6 @@ mark_status fault.MarkOutOfRange = BadMark
 mark_status fault.OutOfMemory = OutOfMemory
 mark_status fault.BadMark = BadMark
 
--- a mark is refused because of this, or an allocation failed
+-- a mark is refused for the given reason, or an allocation failed
 abbrev pub MarkRefused : (why : Type 0) → Status → Type 0
 MarkRefused why status = (status ≡ OutOfMemory) ⊎ ((status ≡ BadMark) × why)

@@ -28,7 +28,7 @@ abbrev pub KeepsResult : (before after : Kept) → Result GraphModel GraphFault 
 KeepsResult before after (Ok graph) status = (after ≡ record before { graph = Some graph }) × (status ≡ Done)
 KeepsResult before after (Err fault) status = KeepsFault before after fault status
 
--- these paths are kept, or where there is none, the result of the load
+-- the wanted paths are kept, or without any, the result of the load
 abbrev pub KeepsLoad : (before after : Kept) → (joins : Bool) → Result LoadedModel GraphFault → (wanted : Vec (Vec ℕ)) → Status → Type 0
 KeepsLoad before after joins loaded wanted status =
     ((status ≡ Wanted) × (after ≡ record before { wanted = wanted }) × (wanted.items ≢ []))

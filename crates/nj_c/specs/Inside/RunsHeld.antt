@@ -12,7 +12,7 @@ use Rattle.nj_c.specs.SuppliedFiles.{Supplied, supplied_state, wanted_paths, Rea
 use Rattle.nj_c.specs.Loading.{ListsWanted, SameRun}
 use Rattle.nj_c.specs.Runs.{untouched}
 
--- why a text gives no words
+-- why a text has no arguments
 abbrev pub WordsRefused : (text : List ℕ) → Status → Type 0
 WordsRefused text status = ((status ≡ NotUtf8) × (is_utf8 text ≡ false)) ⊎ ((status ≡ OutOfMemory) × (is_utf8 text ≡ true))
 

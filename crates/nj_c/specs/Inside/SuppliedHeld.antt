@@ -5,7 +5,7 @@ use Rattle.std.specs.List.{AllByRecursion}
 use Rattle.nj_scope.specs.Readings.{Reading}
 use Rattle.nj_c.specs.declared.supplied_files.NumberedReading.{NumberedReading}
 
--- the reading of the file of a number: an empty file if there is none of this number
+-- the reading of the file with the given number: an empty file without a number
 abbrev pub read_bytes : List (Option (List ℕ)) → Option ℕ → Option (List ℕ)
 read_bytes files None = Some []
 read_bytes files (Some number) = unwrap_or (slice_get files number) None

@@ -8,8 +8,8 @@ use crate::session::Session;
 use crate::status::Status;
 use std::alloc::Global;
 
-/// No two files of a graph have one path, and they are at the paths that edges name; and no edge
-/// needs itself by a chain of inputs.
+/// The files of a graph have different paths, which are those that edges name; and no edge needs
+/// itself by a chain of inputs.
 pub fn graph_is_sound(alloc: Global, session: &mut Session)
     ensures kept { session.new.kept ≡ session.old.kept }
     ensures files { OfAnyGraph session.new.kept (λ g. IsDistinct bytes_eq (files_of g)) }
