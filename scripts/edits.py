@@ -6,9 +6,9 @@ the crates that are named, or all; and writes in edits/refused where each was re
 copy outside the repository, by `rt must-fail`, which begins with what `rt check` kept.
 
 --gate writes nothing. It tries the edits of the crates whose state is another by `rt ci`, over what
-that proved before, and those of two crates whose state is the same: these have to be refused where
-the file says. The hash of the commit chooses them, one from the lower half of the crates. --table
-FILE writes what each step took.
+that proved before, and up to four edits of each of two crates whose state is the same: they have to
+be refused where the file says. The hash of the commit chooses them, one crate from the lower half.
+With --all it tries all edits. --table FILE writes what each step took.
 
 The last line is `N passed, M failed`, and the status is 1 if an edit was not refused.
 """
@@ -26,6 +26,8 @@ from lib.programs import ROOT
 from lib.sources import Sources
 
 MEASURED = [sys.executable, ROOT / "scripts/measure_gate.py"]
+# The most edits that the gate tries of a crate whose state is the recorded one.
+MOST_AGAIN = 4
 
 
 def passed_on(command, folder):
@@ -44,20 +46,20 @@ def told_in(text):
     return {(crate, name): said for crate, name, said in edits.TOLD.findall(text)}
 
 
-def places(sources, crate, told):
-    """Where each edit of a crate was refused, or `None` and what was told of it instead."""
-    for file in edits.edits_of(sources.top, crate):
+def places(sources, crate, files, told):
+    """Where each of these edits of a crate was refused, or `None` and what was told of it instead."""
+    for file in files:
         said = told.get((crate, file.stem), "it was not tried")
         is_refused = said.startswith(edits.REFUSED)
         at = edits.place_of(said, file, sources.crates / crate) if is_refused else None
         yield file.stem, at, said
 
 
-def tried(sources, crates, command):
+def tried(sources, wanted, command):
     """What was told of the edits of crates, which a command tries in a copy."""
     with tempfile.TemporaryDirectory(prefix="edits-") as room:
         copy = Path(room).resolve()
-        edits.copy_with_edits(sources, crates, copy)
+        edits.copy_with_edits(sources, wanted, copy)
         return told_in(passed_on([*command, *(["--top", copy] if command[0] != "rt" else [])], copy))
 
 
@@ -67,6 +69,12 @@ def chosen(fitting, commit):
     first = lower[number % len(lower) :][:1] if lower else []
     others = [name for name in fitting if name not in first]
     return first + others[number // 64 % len(others) :][:1] if others else first
+
+
+def some_of(files, commit):
+    """At most `MOST_AGAIN` of a crate's edits, by the hash of a commit."""
+    first = int(commit, 16) // 4096 % max(len(files), 1)
+    return sorted((files[first:] + files[:first])[:MOST_AGAIN])
 
 
 def commit():
@@ -84,11 +92,12 @@ def summed(passed, failures):
 
 def renew(crates, sources, record):
     """Tries the edits of crates, and writes where they were refused."""
-    states = {it: sources.state(it, edits.edits_of(ROOT, it)) for it in crates}
-    told = tried(sources, crates, ["rt", "must-fail", *crates]) if crates else {}
+    wanted = {it: edits.edits_of(ROOT, it) for it in crates}
+    states = {it: sources.state(it, files) for it, files in wanted.items()}
+    told = tried(sources, wanted, ["rt", "must-fail", *crates]) if crates else {}
     failures, passed, after = [], 0, Sources(ROOT)
     for crate, state in states.items():
-        found = list(places(sources, crate, told))
+        found = list(places(sources, crate, wanted[crate], told))
         failed = [f"{crate}/{name}: {said}" for name, at, said in found if not at]
         if after.state(crate, edits.edits_of(ROOT, crate)) != state:
             failed.append(f"{crate}: its files changed meanwhile")
@@ -110,18 +119,21 @@ def gate(everything, table, sources, record):
     print(f"Edits of crates that changed since theirs were refused: {', '.join(others) or 'none'}")
     print(f"Edits that are tried again, of {len(fitting)} crates: {', '.join(again) or 'none'}")
     crates = [it for it in known if it in others or it in again]
+    wanted = {it: edits.edits_of(sources.top, it) for it in crates}
+    if not everything:
+        wanted |= {it: some_of(wanted[it], commit()) for it in again}
     measured = [*MEASURED, *(["--table", table] if table else [])]
-    told = tried(sources, crates, measured) if crates else {}
+    told = tried(sources, wanted, measured) if crates else {}
     failures, passed = [f"edits/refused: {line}" for line in record.wrong], 0
-    for crate in crates:
-        for name, at, said in places(sources, crate, told):
+    for crate, files in wanted.items():
+        for name, at, said in places(sources, crate, files, told):
             known_at = record.crates[crate].places[name] if crate in again else at
             if not at:
                 failures.append(f"{crate}/{name}: {said}")
             elif at != known_at:
                 failures.append(f"{crate}/{name}: refused at {at}, and edits/refused says {known_at}")
             passed += bool(at) and at == known_at
-    if crates == known and not failures:
+    if crates == known and (everything or not again) and not failures:
         print(f"All {passed} edits were tried on {date.today()}, at {commit()}.")
     return summed(passed, failures)
 

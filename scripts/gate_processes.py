@@ -147,7 +147,7 @@ def now():
 
 
 class Family:
-    """The processes that descend from one."""
+    """The processes that descend from a process."""
 
     def __init__(self, root):
         self.members, self.strangers = {root}, set()

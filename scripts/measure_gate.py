@@ -105,7 +105,7 @@ class Gate:
 
 
 def end_as(code):
-    """Ends as the gate did, by the same signal if it was one."""
+    """Ends as the gate did, by the same signal, if any."""
     if code < 0:
         # (that of SIGKILL cannot be set)
         with contextlib.suppress(OSError):

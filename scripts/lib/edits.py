@@ -21,7 +21,7 @@ CRATE = re.compile(r"(\w+) ([0-9a-f]{64})")
 EDIT = re.compile(r"    ([\w.-]+): (\S.*)")
 # What a program is run on, beside its sources.
 RUN = ("stdin", "stdout", "args", "status", "data")
-# How `rt` tells of an edit, and how it names a goal that is open with it.
+# How `rt` reports an edit, and how it names a goal that is open with it.
 TOLD = re.compile(r"^(?:rt: )?must-fail (\w+)/([\w.-]+)\.edit: (.*)$", re.M)
 REFUSED = "refused, as it must be"
 OPEN = re.compile(r"((?:src|proofs|specs)/\S+)\.\w+:(\d+):\d+: (?:error: )?(.*)")
@@ -62,7 +62,7 @@ class Record:
         self.wrong = [line for line in lines if line and not self.takes(line)]
 
     def takes(self, line):
-        """Takes a line, and returns whether it has the form of one."""
+        """Takes a line, and returns whether it is a line of the file."""
         if found := CRATE.fullmatch(line):
             self.latest = self.crates[found[1]] = Refusals(found[2])
         elif (found := EDIT.fullmatch(line)) and self.crates:
@@ -121,8 +121,8 @@ def place_of(said, edit, folder):
 
 
 def copy_with_edits(sources, tried, to):
-    """Copies the crates to be tried and those below them, as `rt` wants a repository, with the edits of
-    the first in place."""
+    """Copies the crates to be tried and those below them, as `rt` wants a repository, with the edits
+    that `tried` has for each crate in place."""
     wanted = set(tried).union(*(sources.crates_under(name) for name in tried))
     for name in wanted:
         for part in (*PARTS, *RUN):
@@ -130,7 +130,7 @@ def copy_with_edits(sources, tried, to):
             if (sources.crates / name / part).exists():
                 Path(to, "crates", name).mkdir(parents=True, exist_ok=True)
                 copy(sources.crates / name / part, to / "crates" / name / part)
-        for edit in edits_of(sources.top, name) if name in tried else []:
+        for edit in tried.get(name, []):
             folder = to / "crates" / name / "must-fail"
             folder.mkdir(exist_ok=True)
             shutil.copyfile(edit, folder / edit.name)

@@ -1,10 +1,12 @@
-"""What the check of a crate reads: its own sources, and of each crate below it the definitions, the
-declarations of its code, and those lemmas that it cites.
+"""What the check of a crate reads: its own sources, the lemmas of crates below that it cites, and of
+these crates the declarations and definitions that it uses, also through others.
 
 Neither comments nor the layout of code count, and of the functions below only what is declared, since
-a check reads their contracts and not their bodies.
+a check reads their contracts and not their bodies. What a crate uses is found by names alone, so two
+things of one name count as one.
 """
 
+import collections
 import functools
 import hashlib
 import re
@@ -12,64 +14,10 @@ import subprocess
 from pathlib import Path
 
 from gate_table import crates_below
+from lib.parts import WORD, definitions_of, parts_of, read_of, tokens_of
 
 PARTS = ("src", "specs", "proofs")
-# The pieces of code. A quote that begins no character begins the name of a lifetime.
-TOKEN = re.compile(
-    r"""
-    (?P<comment>//[^\n]*|/\*.*?\*/)
-    |b?r(?P<marks>\#*)".*?"(?P=marks)
-    |b?"(?:\\.|[^"\\])*"
-    |b?'(?:\\[^']+|[^'\\])'
-    |\w+
-    |\S
-    """,
-    re.X | re.S,
-)
-# The word that stands before the braces of a clause, or before its name.
-CLAUSES = {"requires", "ensures"}
-TACTIC = ["#", "[", "tactic"]
-OPENING, CLOSING = "([{", ")]}"
 LEMMA = re.compile(r"\bRattle\.(\w+)\.proofs\.([\w.]+)")
-
-
-def tokens_of(text):
-    """The pieces of code, without comments."""
-    return [found[0] for found in TOKEN.finditer(text) if not found["comment"]]
-
-
-def end_of(tokens, at):
-    """The place after the bracket that closes the one at a place."""
-    depth = 0
-    for place in range(at, len(tokens)):
-        depth += (tokens[place] in OPENING) - (tokens[place] in CLOSING)
-        if depth == 0:
-            return place + 1
-    return len(tokens)
-
-
-def declaration_end(tokens, at):
-    """Where the declaration of a function ends that begins at a place: at its body or its semicolon."""
-    while at < len(tokens) and tokens[at] != ";":
-        if tokens[at] == "{" and not CLAUSES & {*tokens[at - 2 : at]}:
-            break
-        at = end_of(tokens, at) if tokens[at] in OPENING else at + 1
-    return at
-
-
-def declared(tokens):
-    """The pieces of code without the bodies of functions and what their proofs use."""
-    found, at = [], 0
-    while at < len(tokens):
-        if tokens[at : at + 3] == TACTIC:
-            at = end_of(tokens, at + 1)
-            continue
-        begins = tokens[at] == "fn" and tokens[at + 1 : at + 2] != ["("]
-        end = declaration_end(tokens, at) if begins else at + 1
-        found += tokens[at:end]
-        has_body = begins and tokens[end : end + 1] == ["{"]
-        at = end_of(tokens, end) if has_body else end
-    return found
 
 
 def without_comments(text):
@@ -94,10 +42,10 @@ class Sources:
     def __init__(self, top):
         self.top, self.crates, self.below = Path(top), Path(top) / "crates", crates_below(top)
         self.code_of = functools.cache(lambda file: tokens_of(file.read_text()))
-        # The checksums of what is read of a file: code, declarations, or definitions and lemmas.
+        # What is read of a file whole: its code, or its definitions and lemmas.
+        self.logic_of = functools.cache(lambda file: without_comments(file.read_text()))
         self.whole = functools.cache(lambda file: checksum(self.code_of(file)))
-        self.declared = functools.cache(lambda file: checksum(declared(self.code_of(file))))
-        self.logic = functools.cache(lambda file: checksum(without_comments(file.read_text())))
+        self.logic = functools.cache(lambda file: checksum(self.logic_of(file)))
         self.cited = functools.cache(lambda file: LEMMA.findall(file.read_text()))
 
     def files(self, crate, *parts):
@@ -114,10 +62,32 @@ class Sources:
         files = self.files(crate, *PARTS)
         return {it: self.whole(it) if it.suffix == ".rt" else self.logic(it) for it in files}
 
-    def under(self, crate):
-        """What the check of a crate above this one reads of it, but for lemmas."""
-        found = {file: self.declared(file) for file in self.files(crate, "src")}
-        return found | {file: self.logic(file) for file in self.files(crate, "specs")}
+    @functools.cache
+    def parts(self, crate):
+        """The parts of a crate that a check of a crate above may read, by their files."""
+        found = {file: [*parts_of(self.code_of(file))] for file in self.files(crate, "src")}
+        specs = self.files(crate, "specs")
+        return found | {file: [*definitions_of(file.read_text())] for file in specs}
+
+    def words(self, files):
+        """The words in files, without their comments."""
+        code = (self.code_of(it) if it.suffix == ".rt" else self.logic_of(it).split() for it in files)
+        return {word for pieces in code for word in WORD.findall(" ".join(pieces))}
+
+    def under(self, crate, names):
+        """What the check of a crate that uses these words reads of the crates below, but for lemmas."""
+        parts = {file: it for name in self.crates_under(crate) for file, it in self.parts(name).items()}
+        by_name = collections.defaultdict(list)
+        for part in (part for found in parts.values() for part in found if not part.is_use):
+            for name in part.names or [None]:
+                by_name[name].append(part)
+        left, known = [None, *names], {None, *names}
+        while left:
+            new = set().union(*(part.words for part in by_name[left.pop()])) - known
+            known |= new
+            left += new
+        read = {file: read_of(found, known - {None}) for file, found in parts.items()}
+        return {file: checksum(it) for file, it in read.items() if it}
 
     def lemma_file(self, crate, path):
         """The file that a path to a lemma names: `Lists.two` is Lists/two.antt, or in Lists.antt."""
@@ -149,8 +119,7 @@ class Sources:
     def state(self, crate, others=()):
         """A checksum of all that the check of a crate reads, and of other files whole."""
         read = self.own(crate) | self.lemmas(crate)
-        for name in self.crates_under(crate):
-            read |= self.under(name)
+        read |= self.under(crate, self.words(read))
         read |= {file: file.read_text() for file in others}
         names = [(str(file.relative_to(self.top)), read[file]) for file in sorted(read)]
         return checksum((toolchain(), self.lines(crate), names))
