@@ -7,7 +7,7 @@
 
 PROGRAM is ninja-explain. It runs beside ninja on the same files, in turn, five times or N times; medians count, and the greatest
 memory. The figures of each question are kept in bench/figures.json as soon as they are measured, so a part of them can be measured
-anew, and --draw writes the tables and pictures again without measuring. --again measures once more, keeps nothing but how far the
+again, and --draw writes the tables and pictures again without measuring. --again measures once more, keeps nothing but how far the
 ratios of each question are from those that are kept, and writes that. Take a quiet machine: all of it takes about half an hour.
 """
 

@@ -7,8 +7,8 @@
 the same bytes. For compdb they have to write the same objects, except for phony edges, which
 some versions of Ninja write too. `inputs --dependency-order` and `inputs --no-shell-escape` are
 compared with Ninja's `inputs`, and have to list the same paths; they are skipped if the program
-does not have the option. Then all of these are run in turn, five times or N times. The median times
-count, and the greatest memory. The ratios are of CPU time and of memory. Without Ninja the
+does not have the option. Then all runs take turns, five times or N times. The median times count,
+and the greatest memory. The ratios are of CPU time and of memory. Without Ninja the
 program is measured alone.
 
 The manifests are the shapes of manifest.py with the numbers of edges in --sizes, without their

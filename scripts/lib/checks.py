@@ -2,7 +2,7 @@
 
 A check is a function under `@check`. It yields a text for each thing that is wrong, or raises. Its
 parameters are named after their arguments: those of the main, and `folder`, an empty directory of its
-own. A main runs the checks that take no more than it gives. A check is skipped, and counted, if a
+own. A main runs the checks that take no more than it supplies. A check is skipped, and counted, if a
 program that it needs is not installed, or if it raises `Skipped`.
 """
 

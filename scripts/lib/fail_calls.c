@@ -98,7 +98,7 @@ int chdir(const char *path) {
     return fails("chdir", "") ? -1 : syscall(SYS_chdir, path);
 }
 
-/* The program gives a buffer. */
+/* The program supplies a buffer. */
 char *getcwd(char *bytes, size_t size) {
     return fails("getcwd", "") || syscall(SYS_getcwd, bytes, size) < 0 ? NULL : bytes;
 }

@@ -137,8 +137,8 @@ def files_of(words, files):
 
 
 def fault_is_wrong(name, error, files):
-    """The problem, if any, of the standard error of a run of the program of this name on these files,
-    which ended in a fault."""
+    """The problem, if any, of the standard error of a run on the files that ended in a fault, by the name
+    of the program."""
     if not error.endswith(b"\n"):
         return "the last line has no line feed"
     fault, start = error[:-1], name.encode() + b": "
@@ -164,8 +164,8 @@ def look_is_wrong(rows, words, ending):
 
 
 def ending_is_wrong(name, words, ending, files):
-    """The problem, if any, with how a run of the program of this name with these arguments ended on these
-    files. Standard output did not fail."""
+    """The problem, if any, with the ending of a run on the files, by the name of the program and its
+    arguments. Standard output did not fail."""
     status, output, error = ending
     if status == DONE:
         return "something is on standard error" if error else None

@@ -33,7 +33,7 @@ class History:
         write_files(folder, {name: text.encode() for name, text in project.files.items()})
 
     def one_of(self, paths):
-        """One of these files that is there, or none."""
+        """One of the files that exist, if any."""
         found = [path for path in paths if (self.folder / path).is_file()]
         return self.chance.choice(found) if found else None
 
@@ -47,7 +47,7 @@ class History:
         return file.stat().st_size if file.is_file() else 0
 
     def some_of(self, paths):
-        """A few of these files that are there, at times with a dot before."""
+        """A few of the files that exist, at times with a dot before."""
         found = [path for path in paths if (self.folder / path).is_file()]
         dot = self.chance.choice(["", "", "", "./"])
         most = min(len(found), self.chance.randint(1, 3))
@@ -63,7 +63,7 @@ class History:
                 self.add_included(other, found)
 
     def finds_generated_header(self, edge):
-        """Whether the compiler tells that it found a generated header."""
+        """Whether the compiler reports that it found a generated header."""
         found = set()
         for kind, path in edge.inputs if edge.rule in ("cc_log", "cc_file") else ():
             if not kind:
@@ -78,18 +78,18 @@ class History:
         return [path for path in self.project.sources() if path in named]
 
     def missing_dyndeps(self):
-        """The dyndep files that are not there."""
+        """The missing dyndep files."""
         return [path for path in self.project.dyndeps.values() if not (self.folder / path).is_file()]
 
     def told_edges(self):
-        """The edges of which Ninja can tell whether it would run them: those that need no dyndep file that
-        is not there."""
+        """The edges of which Ninja can tell whether it would run them: those that do not need a missing
+        dyndep file."""
         return self.project.without(self.missing_dyndeps())
 
     def has_phony_file(self):
         return any((self.folder / path).exists() for path in self.project.phony())
 
-    # ---- steps, which tell what they did
+    # ---- steps, which report what they did
 
     def build(self, targets=()):
         NINJA.run(["-k", "0", *targets], self.folder)

@@ -182,8 +182,21 @@ PROJECTS = {
     "not UTF-8": Project({MAIN: NOT_UTF8}, {}),
     "cycle": Project({MAIN: "rule c\n  command = c\nbuild a: c b\nbuild b: c a\n"}, {}),
 }
-# These are for ninja-graph alone. The other logs are cut off, make a cycle, and have a version that is
-# not read.
+TESTED = """\
+rule cc
+  command = cc $in
+build app: cc a.c
+build other: cc b.c
+"""
+TESTS = """\
+{"kind": "ctestInfo", "version": {"major": 1, "minor": 0}, "tests": [
+  {"name": "app", "command": ["app"], "properties": [{"name": "FIXTURES_SETUP", "value": ["db"]}]},
+  {"name": "user", "command": ["other"], "properties": [{"name": "FIXTURES_REQUIRED", "value": ["db"]}]},
+  {"name": "other", "command": ["other"]},
+  {"name": "never built"}
+]}
+"""
+# For ninja-graph alone: logs that are cut off, make a cycle, and have a version that is not read.
 OTHER_LOGS = {
     "cut": LOG[:-4],
     "cycle": deps_log({"a.o": ["app"]}),
@@ -193,6 +206,7 @@ LOGGED_PROJECTS = {
     "depfile": Project({MAIN: DEPFILES, "a.o.d": DEPFILE_A, "b.o.d": DEPFILE_B}, {}),
     "logged": Project({MAIN: LOGGED, LOG_OF_NINJA: LOG}, {}),
     "other logs": Project({MAIN: LOGGED, **OTHER_LOGS}, {}),
+    "tests": Project({MAIN: TESTED, "tests.json": TESTS, "none.json": "{}\n"}, {}),
 }
 EVERY_PROJECT = {**PROJECTS, **LOGGED_PROJECTS}
 RUNS = PROGRAMS[EXPLAIN].runs
@@ -216,7 +230,7 @@ ANSWERS = {
 
 
 def answer_differs(name, program, folder):
-    """The problem if the program of this name does not answer on a project. A comparison of runs of
+    """The problem if the program with the given name does not answer on a project. A comparison of runs of
     a program with one another would not see that it does nothing."""
     PROJECTS["diamond"].write_to(folder)
     words, text, output = ANSWERS[name]

@@ -1,7 +1,7 @@
 """The logic in which a program or a library was proved, as its section .comment names it.
 
-`rt` writes it there when it builds what it has proved. It is no signature: it shows a mistake, and
-no forgery.
+`rt` writes it there when it builds what it has proved. It is not a signature: it shows a mistake, not
+a forgery.
 """
 
 import re

@@ -47,7 +47,7 @@ class Build:
     places: dict = field(default_factory=dict)
 
     def text(self):
-        """The manifest. Tells the places of its statements."""
+        """The manifest. Records the places of its statements."""
         lines = []
         for name in self.pools:
             self.places["pool", name] = len(lines) + 1

@@ -124,8 +124,8 @@ class Maker:
         self.lines = [line for content in contents for line in content.split(b"\n")]
 
     def case(self, name, seed):
-        """The files, the arguments for the program of this name, the standard input, and whether the run
-        may take any time: it may if it writes a tree of targets, or if expanded values grow without
+        """The files, the arguments for the program with the given name, the standard input, and whether the
+        run may take any time: it may if it writes a tree of targets, or if expanded values grow without
         bound."""
         self.chance = random.Random(seed)
         files, grows = self.files()
@@ -366,7 +366,7 @@ class Maker:
         tool, words = rows.tools[name], []
         if tool.words:
             words = [self.target(files) for _ in range(self.pick([2, 2, 2, 2, 2, 2, 1, 3]))]
-        elif name in ("draw", "keys"):
+        elif name in ("draw", "keys", "stale"):
             words = [self.target(files) for _ in range(self.pick([0, 0, 0, 1, 1, 2]))]
         chosen = [it for it in tool.options.items() if self.chance.random() < 0.2]
         chosen += [it for it in rows.every.items() if self.chance.random() < 0.1]

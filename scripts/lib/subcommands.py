@@ -10,7 +10,7 @@ TOPIC = re.compile(r'^pub const (\w+): Topic = Topic \{\n    name: "(\w+)",', re
 ENTRIES = re.compile(r"^pub const (\w+_OPTIONS): \[Entry; (\d+)\] = \[\n(.*?)^\];", re.M | re.S)
 ENTRY = re.compile(r"\(\s*\"([\w-]+)\",\s*Form::(\w+)(?:\((?:'(\w)')?(?:, )?(?:\"(\w+)\")?\))?,")
 # The forms of options; the others are those of words.
-OPTIONS = {"Short", "Letter", "Flag", "Long", "Repeated", "Number"}
+OPTIONS = {"Short", "Letter", "Flag", "Long", "Required", "Repeated", "Number"}
 GRAPH_OPTIONS = "GRAPH_OPTIONS"
 
 

@@ -42,5 +42,5 @@ class Sweep:
 
 
 def lacks_runs(name, runs):
-    """The tools and options of the program of this name that none of these runs has."""
+    """The tools and options of the program with the given name that none of the runs has."""
     return [f"no run of {lacking}" for lacking in PROGRAMS[name].lacking(runs)]

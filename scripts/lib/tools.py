@@ -5,9 +5,12 @@ sources (lint/tools.py): a tool, a subcommand or an option that has no row and n
 """
 
 from dataclasses import dataclass
+from pathlib import Path
 from typing import NamedTuple
 
 EXPLAIN, GRAPH = "ninja-explain", "ninja-graph"
+# A list of tests, as CTest writes it.
+LIST = Path(__file__).with_name("tests.json")
 # What begins the changed paths of a run, which its standard input has as lines.
 CHANGED = "<"
 MARK = rb"mark v?(?:start|\d+(?:\.\d+)*)\n"
@@ -274,6 +277,23 @@ GRAPH_TOOLS = {
     "draw": Tool({"--affected": None, "--fold": None, "--limit": "N", "--inputs": "K"}),
     "json": Tool({}),
     "keys": Tool({"--base": "DIR", "--take": "N", "--resume": "MARK"}, looks=((ANYTHING, MARK),)),
+    "stale": Tool({"--why": None, "--no-manifest": None}, looks=((LINES, ANYTHING), (NOTHING, LINES))),
+    "tests": Tool(
+        {
+            "--ctest": "FILE",
+            "--source-dir": "DIR",
+            "-z": None,
+            "--ignore": "GLOB",
+            "--ignore-unknown": None,
+            "--allow-empty": None,
+            "--format": "FORMAT",
+            "--why": None,
+            "--json": None,
+            "--unnamed": "skip",
+        },
+        (f"--ctest={LIST}",),
+        looks=((ANYTHING, LINES),),
+    ),
     "why": Tool({"--validations": None, "--no-order-only": None}, ("test", "text/words.c"), ((NOTHING, NOTHING),)),
 }
 GRAPH_RUNS = {
@@ -299,6 +319,9 @@ GRAPH_RUNS = {
         "keys --resume 0.2 d",
         "keys --base /w a b1^",
         "keys d^",
+        "stale",
+        "stale --why --no-manifest b1 a^",
+        "stale nothing",
         "why d a",
         "why a d",
         "why d nothing",
@@ -349,6 +372,7 @@ GRAPH_RUNS = {
         "json -C text -f build.ninja",
         "json",
         "keys --resume 0.0 test",
+        "stale --why test",
         "why test text/words.c",
     ],
     "not UTF-8": ["audit --all", "draw", "json", "keys"],
@@ -378,6 +402,19 @@ GRAPH_RUNS = {
         "json --deps",
         "why --deps all b.h",
     ],
+    "tests": [
+        "tests --ctest tests.json < a.c",
+        "tests --ctest tests.json --why --ignore-unknown < b.c none",
+        "tests --ctest tests.json --format ctest --unnamed skip < a.c",
+        "tests --ctest tests.json --json < nothing build.ninja",
+        "tests --ctest tests.json --source-dir src --ignore src/* -z < a.c",
+        "tests --ctest tests.json --allow-empty --deps",
+        "tests --ctest tests.json",
+        "tests --ctest none.json < a.c",
+        "tests --ctest nothing < a.c",
+        "tests --ctest tests.json --format nothing",
+        "tests",
+    ],
 }
 GRAPH_CHAIN = (
     "affected --prefix e1 < e7",
@@ -385,6 +422,7 @@ GRAPH_CHAIN = (
     "draw e2000",
     "json",
     "keys --take 6000",
+    "stale",
     "why e6999 e0",
 )
 
@@ -402,6 +440,11 @@ GRAPH_NESTED = (
     "json -C . -f build.ninja",
     "keys --base /w --take 1",
     "keys --resume 0 all",
+    "stale --why",
+    "stale --no-manifest all",
+    f"tests --ctest {LIST} --source-dir . -z --ignore none --ignore-unknown --allow-empty < d",
+    f"tests --ctest {LIST} --format lines --why --unnamed skip < d",
+    f"tests --ctest {LIST} --json < d",
     "why --validations --no-order-only all d",
     "why v d",
 )

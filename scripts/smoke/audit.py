@@ -185,7 +185,7 @@ def audit_differs(graph, folder, wanted):
     yield from expect("--all", run(graph, folder, ["--all"]), (status, output, error))
 
 
-# The findings in examples/project, by hand: the test is no input, and there are no sources.
+# The findings in examples/project, by hand: no edge has the test as an input, and the sources are missing.
 SOURCES = ["main.c", "text/lines.c", "text/words.c", "text/words_test.c"]
 IN_PROJECT = [("unused output", "test"), *(("missing source", path) for path in SOURCES)]
 
@@ -252,7 +252,7 @@ build d: phony loop/y.c
 
 @check
 def sources_that_cannot_be_looked_up(graph, folder):
-    """They are no findings, but there is something to look at: standard error has a line for each."""
+    """They are caveats, not findings: standard error has a line for each."""
     write_files(folder, {"build.ninja": UNKNOWN, "here": b""})
     (folder / "loop").symlink_to("loop")
     told = [b"3:1: cannot look up source '%b'" % (b"n" * 300), b"4:1: cannot look up source '\xff.c'"]
@@ -358,9 +358,19 @@ def words_of(command):
     return list(lexer)
 
 
+def words_read(command):
+    """The words of a command without what it writes: a word after `>` or `-o`, or that begins with `-o`."""
+    words = iter(words_of(command))
+    for word in words:
+        if word in (">", "-o"):
+            next(words, None)
+        elif not word.startswith("-o"):
+            yield word
+
+
 def paths_named(command, folder, inputs):
     """The paths that the words of a command name. One without a slash or a dot counts as an input alone."""
-    for word in words_of(command):
+    for word in words_read(command):
         names = [word, word.partition("=")[2], word[2:] if word.startswith("-") else ""]
         for name in filter(None, names):
             path = posixpath.normpath(name).removeprefix(f"{folder}/")
@@ -397,6 +407,7 @@ def undeclared(build, edge, folder):
 SHAPES = [
     "{}", "./{}", "x/../{}", "'{}'", '"{}"', "-I{}", "--out={}", "-o=./{}", "<{}>o", "(cat {};)", "'{} '",
     "{}x", "a\\\\{}", "{folder}/{}", "{folder}x/{}", "a/{}", "`{}`", "-I {}", "=={}", "'a b'={}",
+    ">{}", "> ./{}", "-o{}", "-o ./{}",
 ]
 
 

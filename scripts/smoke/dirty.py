@@ -21,15 +21,15 @@ from lib.runnable_builds import DYNDEPS, random_project, small_project
 
 COMPARISONS = 1_000
 CHANGES_OF_STATE = 4
-# How many problems a check tells at most.
+# How many problems a check reports at most.
 SHOWN = 3
 WORDS = ["affected", "--deps"]
-# A change of these cannot be trusted: what they will say is not known.
+# Files whose change cannot be trusted: what they will say is not known.
 SAYING_MORE = {MAIN, *DYNDEPS, *("./" + path for path in DYNDEPS)}
-# The manifest by another name: no edge makes it, so Ninja does not stop after making it anew.
+# The manifest by another name: no edge makes it, so Ninja does not stop after regenerating it.
 ANOTHER = "another.ninja"
 COMMAND = re.compile(r"^: (\S+);", re.M)
-# How `-d explain` tells that Ninja does not know what an edge discovers.
+# How `-d explain` reports that Ninja does not know what an edge discovers.
 UNKNOWN = re.compile(
     r"deps for '(.*)' are missing|stored deps info out of date for '(.*)' \("
     r"|depfile '(.*)\.d' is missing|expected depfile '.*' to mention '(.*)', got '"

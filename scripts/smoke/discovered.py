@@ -82,7 +82,7 @@ CAVEATS = {
 
 
 def write(folder, files):
-    """Writes the project with other contents of files; `None` is no file."""
+    """Writes the project with other contents of files; `None` is a missing file."""
     for path in folder.iterdir():
         path.unlink()
     write_files(folder, {name: text for name, text in {**FILES, **files}.items() if text is not None})
@@ -229,7 +229,7 @@ def implicit_inputs(graph, folder, words):
 
 @check
 def joined_dyndep_files(graph, folder):
-    """A file that changed, or that an edge makes anew, may change what edges need."""
+    """A file that changed, or that an edge makes again, may change what edges need."""
     write_files(folder, BOUND_FILES)
     for path, outputs, told_of in [
         ("x.h", ["x", "y"], ""),
@@ -255,7 +255,7 @@ PRESENT = {
 
 @check
 def present_dyndep_files(graph, folder):
-    """Those that are there are joined, and each other one is told of in every subcommand."""
+    """Existing dyndep files are joined, and every subcommand reports each missing one."""
     text = b"ninja_dyndep_version = 1\nbuild z: dyndep | z.h\n"
     for present, (of_x, of_z, missing) in PRESENT.items():
         write_files(folder, {**BOUND_FILES, "other": text})
@@ -284,7 +284,7 @@ def told_everywhere(graph, folder, caveat):
 
 @check
 def demanded_dyndep_files(graph, folder):
-    """`--dyndep` wants each, and a file that is there with a fault is one in any case."""
+    """`--dyndep` wants each, and a fault of an existing file is a fault in any case."""
     write_files(folder, BOUND_FILES)
     (folder / "other").unlink()
     for words in [["--dyndep"], [*DEPS, "--dyndep"]]:

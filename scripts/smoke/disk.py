@@ -1,4 +1,4 @@
-"""Reads files of the system: of several sizes, such as state no size, and paths that are no files.
+"""Reads files of the system: of several sizes, files that state no size, and paths that are not files.
 
 No contract can state the contents of a disk.
 """

@@ -7,7 +7,7 @@ near paths, whose pairs collide more often than others. The least CPU time of se
 counts. The first manifest may take at most four times as long as the second.
 
 The chosen names have to collide, or this would show nothing. So each first manifest is read once
-with the number 0, which a preloaded library gives in place of random bytes, and then it has to take
+with the number 0, which a preloaded library supplies in place of random bytes, and then it has to take
 more than four times as long. The same is tried with the paths of a deps log.
 """
 

@@ -19,7 +19,7 @@ DONE, FAULT, USAGE, LOOK, OUTPUT_FAILED = range(5)
 ROWS = PROGRAMS[GRAPH]
 SUBCOMMANDS = {name: (list(tool.options), list(tool.words)) for name, tool in ROWS.tools.items()}
 # Of those whose answer there is something to look at.
-LOOKS = {"audit"}
+LOOKS = {"audit", "stale"}
 EVERY_SUBCOMMAND = [*ROWS.every, "-h, --help"]
 # A changed path for those who read some.
 CHANGED = b"main.c\n"

@@ -1,4 +1,4 @@
-"""Gives the built ninja-graph the rows of its runs, whose files are written to a directory.
+"""Runs the rows of ninja-graph on the built program, with their files in a directory.
 
 They are the rows of tests/nj_ask_rows, which `make test` runs over files, times and sinks in memory.
 Here each file of the file `times` is on a disk, and was last changed then. A row is left to `make test`

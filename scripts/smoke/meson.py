@@ -2,7 +2,7 @@
 
 The manifest that Meson wrote for it, in /src/count/build, is kept in its directory `build`, so that most
 of this needs no Meson. What is wanted of it was worked out by hand. Where Meson is installed, the
-project is configured anew and built, and the deps log of that build is read.
+project is configured again and built, and the deps log of that build is read.
 """
 
 import os

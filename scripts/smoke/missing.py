@@ -234,7 +234,7 @@ def built_by_hand(made):
 
 
 def is_stated(edges, found):
-    """Whether these are edges of the manifest, some of which have discovered inputs."""
+    """Whether the found edges are those of the manifest, some with discovered inputs."""
     for edge, other in zip(edges, found):
         own = {path for kind in COUNTED for path in edge[kind]}
         added = other["discovered_inputs"]

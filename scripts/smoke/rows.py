@@ -1,10 +1,10 @@
-"""Gives the built ninja-explain the rows of runs, whose files are written to a directory.
+"""Runs the rows of runs on the built ninja-explain, with their files in a directory.
 
 They are the rows of tests/nj_run_rows, which `make test` runs over files and sinks in memory. Here
 their files are on a disk, and a row is run where that can be done from outside: a run, a run by a
 request, pages that are resumed, an output that is cut off at each byte, and arguments that are
 refused. It has to end as the row wants. A row with a failing reading or a limited sink is left to
-`make test`, and so is one that only calls a library.
+`make test`, and so is a row that only calls a library.
 """
 
 import contextlib

@@ -83,7 +83,7 @@ WORDS = {"explicit": "", "implicit": " |", "order-only": " ||", "validation": " 
 
 
 def random_edges(chance):
-    """Edges as outputs and inputs, each of these with its kind, so that none needs itself."""
+    """Edges as outputs and inputs, each input with its kind. No edge needs itself."""
     edges = []
     for number in range(chance.randint(5, 30)):
         outputs = [f"o{number}.{index}" for index in range(chance.randint(1, 2))]

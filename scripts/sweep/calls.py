@@ -15,7 +15,7 @@ from functools import partial
 from pathlib import Path
 
 from lib.checks import check
-from lib.programs import FAULT, LOOK, OUTPUT_FAILED, STOPPED, Ending, compiled, shown
+from lib.programs import DONE, FAULT, LOOK, OUTPUT_FAILED, STOPPED, Ending, compiled, shown
 from lib.projects import EVERY_PROJECT, MAIN, RECORDS, Project, input_of
 from lib.sweeps import Sweep, lacks_runs
 from lib.tools import EXPLAIN, GRAPH, JOINING, PROGRAMS, run_of
@@ -74,7 +74,12 @@ def log_of(runs):
     """The deps log that a run requests, or `None`."""
     if "--deps-log-file" in runs.words:
         return runs.words[runs.words.index("--deps-log-file") + 1]
-    return own_log(runs) if "--deps" in runs.words else None
+    return own_log(runs) if {"--deps", "stale"} & {*runs.words} else None
+
+
+def build_log_of(runs):
+    """The build log that a run reads, or `None`."""
+    return own_log(runs).replace(".ninja_deps", ".ninja_log") if "stale" in runs.words else None
 
 
 def depfiles_of(runs):
@@ -85,19 +90,27 @@ def depfiles_of(runs):
 def dyndep_of(runs):
     """The dyndep file that a run joins if it is there, or `None`."""
     names = [name for name in runs.project.files if name == "dd"]
-    return names[0] if names and JOINING & {*runs.words} else None
+    return names[0] if names and (JOINING | {"stale"}) & {*runs.words} else None
+
+
+def list_of(runs):
+    """The list of tests that a run reads, before all others, or `None`."""
+    found = re.search(r"--ctest[ =](\S+)", " ".join(map(str, runs.words)))
+    return found[1] if found else None
 
 
 def opened_files(runs):
     """The files that a run may open, in this order: each with the place of the statement that opens it,
-    or `None` for a log and a depfile."""
+    or `None` for a list of tests, a log and a depfile."""
     places, words = list(runs.project.places.items()), runs.words
     if "-f" in words:
         name = words[words.index("-f") + 1]
         places[0] = name, f"{name}:1:1"
     log = log_of(runs)
     others = [log, *depfiles_of(runs)] if log else []
-    return [*places, *((name, None) for name in others)]
+    others += [it for it in [build_log_of(runs)] if it]
+    lists = [(it, None) for it in [list_of(runs)] if it]
+    return [*lists, *places, *((name, None) for name in others)]
 
 
 def fault_of_file(runs, number, text, text_of_log):
@@ -118,14 +131,14 @@ def with_caveat(runs, ending, caveat):
 
 
 def for_another_reason(ending, was, now):
-    """How a run ends like this one, where `json` gives another reason why it is not known what an edge discovers."""
+    """The same ending of a run, with another reason in `json` why the discovered inputs are unknown."""
     word = b'"discovered":"%b"'
     return Ending(ending.status, ending.output.replace(word % was, word % now), ending.error)
 
 
 def asks_about_targets(runs):
     """Whether a run is about some targets, and not about all edges."""
-    return bool({"why", "keys", "draw"} & {*runs.words}) and "--affected" not in runs.words
+    return bool({"why", "keys", "draw", "stale"} & {*runs.words}) and "--affected" not in runs.words
 
 
 def unread(runs, number):
@@ -148,7 +161,7 @@ def wanted_open(runs, opened, way):
     if way != "ENOENT":
         return unread(runs, opened)
     name, place = opened_files(runs)[opened - 1]
-    if not place and name in {own_log(runs), *depfiles_of(runs)}:
+    if not place and name in {own_log(runs), build_log_of(runs), *depfiles_of(runs)}:
         return runs.run_with(name, None)
     return fault_of_file(runs, opened, "cannot find", "there is no such file")
 
@@ -161,7 +174,7 @@ def is_fault(ran, text):
 
 def read_is_wrong(runs, failed, way, ran):
     """After any error the file cannot be read. Fewer bytes change nothing. ninja-graph takes changed paths
-    from standard input, which is no file of the manifest, and tries an interrupted call again there."""
+    from standard input, which is not a file of the manifest, and tries an interrupted call again there."""
     is_of_paths = runs.name == GRAPH and failed.file == STANDARD_INPUT
     if isinstance(way, int) or is_of_paths and way == "EINTR":
         return ran != runs.usual
@@ -176,7 +189,7 @@ def wanted_statx(runs, path):
     or a depfile is not known before it is read. A dyndep file is not joined. An output counts as one that is newer
     than its record, with a caveat."""
     log = log_of(runs)
-    if path in {log, *depfiles_of(runs)} - {None}:
+    if path in {log, list_of(runs), build_log_of(runs), *depfiles_of(runs)} - {None}:
         return runs.usual
     if path == dyndep_of(runs):
         return runs.run_with(path, None)
@@ -186,6 +199,13 @@ def wanted_statx(runs, path):
     return None
 
 
+def lacks_time(ran, path):
+    """Whether a run of `stale` reports that the time of a file cannot be read. That is a fault, or a caveat
+    where the time is looked up for the inputs that builds discovered."""
+    text = f"{path}: its time cannot be read".encode()
+    return is_fault(ran, re.escape(text)) or ran.status == LOOK and text + b"\n" in ran.error
+
+
 def statx_is_wrong(runs, failed, way, ran):
     """Sizes of files are only guesses. A source that a command needs and that cannot be looked up is not
     reported as missing, but on standard error."""
@@ -193,7 +213,10 @@ def statx_is_wrong(runs, failed, way, ran):
         return ran != runs.usual
     if way == "ENOMEM":
         return not is_fault(ran, LACKS_MEMORY)
-    if wanted := wanted_statx(runs, failed.file):
+    wanted = wanted_statx(runs, failed.file)
+    if "stale" in runs.words and ran != wanted:
+        return not lacks_time(ran, failed.file)
+    if wanted:
         return ran != wanted
     lines = runs.usual.output.decode().splitlines(True)
     ends = f"missing source '{failed.file}'\n", f'"missing-source","name":"{failed.file}"}}\n'
@@ -210,7 +233,10 @@ def chdir_is_wrong(way, ran):
 
 
 def getcwd_is_wrong(runs, way, ran):
-    """Without the name of the working directory, no absolute path is known to be below it."""
+    """Without the name of the working directory, no absolute path is known to be below it. Tests name
+    files below it, so `tests` fails."""
+    if way != "ENOMEM" and "tests" in runs.words and runs.usual.status in (DONE, LOOK):
+        return not is_fault(ran, b"the working directory is not known")
     return not is_fault(ran, LACKS_MEMORY) if way == "ENOMEM" else ran != runs.usual
 
 
@@ -290,7 +316,7 @@ class Runs:
         return ran
 
     def run_failing(self, call, way, number):
-        """How a run ends, and the call that failed, which is `None` if there was no call with this number."""
+        """How a run ends, and the call that failed, which is `None` if no call has the number."""
         how = "FAIL_MOST" if isinstance(way, int) else "FAIL_ERRNO"
         value = way if isinstance(way, int) else getattr(errno, way)
         fails = {"FAIL_CALL": call, "FAIL_AT": str(number), how: str(value)}
@@ -322,8 +348,10 @@ def try_run(name, program, library, run):
 
 
 def runs_of(name):
+    """All runs but `stale` on a chain, which looks up thousands of files."""
     rows = PROGRAMS[name]
-    return [*rows.runs_on(), *(run_of(CHAIN, line) for line in rows.chain)]
+    chain = [line for line in rows.chain if not line.startswith("stale")]
+    return [*rows.runs_on(), *(run_of(CHAIN, line) for line in chain)]
 
 
 @check(needs=["cc"], alone=True)

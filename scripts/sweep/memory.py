@@ -51,7 +51,7 @@ DEEPEST = {EXPLAIN: ["-t targets depth 0"], GRAPH: ["draw"]}
 
 
 def is_wrong(name, ran, ample):
-    """Whether a run of the program of this name that was refused memory must not end like this."""
+    """Whether a run that was refused memory must not end like this, by the name of the program."""
     lacks = (ran.status, ran.error) == (FAULT, b"%b: out of memory\n" % name.encode())
     return ran != ample and not (lacks and ample.output.startswith(ran.output))
 
@@ -158,7 +158,7 @@ def run_all_cases(name, crate, data, cases, jobs):
 
 
 def failed_sink(name, ran, ample):
-    """Which sink in memory failed in a run of the program of this name, or `None` if none did."""
+    """Which sink in memory failed in a run, or `None`, by the name of the program."""
     if ran.status == OUTPUT_FAILED and ran.output == ample.output and ample.status == STOPPED:
         if name == GRAPH and ample.error.startswith(ran.error):
             return "warnings lost"
@@ -218,7 +218,7 @@ def runs_without_input():
 
 
 def rows_of_program(folder, program):
-    """Files of rows of the runs in memory that give no standard input, and how the program ends."""
+    """Files of rows of the runs in memory without standard input, and how the program ends."""
     return write_rows(program, folder, runs_without_input())
 
 

@@ -16,7 +16,7 @@ from lib.programs import DONE, LOOK, STOPPED, Ending, shown
 from lib.projects import MAIN, write_files
 from lib.random_builds import deps_log
 from lib.sweeps import Sweep, lacks_runs
-from lib.tools import EXPLAIN, GRAPH, run_of
+from lib.tools import EXPLAIN, GRAPH, LIST, run_of
 from smoke import audit, draw, edge_objects
 
 EDGES = 100_000
@@ -252,7 +252,7 @@ def objects_of_discovery():
 
 
 def objects_with_log(logged, state):
-    """The objects of the last manifest, to which a log gives these inputs of each edge but the first."""
+    """The objects of the last manifest, to which a log adds the inputs of each edge but the first."""
     known = {"discovered": state}
     edges = [(HEAD_OF_LOGGED, {"rule": "gen", "outputs": ["g"], "command": "gen", **known})]
     for n in ALL:
@@ -337,6 +337,15 @@ def graph_of_chain():
         mark = chain_of_marks(taken - 1)
         yield f"keys --take {taken}", (LOOK, lines(keys[:taken]), f"mark {mark}\n")
         yield f"keys --resume {mark}", done(lines(keys[taken:]))
+    yield "stale", (LOOK, paths(ALL), "")
+    stale = lines(f"e{n}: e{n - 1} is stale" for n in range(1, HALF + 1))
+    yield f"stale --why --no-manifest e{HALF}", (LOOK, "e0: e0 is missing\n" + stale, "")
+    tests = f"tests --ctest {LIST}"
+    yield f"{tests} < e7", done("counts\nalways\n")
+    words = "--source-dir x/.. --ignore none --ignore-unknown --allow-empty --format lines --why"
+    yield f"{tests} {words} < e7", done("counts\tunnamed\nalways\tunnamed\n")
+    yield f"{tests} -z < e7", (LOOK, "counts\nalways\n", "e7\n\n")
+    yield f"{tests} --json --unnamed skip < e7", done("")
     yield f"why {LAST} e0", done(partial(chains, line_of_chain, "explicit", ALL[-1]))
     yield f"why e{HALF} e7", done(chains(line_of_chain, "explicit", HALF, 7))
     yield f"why --no-order-only e{HALF} e7", done(chains(line_of_chain, "explicit", HALF, 7))

@@ -1,8 +1,8 @@
-"""Gives the programs little stack.
+"""Runs the programs in little stack.
 
 All runs of lib/tools.py, on small projects, on a chain of 100,000 edges and while 32 files are open, have
-to end in 128 KB of stack as they do with more. Then each gets less and less: the sweep prints what the one
-needs that needs most.
+to end in 128 KB of stack as they do with more. Then each gets less and less: the sweep prints the
+greatest need.
 """
 
 import tempfile

@@ -34,7 +34,7 @@ TASK = 250
 
 
 def try_case(name, program, case, folder, is_full):
-    """Runs the program of this name on a case. Returns how it ended, and the problem of that."""
+    """Runs the program with the given name on a case. Returns how it ended, and the problem, if any."""
     files, words, text, may_take_any_time = case
     write_files(folder, files)
     with open("/dev/full", "wb") as full:

@@ -31,7 +31,7 @@ fn main(rt: HostRuntime) -> io::Result<ExitCode> {
     }
 }
 
-/// Writes the results of all of them.
+/// Writes the results of all functions.
 fn run(rt: HostRuntime) -> Result<(), Error> {
     show_files(rt)?;
     show_joined_files(rt)?;
@@ -63,7 +63,7 @@ fn show_facts(rt: HostRuntime, graph: &Graph) -> Result<(), Error> {
     write_text(rt, &text)
 }
 
-/// Appends this.
+/// Appends the contents of a graph, and the declarations of its files.
 fn append_facts(alloc: Global, text: &mut Vec<u8>, graph: &Graph) -> Result<(), Error> {
     append_edges_and_targets(alloc, text, graph)?;
     append_variables(alloc, text, graph)?;
@@ -117,7 +117,7 @@ fn show_order(rt: HostRuntime, targets: &FileList<'_>) -> Result<(), Error> {
     write_text(rt, &text)
 }
 
-/// Writes a page of commands, and the mark of the next one.
+/// Writes a page of commands, and the mark of the next page.
 fn show_page(rt: HostRuntime, targets: &FileList<'_>, mark: &str) -> Result<(), Error> {
     let mark = Mark::read(rt.alloc(), mark)?;
     let next = write_page(rt.alloc(), targets, &mark, &mut WriteSink::new(rt.stdout()))?;
@@ -144,7 +144,7 @@ fn load_joined_folder(rt: HostRuntime) -> Result<Loaded, Error> {
     load_joined(rt.alloc(), &mut files, "build.ninja")
 }
 
-/// Writes the same of a graph to which they were joined.
+/// Writes the same for a graph to which they were joined.
 fn show_joined_graph(rt: HostRuntime, graph: &Graph) -> Result<(), Error> {
     write_text(rt, b"== with dyndep files\n")?;
     let mut text = Vec::new(rt.alloc());
@@ -159,7 +159,7 @@ fn show_faults(rt: HostRuntime) -> Result<(), Error> {
     write_text(rt, &text)
 }
 
-/// Appends this, a line each.
+/// Appends the faults, a line each.
 fn append_faults(alloc: Global, text: &mut Vec<u8>) -> Result<(), AllocError> {
     append_line(text, &[b"== errors"])?;
     append_fault(alloc, text, b"rule cc\n  depth = 1\n", b"a")?;
@@ -167,8 +167,8 @@ fn append_faults(alloc: Global, text: &mut Vec<u8>) -> Result<(), AllocError> {
     append_fault(alloc, text, b"build a: phony\n", b"b")
 }
 
-/// Appends the line of the error of a manifest, or of an argument that names no target of its
-/// graph.
+/// Appends the line of the error of a manifest, or of an argument that does not name a target of
+/// its graph.
 fn append_fault(
     alloc: Global,
     text: &mut Vec<u8>,
@@ -196,13 +196,13 @@ fn blamed(error: &Error) -> &'static [u8] {
     }
 }
 
-/// Picks the target that an argument means in the graph of a manifest.
+/// Picks the target that an argument denotes in the graph of a manifest.
 fn ask(alloc: Global, manifest: &[u8], word: &[u8]) -> Result<(), Error> {
     let loaded = load_text(alloc, manifest)?;
     ask_graph(alloc, loaded.graph(), word)
 }
 
-/// Picks it in a graph.
+/// Picks the target in a graph.
 fn ask_graph(alloc: Global, graph: &Graph, word: &[u8]) -> Result<(), Error> {
     graph.target(alloc, word)?;
     Ok(())

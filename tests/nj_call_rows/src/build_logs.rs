@@ -4,8 +4,8 @@ use crate::printer::put_shown;
 use nj_build_log::{BuildLog, Entry, LogVersion, command_hash};
 use std::alloc::{AllocError, Global};
 
-/// Appends the contents of a build log, or its fault, as lines. Where the row gives a count, each
-/// `~` stands for so many bytes `x`.
+/// Appends the contents of a build log, or its fault, as lines. Where the row has a count, each `~`
+/// stands for that many bytes `x`.
 pub fn put_build_log(
     alloc: Global,
     text: &mut Vec<u8>,
@@ -22,7 +22,7 @@ pub fn put_build_log(
     }
 }
 
-/// The text with so many bytes `x` in place of each `~`.
+/// The text with the given number of bytes `x` in place of each `~`.
 fn lengthened(alloc: Global, log: &[u8], count: usize) -> Result<Vec<u8>, AllocError> {
     let mut bytes = Vec::new(alloc);
     for byte in log {
@@ -72,7 +72,7 @@ fn put_output(
     text.extend_from_slice(shown.as_bytes())
 }
 
-/// Appends the hash of a command in a log of this version, in hexadecimal digits.
+/// Appends the hash of a command in a log of the given version, in hexadecimal digits.
 pub fn put_command_hash(
     alloc: Global,
     text: &mut Vec<u8>,

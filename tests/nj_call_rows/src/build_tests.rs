@@ -3,7 +3,7 @@
 use nj_tests::{names_of, pieces_of};
 use std::alloc::{AllocError, Global};
 
-/// Appends a line for each piece of a word, those that repeat once.
+/// Appends a line for each piece of a word, without duplicates.
 pub(crate) fn put_pieces(alloc: Global, text: &mut Vec<u8>, word: &[u8]) -> Result<(), AllocError> {
     let pieces = pieces_of(alloc, word)?;
     for (index, piece) in pieces.iter().enumerate() {

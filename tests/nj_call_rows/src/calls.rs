@@ -2,7 +2,7 @@
 
 use crate::build_logs::{put_build_log, put_command_hash};
 use crate::build_tests::{put_names, put_pieces};
-use crate::chosen::put_chosen;
+use crate::chosen::{put_chosen, put_test_texts};
 use crate::depfiles::put_depfile;
 use crate::deps_logs::put_of_log;
 use crate::discovered::{put_dirtied, put_discovered, put_joined_discoveries};
@@ -80,7 +80,7 @@ fn put_other(
     put_of_files(alloc, text, given, "build.ninja", row.kind, &words)
 }
 
-/// Appends the outcome of a row about one text. Returns whether its kind is one of these.
+/// Appends the outcome of a row about one text. Returns whether it has such a kind.
 fn put_of_text(
     alloc: Global,
     text: &mut Vec<u8>,
@@ -114,8 +114,7 @@ fn subject_of(alloc: Global, given: &Given, row: &Block<'_>) -> Result<Vec<u8>, 
     bytes_of(alloc, row.rest)
 }
 
-/// Appends the outcome of a row by its words or its steps. Returns whether its kind is one of
-/// these.
+/// Appends the outcome of a row by its words or its steps. Returns whether it has such a kind.
 fn put_of_words(
     alloc: Global,
     text: &mut Vec<u8>,
@@ -131,6 +130,7 @@ fn put_of_words(
         "glob" => put_matched(alloc, text, &words_of(alloc, row.rest)?),
         "names" => put_names(alloc, text, &words_of(alloc, row.rest)?),
         "chosen" => put_chosen(alloc, text, given, &words_of(alloc, row.rest)?),
+        "test-texts" => put_test_texts(alloc, text, given, &words_of(alloc, row.rest)?),
         "mark-of" => put_mark_of(alloc, text, row.rest),
         "deps-log" | "cut-log" | "deps-of" => {
             put_of_log(alloc, text, given.bytes("log"), row.kind, row.rest)

@@ -5,8 +5,8 @@ use crate::printer::put_shown;
 use nj_graph::{ChainKinds, Error, Graph, Kind, Step};
 use std::alloc::{AllocError, Global};
 
-/// Appends the outputs of the edges that the files at these paths need, in the order in which they
-/// are given.
+/// Appends the outputs of the edges that the files at the given paths need, in the order in which
+/// they are given.
 pub(crate) fn put_needed(
     alloc: Global,
     text: &mut Vec<u8>,
@@ -20,7 +20,7 @@ pub(crate) fn put_needed(
     text.extend_from_slice(b"\n")
 }
 
-/// Appends the outputs of these edges.
+/// Appends the outputs of the edges that the given files need.
 fn put_all_needed(
     alloc: Global,
     text: &mut Vec<u8>,
@@ -36,7 +36,7 @@ fn put_all_needed(
 }
 
 /// Appends the steps of the chain by which the first of two files needs the second: for each the
-/// number of its edge, the index of its input, and its file; `-` for no chain.
+/// number of its edge, the index of its input, and its file; `-` without a chain.
 pub(crate) fn put_between(
     alloc: Global,
     text: &mut Vec<u8>,
@@ -51,7 +51,7 @@ pub(crate) fn put_between(
     text.extend_from_slice(b"\n")
 }
 
-/// Appends these steps.
+/// Appends the steps of the chain.
 fn put_steps(
     alloc: Global,
     text: &mut Vec<u8>,

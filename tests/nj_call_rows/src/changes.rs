@@ -4,8 +4,8 @@ use crate::printer::put_shown;
 use nj_graph::{EdgeNo, Error, FileNo, Graph, clean_path};
 use std::alloc::{AllocError, Global};
 
-/// Appends the outputs of the edges that a change of the files at these paths affects, or the text
-/// of the error.
+/// Appends the outputs of the edges that a change of the files at the given paths affects, or the
+/// text of the error.
 pub(crate) fn put_affected(
     alloc: Global,
     text: &mut Vec<u8>,
@@ -20,7 +20,7 @@ pub(crate) fn put_affected(
     Ok(())
 }
 
-/// Appends the outputs of the edges that a change of the files at these paths affects.
+/// Appends the outputs of the edges that a change of the files at the given paths affects.
 fn put_all_affected(
     alloc: Global,
     text: &mut Vec<u8>,
@@ -36,7 +36,7 @@ fn put_all_affected(
     Ok(())
 }
 
-/// The files at the clean paths of these texts. A path that no edge names is passed over.
+/// The files at the given paths, once cleaned. A path that no edge names is passed over.
 pub(crate) fn files_at(alloc: Global, graph: &Graph, paths: &str) -> Result<Vec<FileNo>, Error> {
     let mut files = Vec::new(alloc);
     for path in paths.split(' ') {

@@ -4,6 +4,7 @@ use nj_chosen::{ChangedPaths, Choice, ChosenTests, Link, Reason, choose};
 use nj_names::{HashKeys, Names};
 use nj_rows::Given;
 use nj_test_lists::{ListFault, ctest_tests};
+use nj_test_texts::{Style, tests_text};
 use nj_tests::Test;
 use std::alloc::{AllocError, Global};
 
@@ -17,15 +18,67 @@ pub(crate) fn put_chosen(
     given: &Given,
     words: &[String],
 ) -> Result<(), AllocError> {
-    let tests = match ctest_tests(alloc, given.bytes("tests")) {
-        Ok(tests) => tests,
-        Err(ListFault::OutOfMemory) => return Err(AllocError),
-        Err(_) => return text.extend_from_slice(b"no list of tests\n"),
+    let Some(tests) = tests_in(alloc, given)? else {
+        return text.extend_from_slice(b"no list of tests\n");
     };
-    let skips = words.iter().any(|word| word.as_str() == "skip");
+    put_choices(text, &tests, &chosen_by(alloc, given, words, &tests)?)
+}
+
+/// Appends the text of the chosen tests in the style that the first word names; of all tests if a
+/// word is `all`.
+pub(crate) fn put_test_texts(
+    alloc: Global,
+    text: &mut Vec<u8>,
+    given: &Given,
+    words: &[String],
+) -> Result<(), AllocError> {
+    let Some(tests) = tests_in(alloc, given)? else {
+        return text.extend_from_slice(b"no list of tests\n");
+    };
+    let chosen = chosen_by(alloc, given, words, &tests)?;
+    let style = match words.first() {
+        Some(word) => style_named(word),
+        None => Style::Names,
+    };
+    let written = tests_text(alloc, style, has_word(words, "all"), &tests, &chosen)?;
+    text.extend_from_slice(&written)
+}
+
+/// The style with the given name.
+fn style_named(word: &str) -> Style {
+    match word {
+        "reasons" => Style::Reasons,
+        "objects" => Style::Objects,
+        "ctest" => Style::CTest,
+        "meson" => Style::Meson,
+        _ => Style::Names,
+    }
+}
+
+/// The tests of the list in the file `tests`; `None` if it is not a list by CTest.
+fn tests_in(alloc: Global, given: &Given) -> Result<Option<Vec<Test>>, AllocError> {
+    match ctest_tests(alloc, given.bytes("tests")) {
+        Ok(tests) => Ok(Some(tests)),
+        Err(ListFault::OutOfMemory) => Err(AllocError),
+        Err(_) => Ok(None),
+    }
+}
+
+/// The tests that are chosen, by the paths that words name.
+fn chosen_by(
+    alloc: Global,
+    given: &Given,
+    words: &[String],
+    tests: &[Test],
+) -> Result<ChosenTests, AllocError> {
     let paths = paths_of(alloc, given, words)?;
-    let chosen = choose(alloc, HashKeys::default(), b"/b", paths, skips, &tests)?;
-    put_choices(text, &tests, &chosen)
+    let skips = has_word(words, "skip");
+    choose(alloc, HashKeys::default(), b"/b", paths, skips, tests)
+}
+
+/// Whether a word is in a list.
+fn has_word(words: &[String], sought: &str) -> bool {
+    words.iter().any(|word| word.as_str() == sought)
 }
 
 /// The paths of a change.
@@ -52,7 +105,7 @@ fn paths_of(alloc: Global, given: &Given, words: &[String]) -> Result<ChangedPat
     })
 }
 
-/// The words that each follow this one.
+/// The words that each follow a mention of the table.
 fn named(alloc: Global, words: &[String], table: &str) -> Result<Names, AllocError> {
     let mut names = Names::new(alloc, HashKeys::default());
     for pair in words.windows(2) {

@@ -5,9 +5,9 @@ use nj_deps::{DepsLog, DepsLogFault, LoggedOutput, PathNo};
 use nj_rows::log_of;
 use std::alloc::{AllocError, Global};
 
-/// Appends an outcome for the deps log of these parts, or its fault: `deps-log`, its whole
+/// Appends an outcome for the deps log of the given parts, or its fault: `deps-log`, its whole
 /// contents, `cut-log`, those of the log cut off at each byte, or `deps-of PATH`, its entry for the
-/// output at this path.
+/// output at `PATH`.
 pub fn put_of_log(
     alloc: Global,
     text: &mut Vec<u8>,
@@ -33,8 +33,8 @@ fn contents_of(alloc: Global, bytes: &[u8]) -> Result<Vec<u8>, AllocError> {
     Ok(text)
 }
 
-/// Appends the contents of a log that is cut off at each byte. Sizes that follow each other and have
-/// the same contents share them, after a line with the first and the last of these sizes.
+/// Appends the contents of a log that is cut off at each byte. Sizes that follow each other and
+/// have the same contents share them, after a line with the first and the last of the sizes.
 fn put_cuts(alloc: Global, text: &mut Vec<u8>, bytes: &[u8]) -> Result<(), AllocError> {
     let mut first = 0_usize;
     let mut contents = contents_of(alloc, b"")?;
@@ -49,7 +49,7 @@ fn put_cuts(alloc: Global, text: &mut Vec<u8>, bytes: &[u8]) -> Result<(), Alloc
     put_cut(alloc, text, first, bytes.len(), &contents)
 }
 
-/// Appends the contents of a log that is cut off at these sizes.
+/// Appends the contents of a log that is cut off at the given sizes.
 fn put_cut(
     alloc: Global,
     text: &mut Vec<u8>,
@@ -61,7 +61,7 @@ fn put_cut(
     text.extend_from_slice(contents)
 }
 
-/// Appends the entry of a log for the output at this path, or its fault.
+/// Appends the entry of a log for the output at the given path, or its fault.
 fn put_entry(
     alloc: Global,
     text: &mut Vec<u8>,
@@ -80,7 +80,7 @@ fn put_fault(alloc: Global, text: &mut Vec<u8>, fault: &DepsLogFault) -> Result<
     text.extend_from_slice(b"\n")
 }
 
-/// Appends the outputs, and as a line how many bytes were read, and whether these are all.
+/// Appends the outputs, and as a line how many bytes were read, and whether that is the whole log.
 fn put_log(alloc: Global, text: &mut Vec<u8>, log: &DepsLog) -> Result<(), AllocError> {
     for index in 0..log.output_count() {
         put_output(alloc, text, log, log.output(index))?;
@@ -90,7 +90,7 @@ fn put_log(alloc: Global, text: &mut Vec<u8>, log: &DepsLog) -> Result<(), Alloc
     text.extend_from_slice(format!(in alloc; "{size} bytes, {part}\n")?.as_bytes())
 }
 
-/// Appends the output at this path.
+/// Appends the output at the given path.
 fn put_output_at(
     alloc: Global,
     text: &mut Vec<u8>,
@@ -123,7 +123,7 @@ fn put_output(
     Ok(())
 }
 
-/// The path of this number; `?` if the log has none.
+/// The path with the given number; `?` if the log has none.
 fn path_of(log: &DepsLog, number: PathNo) -> &[u8] {
     if (number.0 as usize) < log.path_count() {
         log.path(number)

@@ -13,8 +13,8 @@ pub(crate) struct Found {
     pub(crate) discoveries: Discoveries,
 }
 
-/// Appends what builds discovered for each edge of `build.ninja`, by the log of this file and by
-/// depfiles; or the line of a fault.
+/// Appends what builds discovered for each edge of `build.ninja`, by the log in the given file and
+/// by depfiles; or the line of a fault.
 pub(crate) fn put_discovered(
     alloc: Global,
     text: &mut Vec<u8>,
@@ -65,7 +65,7 @@ pub(crate) fn found_in(alloc: Global, given: &Given, log: &str) -> Result<Found,
     Ok(Found { graph, discoveries })
 }
 
-/// The log of this file; one without records where there is none.
+/// The log in the given file; without the file, a log without records.
 fn log_at(alloc: Global, given: &Given, name: &str) -> Result<DepsLog, AllocError> {
     let parts = str::from_utf8(given.bytes(name)).unwrap_or("");
     let parts = if parts.is_empty() { "open 4" } else { parts };
@@ -82,7 +82,7 @@ fn joined(alloc: Global, given: &Given, log: &str) -> Result<Graph, GraphFault> 
     graph.join_discovered(alloc, &discoveries)
 }
 
-/// The first outputs of the edges that a change of the files at these paths makes dirty.
+/// The first outputs of the edges that a change of the files at the given paths makes dirty.
 fn dirtied(alloc: Global, given: &Given, log: &str, paths: &str) -> Result<Vec<u8>, GraphFault> {
     let Found { graph, discoveries } = found_in(alloc, given, log)?;
     let unknown = unknown_edges(alloc, &discoveries)?;

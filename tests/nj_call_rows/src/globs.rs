@@ -4,7 +4,8 @@ use crate::printer::put_shown;
 use nj_globs::{Glob, GlobFault};
 use std::alloc::{AllocError, Global};
 
-/// Appends a line for each path after the pattern that it matches, or why the pattern is no glob.
+/// Appends a line for each path after the pattern that it matches, or why the pattern is not a
+/// glob.
 pub(crate) fn put_matched(
     alloc: Global,
     text: &mut Vec<u8>,

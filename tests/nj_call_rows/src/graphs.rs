@@ -2,10 +2,11 @@
 
 use crate::declared::{put_edge_rules, put_rule_lines, put_values, put_written};
 use crate::handles::put_of_handles;
+use crate::reached::put_reached;
 use nj_graph::{Edge, EdgeNo, FileNo, Graph, GraphFault, Kind, PlaceRef, RuleNo, pick_target};
 use std::alloc::{AllocError, Global};
 
-/// Appends the part of a graph for a row of this kind.
+/// Appends the part of a graph for a row of the given kind.
 pub fn put_of_graph(
     alloc: Global,
     text: &mut Vec<u8>,
@@ -30,6 +31,7 @@ pub fn put_of_graph(
         "rule-lines" => put_rule_lines(alloc, text, graph),
         "edge-rules" => put_edge_rules(alloc, text, graph),
         "values" => put_values(text, graph, word),
+        "reached" => put_reached(alloc, text, graph, word),
         _ => put_of_handles(alloc, text, graph, kind, word),
     }
 }
@@ -54,7 +56,7 @@ fn put_files(text: &mut Vec<u8>, graph: &Graph, files: &[FileNo]) -> Result<(), 
     Ok(())
 }
 
-/// Appends the inputs of an edge: `|` is before an implicit one, `||` before an order-only one.
+/// Appends the inputs of an edge: `|` is before an implicit input, `||` before an order-only input.
 fn put_inputs(text: &mut Vec<u8>, graph: &Graph, edge: EdgeNo) -> Result<(), AllocError> {
     for (index, file) in graph.inputs(edge).iter().enumerate() {
         let sign = match graph.input_kind(edge, index) {
@@ -94,7 +96,7 @@ pub fn put_edges(alloc: Global, text: &mut Vec<u8>, graph: &Graph) -> Result<(),
     Ok(())
 }
 
-/// Appends a place and a line end; `-` is there for none.
+/// Appends a place and a line end; `-` without a place.
 fn put_place(
     alloc: Global,
     text: &mut Vec<u8>,
@@ -125,7 +127,7 @@ fn put_roots(text: &mut Vec<u8>, graph: &Graph) -> Result<(), AllocError> {
     text.extend_from_slice(b"\n")
 }
 
-/// Appends the path of the target that an argument means, or the line of its fault.
+/// Appends the path of the target that an argument denotes, or the line of its fault.
 fn put_picked(
     alloc: Global,
     text: &mut Vec<u8>,
@@ -200,7 +202,7 @@ fn put_with_response_files(
     Ok(())
 }
 
-/// Appends the rules that are listed, a line each; after ` = ` the description, if there is one.
+/// Appends the rules that are listed, a line each; after ` = ` the description, if any.
 fn put_rules(alloc: Global, text: &mut Vec<u8>, graph: &Graph) -> Result<(), AllocError> {
     for index in 0..graph.main_rule_count() {
         text.extend_from_slice(graph.main_rule(index))?;
@@ -213,7 +215,7 @@ fn put_rules(alloc: Global, text: &mut Vec<u8>, graph: &Graph) -> Result<(), All
     Ok(())
 }
 
-/// Appends the pool and the dyndep file of each edge, a line each; `-` is there for none.
+/// Appends the pool and the dyndep file of each edge, a line each; `-` if it has none.
 fn put_assigned(text: &mut Vec<u8>, graph: &Graph) -> Result<(), AllocError> {
     for edge in graph.edges() {
         text.extend_from_slice(edge.pool().unwrap_or(b"-".as_slice()))?;

@@ -3,11 +3,11 @@
 use nj_graph::{Edge, EdgeList, EdgeNo, Edges, File, Files, Graph, GraphFault, NeededCommands};
 use std::alloc::{AllocError, Global};
 
-/// Appends the part of a graph for a row of this kind: `by-kind`, the files of each edge by kind, a
-/// line each; `files`, each file with the rule of the edge that makes it and the rules of its users,
-/// and of those that name it as a validation; `edge`, the rule of the edge of a number; and for the
-/// files that the words mean `commands`, the edges with commands that they need, `affects`, those
-/// that a change of them affects, and `needs`, those that they need.
+/// Appends the part of a graph for a row of the given kind: `by-kind`, the files of each edge by
+/// kind, a line each; `files`, each file with the rule of the edge that makes it and the rules of
+/// its users, and of those that name it as a validation; `edge`, the rule of the edge with a given
+/// number; and for the files that the words denote `commands`, the edges with commands that they
+/// need, `affects`, those that a change of them affects, and `needs`, those that they need.
 pub(crate) fn put_of_handles(
     alloc: Global,
     text: &mut Vec<u8>,

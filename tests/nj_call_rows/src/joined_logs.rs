@@ -1,5 +1,5 @@
-//! The inputs that deps logs add to the edges of the files of a row, and those that these do not
-//! declare.
+//! The inputs that deps logs add to the edges of the files of a row, and the inputs that the edges
+//! do not declare.
 
 use crate::graphs::put_edges;
 use crate::printer::put_shown;
@@ -8,8 +8,8 @@ use nj_graph::{Graph, GraphFault, UndeclaredInput, join_dyndeps, load, undeclare
 use nj_rows::{Given, log_of};
 use std::alloc::{AllocError, Global};
 
-/// Appends the edges of `build.ninja`, to which its dyndep files and then the logs of these files
-/// are joined, one after the other; or the line of the first fault.
+/// Appends the edges of `build.ninja`, to which its dyndep files and then the logs in the given
+/// files are joined, one after the other; or the line of the first fault.
 pub(crate) fn put_joined(
     alloc: Global,
     text: &mut Vec<u8>,
@@ -22,8 +22,8 @@ pub(crate) fn put_joined(
     }
 }
 
-/// Appends the inputs that edges of `build.ninja` do not declare by the log of this file; or why
-/// there is no graph or no log.
+/// Appends the inputs that edges of `build.ninja` do not declare by the log in the given file; or
+/// why the graph or the log is missing.
 pub(crate) fn put_undeclared(
     alloc: Global,
     text: &mut Vec<u8>,
@@ -43,7 +43,7 @@ pub(crate) fn put_undeclared(
     }
 }
 
-/// Appends the inputs that edges of `build.ninja` do not declare by this log.
+/// Appends the inputs that edges of `build.ninja` do not declare by the given log.
 fn put_uses(
     alloc: Global,
     text: &mut Vec<u8>,
@@ -56,7 +56,7 @@ fn put_uses(
     }
 }
 
-/// Appends a line for each input of a graph that its edge does not declare by this log.
+/// Appends a line for each input of a graph that its edge does not declare by the given log.
 fn put_uses_in(
     alloc: Global,
     text: &mut Vec<u8>,
@@ -86,7 +86,7 @@ fn put_line(alloc: Global, text: &mut Vec<u8>, fault: &GraphFault) -> Result<(),
     text.extend_from_slice(b"\n")
 }
 
-/// The graph with its dyndep files and the logs of these files, one after the other. A log that
+/// The graph with its dyndep files and the logs in the given files, one after the other. A log that
 /// cannot be read is passed over.
 fn joined(alloc: Global, given: &Given, names: &str) -> Result<Graph, GraphFault> {
     let mut graph = with_dyndeps(alloc, given)?;

@@ -20,8 +20,8 @@ impl DrawnKeys {
         })
     }
 
-    /// Appends whether one byte has the same hash twice by the keys of one source, and whether it has
-    /// by those of both.
+    /// Appends whether a byte has the same hash twice by the keys of one source, and whether the
+    /// keys of both sources hash it alike.
     pub fn put_compared(&self, alloc: Global, text: &mut Vec<u8>) -> Result<(), AllocError> {
         let one = self.one.hash_bytes(b"\x07") == self.one.hash_bytes(b"\x07");
         let both = self.one.hash_bytes(b"\x07") == self.other.hash_bytes(b"\x07");

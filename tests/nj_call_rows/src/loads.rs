@@ -12,7 +12,8 @@ use std::alloc::{AllocError, Global};
 /// Appends an outcome for the files with the main file `main`: `load`, the line of their first
 /// fault, or `accepted`; `cause`, the cause of that fault; `kept`, the files that are kept;
 /// `affected` and `affected-joined`, the outputs that a change of the files at the paths `words`
-/// affects; `variable-joined`, the values of the variable `words` for their edges; `needed`, those that these files need; `between`, and with validations
+/// affects; `variable-joined`, the values of the variable `words` for their edges; `needed`, the
+/// outputs of the edges that the files need; `between`, and with validations
 /// `between-with-validations`, by which chain the first of them needs the second; any other kind, a
 /// part of their graph.
 pub(crate) fn put_of_files(
@@ -44,7 +45,7 @@ fn loaded_for(
     }
 }
 
-/// Appends this part of the load of files.
+/// Appends the part of the load of files that a kind names.
 fn put_part_of(
     alloc: Global,
     text: &mut Vec<u8>,

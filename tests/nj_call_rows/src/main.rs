@@ -22,6 +22,7 @@ mod loads;
 mod marks;
 mod present;
 mod printer;
+mod reached;
 mod shown_faults;
 mod small_graphs;
 mod small_walks;

@@ -4,7 +4,7 @@ use crate::printer::put_shown;
 use nj_needs::Mark;
 use std::alloc::{AllocError, Global};
 
-/// Appends a line of the mark that a text gives, and a line of its numbers, or its fault.
+/// Appends a line of the mark that a text denotes, and a line of its numbers, or its fault.
 pub fn put_mark(alloc: Global, text: &mut Vec<u8>, subject: &[u8]) -> Result<(), AllocError> {
     match Mark::read(alloc, str::from_utf8(subject).unwrap_or("not UTF-8")) {
         Ok(mark) => {

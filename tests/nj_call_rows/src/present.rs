@@ -1,11 +1,11 @@
-//! The dyndep files that are there, joined to the graph of the files of a row.
+//! The dyndep files that are present, joined to the graph of the files of a row.
 
 use crate::graphs::put_edges;
 use nj_graph::{Graph, GraphFault, join_dyndeps, join_present_dyndeps, load};
 use nj_rows::{Given, Times};
 use std::alloc::{AllocError, Global};
 
-/// Appends the edges of `build.ninja`, to which the dyndep files are joined that have a time, and the
+/// Appends the edges of `build.ninja`, to which the dyndep files with a time are joined, and the
 /// edges that are still pending; or the line of a fault. With the word `all` the other files are
 /// joined after them.
 pub(crate) fn put_present(
@@ -26,7 +26,7 @@ pub(crate) fn put_present(
     }
 }
 
-/// The graph of `build.ninja` with these files.
+/// The graph of `build.ninja` with its dyndep files.
 fn joined(alloc: Global, given: &Given, joins_all: bool) -> Result<Graph, GraphFault> {
     let mut files = given.source(alloc)?;
     let loaded = load(alloc, &mut files, "build.ninja")?;

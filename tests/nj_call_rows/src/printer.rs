@@ -27,7 +27,7 @@ pub fn put_answer(text: &mut Vec<u8>, answer: bool) -> Result<(), AllocError> {
     text.extend_from_slice(if answer { b"yes".as_slice() } else { b"no" })
 }
 
-/// Appends bytes in brackets; `none` if there are none.
+/// Appends bytes in brackets; `none` without bytes.
 pub fn put_bytes(text: &mut Vec<u8>, bytes: Option<&[u8]>) -> Result<(), AllocError> {
     let Some(bytes) = bytes else {
         return text.extend_from_slice(b"none");

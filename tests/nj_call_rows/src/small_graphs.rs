@@ -9,7 +9,7 @@ use nj_edges::{EdgeGraph, EdgeNo, Edges, FileNo, Finished, HashKeys, KindEnds};
 use std::alloc::{AllocError, Global};
 use std::fmt::Write;
 
-/// Appends an outcome for the graph of these edges.
+/// Appends an outcome for the graph of the given edges.
 pub fn put_of_edges(
     alloc: Global,
     text: &mut Vec<u8>,
@@ -24,8 +24,8 @@ pub fn put_of_edges(
     }
 }
 
-/// Appends how many edges the walk to the last of so many edges in a row returns, and how many
-/// turns it takes. Each edge has the one before as an input so many times.
+/// Appends how many edges the walk to the last edge of a chain returns, and how many turns it
+/// takes. Each edge has the edge before it as an input, as often as the row says.
 pub fn put_chain(alloc: Global, text: &mut Vec<u8>, asked: &str) -> Result<(), AllocError> {
     let (edges, times) = asked.split_once(' ').unwrap_or((asked, ""));
     let (edges, times) = (edges.parse().unwrap_or(0), times.parse().unwrap_or(0));
@@ -34,8 +34,8 @@ pub fn put_chain(alloc: Global, text: &mut Vec<u8>, asked: &str) -> Result<(), A
     put_of_edges(alloc, text, chain.as_bytes(), "count", &last)
 }
 
-/// So many edges in a row, which are numbered from 1, each with the one before as an input so many
-/// times.
+/// A chain of `edges` edges, which are numbered from 1, each with the edge before it as an input
+/// `times` times.
 fn chain_of(alloc: Global, edges: u64, times: u64) -> Result<String, AllocError> {
     let mut text = String::from_str(alloc, "1:")?;
     for number in 1..edges {
@@ -52,7 +52,7 @@ fn put_inputs(text: &mut String, number: u64, times: u64) -> Result<(), AllocErr
     Ok(())
 }
 
-/// How the reading of these edges ends.
+/// How the reading of the given edges ends.
 fn finished(alloc: Global, text: &str) -> Result<Finished, AllocError> {
     let mut edges = Edges::new(alloc, HashKeys::default());
     add_edges(&mut edges, text)?;
@@ -93,7 +93,7 @@ fn add_file(edges: &mut Edges, word: &str, is_validation: bool) -> Result<(), Al
     }
 }
 
-/// Ends an edge of whose inputs this many, the first ones, are not order-only.
+/// Ends an edge whose first `ordinary` inputs are not order-only.
 fn end_edge(edges: &mut Edges, ordinary: usize, is_phony: bool) -> Result<(), AllocError> {
     let inputs = ordinary.min(edges.open_inputs());
     let kinds = KindEnds {
@@ -104,7 +104,7 @@ fn end_edge(edges: &mut Edges, ordinary: usize, is_phony: bool) -> Result<(), Al
     edges.end_edge(kinds, is_phony)
 }
 
-/// The files at these paths, which spaces separate; a path that no edge names is skipped.
+/// The files at the given paths, which spaces separate; a path that no edge names is skipped.
 pub fn files_at(alloc: Global, graph: &EdgeGraph, paths: &str) -> Result<Vec<FileNo>, AllocError> {
     let mut files = Vec::new(alloc);
     for path in paths.split(' ') {

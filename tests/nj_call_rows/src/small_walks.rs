@@ -38,11 +38,11 @@ pub fn put_of_walk(
 enum Left {
     /// Its mark before any edge is returned.
     Nothing,
-    /// The rest of it, if it takes at most this many turns in all.
+    /// The rest of it, if it takes at most the given number of turns in all.
     Edges(u64),
 }
 
-/// Appends the edges of the whole walk to these files, or only how many they are, and how many
+/// Appends the edges of the whole walk to the given files, or only how many they are, and how many
 /// turns it takes.
 fn put_walk(
     alloc: Global,
@@ -71,7 +71,7 @@ fn count_left(needs: &mut Needs<'_>) -> usize {
     count
 }
 
-/// Appends an outcome of the walk to these files that is resumed at a mark, or the fault.
+/// Appends an outcome of the walk to the given files that is resumed at a mark, or the fault.
 fn put_resumed(
     alloc: Global,
     text: &mut Vec<u8>,
@@ -90,7 +90,7 @@ fn put_resumed(
     }
 }
 
-/// The walk that continues at the mark that a text gives.
+/// The walk that continues at the mark that a text denotes.
 fn resumed<'g>(
     alloc: Global,
     graph: &'g EdgeGraph,

@@ -1,11 +1,11 @@
 //! The stale edges of the files of a row.
 
 use crate::discovered::{Found, found_in, put_fault, put_output, unknown_edges};
-use nj_build_log::{BuildLog, LogVersion, command_hash};
-use nj_discovered::FileTimes;
-use nj_graph::{EdgeGraph, EdgeNo, FileNo, Graph, GraphFault};
+use nj_build_log::{BuildLog, LogVersion};
+use nj_graph::{EdgeGraph, EdgeNo, Graph, GraphFault};
 use nj_rows::{Given, Times};
-use nj_stale::{EdgeFacts, Reason, reasons_of};
+use nj_stale::{Reason, makers_first, reasons_of};
+use nj_state::{facts_of, times_of};
 use std::alloc::{AllocError, Global};
 
 /// Appends the edges of `build.ninja` that are stale and not phony, each with its reason in the words
@@ -28,9 +28,10 @@ fn stale_in(alloc: Global, given: &Given, log: &str) -> Result<Vec<u8>, GraphFau
     let unknown = unknown_edges(alloc, &discoveries)?;
     let graph = graph.join_discovered(alloc, &discoveries)?;
     let log = build_log(alloc, given)?;
-    let facts = facts_of(alloc, &graph, &unknown, &log)?;
-    let times = times_of(alloc, &graph, given)?;
-    let order = order_of(alloc, &graph)?;
+    let version = log.version().unwrap_or(LogVersion::Seven);
+    let facts = facts_of(alloc, &graph, &unknown, version)?;
+    let times = known_times(alloc, &graph, given)?;
+    let order = makers_first(alloc, &graph)?;
     let reasons = reasons_of(alloc, &graph, &facts, &times, &log, &order)?;
     let mut text = Vec::new(alloc);
     for number in 0..graph.edge_count() {
@@ -47,7 +48,7 @@ fn stale_in(alloc: Global, given: &Given, log: &str) -> Result<Vec<u8>, GraphFau
     Ok(text)
 }
 
-/// The build log of the file `build-log`; one without lines where there is none.
+/// The build log of the file `build-log`; without the file, a log without lines.
 fn build_log(alloc: Global, given: &Given) -> Result<BuildLog, AllocError> {
     match BuildLog::read(alloc, given.bytes("build-log")) {
         Ok(log) => Ok(log),
@@ -55,67 +56,12 @@ fn build_log(alloc: Global, given: &Given) -> Result<BuildLog, AllocError> {
     }
 }
 
-/// What is known of each edge.
-fn facts_of(
-    alloc: Global,
-    graph: &Graph,
-    unknown: &[EdgeNo],
-    log: &BuildLog,
-) -> Result<Vec<EdgeFacts>, AllocError> {
-    let version = log.version().unwrap_or(LogVersion::Seven);
-    let mut facts = Vec::new(alloc);
-    for (number, edge) in graph.edges().enumerate() {
-        let command = edge.variable(alloc, b"command")?;
-        let contents = edge.variable(alloc, b"rspfile_content")?;
-        facts.push(EdgeFacts {
-            is_unknown: unknown.contains(&EdgeNo(number)),
-            restat: !edge.variable(alloc, b"restat")?.is_empty(),
-            generator: !edge.variable(alloc, b"generator")?.is_empty(),
-            command_hash: command_hash(version, &command, &contents),
-        })?;
+/// The time of each file, 0 if it is missing.
+fn known_times(alloc: Global, graph: &Graph, given: &Given) -> Result<Vec<u64>, AllocError> {
+    match times_of(alloc, graph, &Times::of(given)) {
+        Ok(times) => Ok(times),
+        Err(_) => Err(AllocError),
     }
-    Ok(facts)
-}
-
-/// The time of each file, 0 where it is not there.
-fn times_of(alloc: Global, graph: &Graph, given: &Given) -> Result<Vec<u64>, AllocError> {
-    let source = Times::of(given);
-    let mut times = Vec::new(alloc);
-    for number in 0..graph.file_count() {
-        let path = str::from_utf8(graph.path(FileNo(number))).unwrap_or("");
-        let time = match source.time(path) {
-            Ok(time) => time.unwrap_or(0),
-            Err(_) => 0,
-        };
-        times.push(time)?;
-    }
-    Ok(times)
-}
-
-/// The edges, each after those that make its inputs: by as many passes as that takes.
-fn order_of(alloc: Global, graph: &EdgeGraph) -> Result<Vec<EdgeNo>, AllocError> {
-    let mut order: Vec<EdgeNo> = Vec::new(alloc);
-    for _ in 0..graph.edge_count() {
-        for number in 0..graph.edge_count() {
-            let edge = EdgeNo(number);
-            if !order.contains(&edge) && has_makers(graph, &order, edge) {
-                order.push(edge)?;
-            }
-        }
-    }
-    Ok(order)
-}
-
-/// Whether the edges that make the inputs of an edge are among these.
-fn has_makers(graph: &EdgeGraph, order: &[EdgeNo], edge: EdgeNo) -> bool {
-    for input in graph.inputs(edge) {
-        if let Some(maker) = graph.maker(*input) {
-            if !order.contains(&maker) {
-                return false;
-            }
-        }
-    }
-    true
 }
 
 /// Appends a reason.

@@ -138,7 +138,7 @@ fn put_entry(alloc: Global, text: &mut Vec<u8>, entry: &Entry<'_>) -> Result<(),
     Ok(())
 }
 
-/// Appends words after their sign; nothing if there are none.
+/// Appends words after their sign; nothing without words.
 fn put_words(
     alloc: Global,
     text: &mut Vec<u8>,

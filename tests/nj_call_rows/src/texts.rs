@@ -6,7 +6,7 @@ use nj_rows::bytes_of;
 use nj_text::{Lossy, clean_into, clean_path, is_clean, leading_number, quote_into, version_of};
 use std::alloc::{AllocError, Global};
 
-/// Appends the result of this call for a text, as a line.
+/// Appends the result of the given call for a text, as a line.
 pub fn put_meant(
     alloc: Global,
     text: &mut Vec<u8>,
@@ -41,8 +41,8 @@ pub fn put_clean(alloc: Global, text: &mut Vec<u8>, path: &[u8]) -> Result<(), A
     Ok(())
 }
 
-/// Appends the results of this call for words, one directly after another, as a line. A fault is in
-/// brackets.
+/// Appends the results of the given call for words, one directly after another, as a line. A fault
+/// is in brackets.
 pub fn put_in_turn(
     alloc: Global,
     text: &mut Vec<u8>,
@@ -68,8 +68,8 @@ fn put_clean_after(alloc: Global, text: &mut Vec<u8>, path: &[u8]) -> Result<(),
     text.extend_from_slice(b"]")
 }
 
-/// Appends the hash of a text in hexadecimal digits, by the keys that a number in front of it
-/// gives, else by the default keys.
+/// Appends the hash of a text in hexadecimal digits, by the keys of a number in front of it, else
+/// by the default keys.
 pub fn put_hash(alloc: Global, text: &mut Vec<u8>, asked: &str) -> Result<(), AllocError> {
     let (number, name) = asked.split_once(' ').unwrap_or((asked, ""));
     let keys = match number.parse() {

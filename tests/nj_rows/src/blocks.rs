@@ -9,7 +9,7 @@ pub struct Block<'r> {
     pub line: usize,
     /// The first word of the line.
     pub kind: &'r str,
-    /// The rest of the line, after this word and a space.
+    /// The rest of the line, after its first word and a space.
     pub rest: &'r str,
     /// The indented lines, each with its line end.
     pub text: Vec<u8>,
@@ -30,7 +30,7 @@ pub fn blocks_of<'r>(alloc: Global, rows: &'r str) -> Result<Vec<Block<'r>>, All
     Ok(blocks)
 }
 
-/// The block that begins with this line, without the lines below it.
+/// The block that begins with the given line, without the lines below it.
 fn block_of<'r>(alloc: Global, number: usize, line: &'r str) -> Block<'r> {
     let (kind, rest) = first_of(line);
     Block {
@@ -50,8 +50,8 @@ fn put_line(blocks: &mut Vec<Block<'_>>, line: &str) -> Result<(), AllocError> {
     Ok(())
 }
 
-/// Appends the bytes that a text means: `<09>` is the byte with these hexadecimal digits, and `<>`
-/// is nothing.
+/// Appends the bytes that a text denotes: `<09>` is the byte with the given hexadecimal digits, and
+/// `<>` is nothing.
 fn put_bytes(bytes: &mut Vec<u8>, text: &str) -> Result<(), AllocError> {
     let (first, marked) = text.split_once('<').unwrap_or((text, ""));
     bytes.extend_from_slice(first.as_bytes())?;
@@ -77,7 +77,7 @@ fn put_piece(bytes: &mut Vec<u8>, piece: &str) -> Result<(), AllocError> {
     }
 }
 
-/// The bytes that a text means.
+/// The bytes that a text denotes.
 pub fn bytes_of(alloc: Global, text: &str) -> Result<Vec<u8>, AllocError> {
     let mut bytes = Vec::new(alloc);
     put_bytes(&mut bytes, text)?;
@@ -100,7 +100,7 @@ pub fn words_of(alloc: Global, text: &str) -> Result<Vec<String>, AllocError> {
     Ok(words)
 }
 
-/// The word that a text means.
+/// The word that a text denotes.
 fn word_of(alloc: Global, text: &str) -> Result<String, AllocError> {
     let bytes = bytes_of(alloc, text)?;
     String::from_str(alloc, str::from_utf8(&bytes).unwrap_or("not UTF-8"))

@@ -6,10 +6,10 @@ use crate::repeats::{Repeat, with_number};
 use nj_scope::MemoryFiles;
 use std::alloc::{AllocError, Global};
 
-/// The line of a row that stands for the text of the file of this name.
+/// The line of a row that stands for the text of the file `wanted`.
 const WANTED: &[u8] = b"<wanted>\n";
 
-/// A file that is given.
+/// A given file.
 #[derive(Drop)]
 pub struct GivenFile {
     /// Its path, by which runs name it.
@@ -21,19 +21,19 @@ pub struct GivenFile {
 /// The settings before a row: files for all rows of a section, the others for the next row alone.
 #[derive(Drop)]
 pub struct Given {
-    /// The files; the last one counts where several have the same name.
+    /// The files; of several with the same name, the last is used.
     pub files: Vec<GivenFile>,
     /// The reading that fails, counted from 1; 0: none does.
     pub failing: u64,
-    /// The same of the files that builds write, where these have a source of their own.
+    /// The same for the files that builds write, where they have a source of their own.
     pub failing_built: u64,
     /// Standard input.
     pub input: Vec<u8>,
     /// The path of the working directory; `None`: `/w`.
     pub folder: Option<String>,
-    /// How many bytes standard output takes; `None`: all.
+    /// How many bytes standard output accepts; `None`: all.
     pub output: Option<usize>,
-    /// How many bytes standard error takes; `None`: all.
+    /// How many bytes standard error accepts; `None`: all.
     pub error: Option<usize>,
 }
 
@@ -51,7 +51,7 @@ impl Given {
         }
     }
 
-    /// Reads a block that gives something. Returns whether it is one.
+    /// Reads a block if it is a setting. Returns whether it is.
     pub fn read(&mut self, alloc: Global, block: &Block<'_>) -> Result<bool, AllocError> {
         let text = block.text.as_slice();
         match block.kind {
@@ -82,7 +82,7 @@ impl Given {
         self.error = None;
     }
 
-    /// Gives a file, in place of one that has this name.
+    /// Adds a file, in place of a file with the same name.
     fn add(&mut self, alloc: Global, name: &str, text: &[u8]) -> Result<(), AllocError> {
         let name = String::from_str(alloc, name)?;
         let text = Vec::from_slice(alloc, text)?;
@@ -90,13 +90,13 @@ impl Given {
         Ok(())
     }
 
-    /// Gives the deps log of the parts in the text of a block.
+    /// Adds the deps log of the parts in the text of a block.
     fn add_log(&mut self, alloc: Global, block: &Block<'_>) -> Result<(), AllocError> {
         let parts = str::from_utf8(&block.text).unwrap_or("text not UTF-8");
         self.add(alloc, block.rest, &log_of(alloc, parts)?)
     }
 
-    /// Appends a text to the file of this name, which is empty at first.
+    /// Appends a text to the file with the given name, which is empty at first.
     fn append(&mut self, alloc: Global, name: &str, text: &[u8]) -> Result<(), AllocError> {
         let mut files = self.files.iter_mut().rev();
         match files.find(|file| file.name.as_str() == name) {
@@ -105,8 +105,7 @@ impl Given {
         }
     }
 
-    /// Appends the text of a block for each of its numbers, to the file whose name it gives for that
-    /// number.
+    /// Expands a block once per number, appending to the file that it names for that number.
     fn repeat(&mut self, alloc: Global, block: &Block<'_>) -> Result<(), AllocError> {
         let repeat = Repeat::read(block.rest);
         let text = str::from_utf8(&block.text).unwrap_or("not UTF-8");
@@ -119,17 +118,17 @@ impl Given {
         Ok(())
     }
 
-    /// The files that are given.
+    /// The given files.
     pub fn source(&self, alloc: Global) -> Result<MemoryFiles, AllocError> {
         self.failing_source(alloc, self.failing)
     }
 
-    /// The same as a source of files that builds write.
+    /// The given files, as a source of files that builds write.
     pub fn built(&self, alloc: Global) -> Result<MemoryFiles, AllocError> {
         self.failing_source(alloc, self.failing_built)
     }
 
-    /// The files, of which the reading of this number fails.
+    /// The files, where the reading with the given number fails.
     fn failing_source(&self, alloc: Global, failing: u64) -> Result<MemoryFiles, AllocError> {
         let mut source = MemoryFiles::new(alloc);
         for file in &self.files {
@@ -147,7 +146,7 @@ impl Given {
         }
     }
 
-    /// The text of the file that was given last under this name; nothing if there is none.
+    /// The text of the last file with the given name; empty without such a file.
     pub fn bytes(&self, name: &str) -> &[u8] {
         let mut files = self.files.iter().rev();
         match files.find(|file| file.name.as_str() == name) {

@@ -10,7 +10,7 @@ use std::alloc::{AllocError, Global};
 /// The bit by which records of outputs differ from those of paths.
 const OUTPUT: u32 = 1 << 31;
 
-/// The log of these parts.
+/// The log of the given parts.
 pub fn log_of(alloc: Global, parts: &str) -> Result<Vec<u8>, AllocError> {
     let mut log = Vec::new(alloc);
     for part in parts.lines() {
@@ -20,7 +20,7 @@ pub fn log_of(alloc: Global, parts: &str) -> Result<Vec<u8>, AllocError> {
     Ok(log)
 }
 
-/// Appends a part of this kind.
+/// Appends a part of the given kind.
 fn put_part(alloc: Global, log: &mut Vec<u8>, kind: &str, rest: &str) -> Result<(), AllocError> {
     match kind {
         "open" => {

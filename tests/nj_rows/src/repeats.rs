@@ -23,13 +23,13 @@ impl<'r> Repeat<'r> {
         }
     }
 
-    /// How many numbers these are.
+    /// How many numbers there are.
     pub fn count(&self) -> u64 {
         let (least, most) = (self.first.min(self.last), self.first.max(self.last));
         most.saturating_sub(least).saturating_add(1)
     }
 
-    /// The number after so many.
+    /// The number after the given count of steps.
     pub fn number(&self, step: u64) -> u64 {
         if self.first <= self.last {
             self.first.saturating_add(step)

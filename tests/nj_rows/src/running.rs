@@ -29,7 +29,7 @@ impl Count {
 
 /// Runs the rows of the files that the program's arguments name. Prints each row whose outcome is
 /// not the wanted text, how many rows each file has, and how many there are. The status is 1 if a
-/// row differs. An argument `spend=N` names no file: it allocates `N` times.
+/// row differs. An argument `spend=N` does not name a file: it allocates `N` times.
 pub fn run_files(
     rt: &(impl Env + Files + Print + AllocGlobal),
     outcomes: &impl Outcomes,
@@ -48,8 +48,8 @@ pub fn run_files(
     Ok(ExitCode::from(u8::from(all.differ != 0)))
 }
 
-/// Allocates so many times, also where that is refused. `rt try` refuses the allocation with a given
-/// number; these decide which one of the rows that is.
+/// Allocates the given number of times, even where that is refused. `rt try` refuses the allocation
+/// with a given number; the count decides which allocation of the rows that is.
 fn spend(alloc: Global, times: u64) {
     for number in 0..times {
         let mut numbers = Vec::new(alloc);
@@ -86,7 +86,7 @@ fn run_blocks(
     Ok(count)
 }
 
-/// Runs a row, and prints how its outcome differs from the wanted one.
+/// Runs a row, and prints how its outcome differs from the wanted outcome.
 fn run_row(
     rt: &(impl Print + AllocGlobal),
     outcomes: &impl Outcomes,
@@ -103,7 +103,7 @@ fn run_row(
     Ok(Count { rows: 1, differ: 1 })
 }
 
-/// Prints the wanted outcome of the row at a line, and the one that came.
+/// Prints the wanted outcome of the row at a line, and the outcome that came.
 fn print_difference(
     rt: &(impl Print + AllocGlobal),
     name: &str,

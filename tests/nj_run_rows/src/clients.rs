@@ -53,8 +53,8 @@ fn put_work_on(
     }
 }
 
-/// Picks a target, reads a mark, and writes the compilation database within so many bytes. Appends
-/// `done` if nothing fails.
+/// Picks a target, reads a mark, and writes the compilation database within a limit. Appends `done`
+/// if nothing fails.
 fn put_asked(alloc: Global, text: &mut Vec<u8>, graph: &Graph, words: &str) -> Result<(), Error> {
     let (target, words) = first_of(words);
     let (mark, limit) = first_of(words);
@@ -65,7 +65,7 @@ fn put_asked(alloc: Global, text: &mut Vec<u8>, graph: &Graph, words: &str) -> R
     Ok(())
 }
 
-/// Writes the compilation database to a sink that takes so many bytes.
+/// Writes the compilation database to a sink with a limit.
 fn ask_for_database(alloc: Global, graph: &Graph, limit: Option<usize>) -> Result<(), Error> {
     let mut sink = MemorySink::new(alloc, limit);
     write_compdb(alloc, graph, ".", &[], false, &mut sink)?;

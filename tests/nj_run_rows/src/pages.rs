@@ -4,8 +4,8 @@ use nj_cli::{MemoryFiles, MemorySink, run_words};
 use nj_rows::{Given, words_of};
 use std::alloc::{AllocError, Global};
 
-/// Appends the output of pages of so many commands, each resumed at the mark of the page before,
-/// and the mark that the last one reports.
+/// Appends the output of pages with the given number of commands, each resumed at the mark of the
+/// page before, and the mark that the last one reports.
 pub(crate) fn put_pages(
     alloc: Global,
     text: &mut Vec<u8>,
@@ -29,8 +29,8 @@ fn put_mark(text: &mut Vec<u8>, mark: &str) -> Result<(), AllocError> {
     text.extend_from_slice(b"\n")
 }
 
-/// Appends the output of a page of so many commands, from a mark on. Returns the mark that it
-/// reports.
+/// Appends the output of a page with the given number of commands, from a mark on. Returns the mark
+/// that it reports.
 fn put_page(
     alloc: Global,
     text: &mut Vec<u8>,

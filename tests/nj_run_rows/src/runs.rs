@@ -17,7 +17,7 @@ fn error_of(alloc: Global, given: &Given) -> MemorySink {
     MemorySink::new(alloc, given.error)
 }
 
-/// Appends how a run with these arguments ends.
+/// Appends how a run with the given arguments ends.
 pub(crate) fn put_run(
     alloc: Global,
     text: &mut Vec<u8>,
@@ -28,7 +28,7 @@ pub(crate) fn put_run(
     put_run_over(alloc, text, given, &mut files, words)
 }
 
-/// Appends how a run with these arguments ends over the files.
+/// Appends how a run with the given arguments ends over the files.
 fn put_run_over(
     alloc: Global,
     text: &mut Vec<u8>,
@@ -60,7 +60,7 @@ pub(crate) fn put_run_and_read(
 }
 
 /// Appends the output of a run, its status in brackets, and its standard error. If this does not
-/// end with a line end, `<end>` is there in its place.
+/// end with a line end, `<end>` stands in its place.
 fn put_ending(
     text: &mut Vec<u8>,
     status: Status,
@@ -125,8 +125,8 @@ fn request_for(alloc: Global, file: &str, target: &str) -> Result<Request, Alloc
     })
 }
 
-/// Appends the output of a run, and how many of the sinks that take fewer bytes, down to none, end
-/// it with the status 4 and contain the front of this output.
+/// Appends the output of a run, and how many shorter limits for it, down to 0 bytes, end the run
+/// with status 4 after the front of the output.
 pub(crate) fn put_cut_off(
     alloc: Global,
     text: &mut Vec<u8>,
@@ -153,7 +153,7 @@ fn put_output(
     text.extend_from_slice(output.bytes())
 }
 
-/// Appends how many of the outputs that take fewer bytes than the text end a run as they should.
+/// Appends how many limits below the size of the text end a run as they should.
 fn put_cut(
     alloc: Global,
     text: &mut Vec<u8>,
@@ -170,8 +170,8 @@ fn put_cut(
     text.extend_from_slice(format!(in alloc; "{count} fail\n")?.as_bytes())
 }
 
-/// Whether a run whose standard output takes just as many bytes as these ends with the status 4,
-/// after these bytes.
+/// Whether a run whose standard output accepts exactly the given bytes ends with status 4 after
+/// them.
 fn ends_at(alloc: Global, files: &mut MemoryFiles, words: &[String], front: &[u8]) -> bool {
     let mut output = MemorySink::new(alloc, Some(front.len()));
     let mut error = MemorySink::new(alloc, None);
@@ -179,9 +179,9 @@ fn ends_at(alloc: Global, files: &mut MemoryFiles, words: &[String], front: &[u8
     status.code() == 4 && output.bytes() == front && error.bytes().is_empty()
 }
 
-/// Appends the standard error of a run, and how many of the sinks for it that take fewer bytes, down to
-/// none, leave its output unchanged and contain the front of this text. A run loses its mark then,
-/// which is a failure, and the line of a fault, which is none.
+/// Appends the standard error of a run, and how many shorter limits for it, down to 0 bytes, leave
+/// the output unchanged after the front of the errors. A run that loses its mark fails; one that
+/// loses the line of a fault does not.
 pub(crate) fn put_cut_off_errors(
     alloc: Global,
     text: &mut Vec<u8>,

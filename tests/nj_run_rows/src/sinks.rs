@@ -9,7 +9,7 @@ use std::io::{ErrorKind, Write};
 /// The lines that are written to the sinks.
 const LINES: &[u8] = b"mk a\nmk b1\n";
 
-/// Appends the bytes that a sink in memory takes of two lines within a limit, and how often it
+/// Appends the bytes of two lines that a sink in memory accepts within a limit, and how often it
 /// failed.
 pub(crate) fn put_to_memory(
     alloc: Global,
@@ -22,8 +22,8 @@ pub(crate) fn put_to_memory(
     put_ending(alloc, text, is_well, "failures", sink.failures())
 }
 
-/// Appends the bytes of two lines that a writer takes, at most so many at a call, where the call of
-/// this number is interrupted; and how often it was called.
+/// Appends the bytes of two lines that a writer accepts, at most a given number per call, where the
+/// call with the given number is interrupted; and how often it was called.
 pub(crate) fn put_to_writer(
     alloc: Global,
     text: &mut Vec<u8>,
@@ -53,7 +53,7 @@ fn put_ending(
     text.extend_from_slice(format!(in alloc; "[{ending}, {count} {counted}]\n")?.as_bytes())
 }
 
-/// Takes at most a given number of bytes at a call, and counts the calls. One call is interrupted.
+/// Accepts at most a given number of bytes per call, and counts the calls. One call is interrupted.
 #[derive(Drop)]
 struct Slow {
     taken: Vec<u8>,

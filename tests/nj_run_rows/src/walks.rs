@@ -6,7 +6,7 @@ use nj_tools::{Error, Mark, Needs};
 use std::alloc::{AllocError, Global};
 
 /// Appends how many edges the walk to a target returns from a mark on, and its turns. Where the row
-/// has a limit, the turns are counted only if they are more.
+/// has a limit, turns are counted only above it.
 pub(crate) fn put_walk(
     alloc: Global,
     text: &mut Vec<u8>,
