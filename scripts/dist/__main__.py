@@ -1,9 +1,12 @@
-"""Packs the proved binaries: python3 scripts/dist [--crates FOLDER] [--library FOLDER] [--log FILE] [OUT]
+"""Packs the proved binaries: python3 scripts/dist [--crates FOLDER] [--library FOLDER] [--log FILE]
+[--key FILE] [--builder URI] [OUT]
 
-Writes to OUT, an empty directory or by default dist/, an archive and two Debian packages of the programs that were built
-below FOLDER, by default crates/, and of the library for C, by default in lib/; a wheel of the Python
-package, which carries that library; PROVENANCE, which names their origins; and SHA256SUMS. The same
-programs and commit give the same bytes. What was not built is packed as the commit has it.
+Writes to OUT, an empty directory or by default dist/, an archive and two Debian packages of the programs
+that were built below FOLDER, by default crates/, and of the library for C, by default in lib/; a wheel
+of the Python package, which carries that library; PROVENANCE, which names their origins, and the same as
+an in-toto statement; and SHA256SUMS, signed if a private key of OpenSSH is given. The same programs
+and commit give the same bytes. What was not built is packed as the commit has it, and pages of which
+links lead nowhere are refused.
 
 The verdicts on the crates are those that `make` and `make c` kept, or that a log of `rt` has; if one
 is missing, nothing is packed. A binary that names no logic in which it was proved, or another one
@@ -18,12 +21,23 @@ from pathlib import Path
 
 sys.path[0] = str(Path(__file__).resolve().parents[1])
 
-from dist import committed, contents, debian, packing, provenance, wheel  # noqa: E402
+from dist import (  # noqa: E402
+    committed,
+    contents,
+    debian,
+    packing,
+    pages,
+    provenance,
+    signing,
+    statement,
+    wheel,
+)
 from dist.binaries import Refused, libc_needed, numbers  # noqa: E402
 from lib.programs import CRATES, ROOT  # noqa: E402
 from lib.proved import Unproved, logic  # noqa: E402
 
 OUT = ROOT / "dist"
+STATEMENT = "PROVENANCE.intoto.json"
 
 
 class Release:
@@ -34,6 +48,7 @@ class Release:
         self.version = committed.version()
         self.verdicts = provenance.verdicts_told(log)
         self.commit, self.time = provenance.commit()
+        self.pages = list(pages.of_archive())
         self.toolchain = provenance.toolchain()
         names = contents.PROGRAMS.items()
         self.programs = {f"bin/{name}": crates / it / "out" / it for name, it in names}
@@ -58,7 +73,8 @@ class Release:
 
     def archive(self):
         items = contents.of_programs(self.crates)
-        items += contents.of_library(self.library, "${pcfiledir}/../..") + contents.documents()
+        items += contents.of_library(self.library, "${pcfiledir}/../..")
+        items += self.pages
         name = f"ninja-explain-{self.version}-linux-x86_64"
         return f"{name}.tar.gz", packing.tarball(name, items, self.time)
 
@@ -82,7 +98,7 @@ class Release:
         return provenance.text(self, packing.checksums(items, "sha256"))
 
 
-def pack(release, out):
+def pack(release, out, builder=None):
     """Packs into an empty directory. Returns the names of the files."""
     name, content = release.archive()
     (out / name).write_bytes(content)
@@ -93,9 +109,10 @@ def pack(release, out):
         release.debian(debian.PROGRAM_PACKAGE, programs, release.libc, out),
         release.debian(debian.LIBRARY_PACKAGE, library, release.library_libc, out),
         release.wheel(out),
-        "PROVENANCE",
     ]
     (out / "PROVENANCE").write_text(release.provenance())
+    (out / STATEMENT).write_text(statement.text(release, out, names, builder))
+    names += ["PROVENANCE", STATEMENT]
     items = [contents.copy(out / name, name) for name in names]
     (out / "SHA256SUMS").write_text(packing.checksums(items, "sha256"))
     return [*names, "SHA256SUMS"]
@@ -117,6 +134,8 @@ def parsed():
     words.add_argument("--crates", type=Path, default=CRATES, metavar="FOLDER")
     words.add_argument("--library", type=Path, default=ROOT / "lib", metavar="FOLDER")
     words.add_argument("--log", type=Path, metavar="FILE")
+    words.add_argument("--key", type=Path, metavar="FILE")
+    words.add_argument("--builder", metavar="URI")
     words.add_argument("out", nargs="?", type=Path, default=OUT, metavar="OUT")
     return words.parse_args()
 
@@ -126,7 +145,9 @@ def main():
     log = words.log.read_text(errors="replace") if words.log else ""
     try:
         release = Release(words.crates, words.library, log)
-        names = pack(release, emptied(words.out))
+        names = pack(release, emptied(words.out), words.builder)
+        if words.key:
+            names.append(signing.sign(words.out / "SHA256SUMS", words.key))
     except (Refused, Unproved) as problem:
         print(f"dist: {problem}", file=sys.stderr)
         return 1

@@ -13,7 +13,8 @@ from dist.binaries import Refused
 from lib.programs import ROOT
 
 # Where they are; whatever else is packed was built.
-PLACES = ["CHANGELOG.md", "LICENSE", "README.md", "VERSION", "completions", "include", "man", "python"]
+PLACES = ["CHANGELOG.md", "LICENSE", "README.md", "SECURITY.md", "VERSION"]
+PLACES += ["completions", "docs", "examples", "include", "man", "python"]
 
 
 @functools.cache
@@ -25,6 +26,18 @@ def files():
         raise Refused(f"git archive failed: {ran.stderr.decode(errors='replace').strip()}")
     with tarfile.open(fileobj=io.BytesIO(ran.stdout)) as archive:
         return {it.name: archive.extractfile(it).read() for it in archive if it.isfile()}
+
+
+@functools.cache
+def names():
+    """The paths of all files and directories of the commit."""
+    words = ["git", "ls-tree", "-r", "-t", "-z", "--name-only", "HEAD"]
+    ran = subprocess.run(words, cwd=ROOT, capture_output=True, text=True, check=True)
+    return frozenset(ran.stdout.split("\0"))
+
+
+def has(path):
+    return path in names()
 
 
 def content(path):
@@ -43,5 +56,10 @@ def version():
 
 def below(folder, *suffixes):
     """The paths in a directory with one of these suffixes, sorted."""
-    names = {it: it.rpartition("/") for it in files()}
-    return sorted(it for it, (place, _, name) in names.items() if place == folder and name.endswith(suffixes))
+    parts = {it: it.rpartition("/") for it in files()}
+    return sorted(it for it, (place, _, name) in parts.items() if place == folder and name.endswith(suffixes))
+
+
+def all_below(folder):
+    """The paths of all files in a directory and in those below it, sorted."""
+    return sorted(it for it in files() if it.startswith(f"{folder}/"))

@@ -17,7 +17,6 @@ COMPLETIONS = {
     "_{}": "share/zsh/site-functions/_{}",
     "{}.fish": "share/fish/vendor_completions.d/{}.fish",
 }
-DOCUMENTS = ["README.md", "CHANGELOG.md", "LICENSE", "VERSION"]
 
 
 @dataclass(frozen=True)
@@ -68,7 +67,3 @@ def of_library(folder, prefix, libraries="lib"):
         Item(f"{libraries}/{LIBRARY}.so", target=f"{LIBRARY}.so.1"),
         Item(f"{libraries}/pkgconfig/ninja_explain.pc", text.encode()),
     ]
-
-
-def documents():
-    return [of_commit(name, name) for name in DOCUMENTS]

@@ -5,7 +5,7 @@ import textwrap
 from dataclasses import dataclass, replace
 from email.utils import formatdate
 
-from dist import committed
+from dist import committed, pages
 from dist.contents import LIBRARY, Item, of_commit
 from dist.packing import checksums, compressed
 
@@ -31,11 +31,13 @@ class Package:
 PROGRAM_PACKAGE = Package(
     "ninja-explain",
     "devel",
-    "explain a Ninja manifest without building anything",
-    "It writes what Ninja's own tools write of a manifest: commands, inputs,\n"
-    "targets, rules and a compilation database; or the first fault with its file,\n"
-    "line and column. It starts no program and changes no file. Every function is\n"
-    "proved to keep its contract, to be safe, and to end.",
+    "answer questions about a Ninja build without building anything",
+    "ninja-explain writes what Ninja's own tools write of a manifest: commands,\n"
+    "inputs, targets, rules and a compilation database; or the first fault with its\n"
+    "file, line and column. ninja-graph tells which outputs a change of files\n"
+    "affects, why a target depends on a file, and which command uses a file before\n"
+    "it is made. They start no program and change no file. Every function is proved\n"
+    "to keep its contract, to be safe, and to end.",
     (AS_BUILT,),
 )
 LIBRARY_PACKAGE = Package(
@@ -97,6 +99,7 @@ def package_items(package, items, version, libc, time):
     added = [
         Item(f"{documents}/changelog.gz", compressed(changelog(package, version, time).encode())),
         of_commit("LICENSE", f"{documents}/copyright"),
+        *pages.of_package(package.name),
     ]
     if overrides:
         added.append(Item(f"share/lintian/overrides/{package.name}", overrides.encode()))

@@ -4,7 +4,9 @@ They need no built program: `python3 scripts/dist_check commits` runs these chec
 these scripts packs stand-ins for the programs and the library, and a script stands in for `rt`.
 """
 
+import json
 import os
+import re
 import shutil
 import subprocess
 import sys
@@ -12,7 +14,7 @@ import tarfile
 import zipfile
 
 from dist.contents import LIBRARY, PROGRAMS
-from dist_check.packed import ARCHIVE, DEBS, run
+from dist_check.packed import ARCHIVE, DEBS, STATEMENT, prefixes, run
 from lib.checks import check, expect
 from lib.programs import ROOT
 
@@ -43,12 +45,19 @@ CHANGED = [
     "include/ninja_explain.pc.in",
     "README.md",
     "CHANGELOG.md",
+    "SECURITY.md",
     "LICENSE",
     "VERSION",
+    "docs/NINJA-GRAPH.md",
+    "examples/hello/build.ninja",
     "python/pyproject.toml",
     "python/README.md",
     "python/ninja_explain/_graph.py",
 ]
+# What says of the commit whether it has changes.
+OF_COMMIT = {"PROVENANCE", STATEMENT, "SHA256SUMS"}
+LINK = re.compile(r"!?\[((?:[^\[\]`]|`[^`\n]*`)*)\]\(([^)#\s]*)(?:#[^)\s]*)?\)")
+CODE = re.compile(r"^```.*?^```$|(?<!\[)`[^`\n]*`", re.M | re.S)
 IGNORED = ["include/ignored.h", "python/ninja_explain/ignored.py", "man/ignored.1", "completions/_ignored"]
 
 
@@ -128,7 +137,7 @@ def hidden_changes(folder):
             clone.git("update-index", how, path)
     end, found = clone.pack(folder / "changed")
     yield from expect("a changed clone", end, (0, ""))
-    changed = [name for name in differing(found, wanted) if name not in ("PROVENANCE", "SHA256SUMS")]
+    changed = [name for name in differing(found, wanted) if name not in OF_COMMIT]
     yield from expect("the changed packages", changed, [])
     clone.git("checkout", "--", CHANGED[0])
     end, found = clone.pack(folder / "hidden")
@@ -150,7 +159,7 @@ def ignored_files(folder):
     (clone.top / "include/added.h").write_text("PLANTED\n")
     end, found = clone.pack(folder / "added")
     changed = differing(found, wanted)
-    yield from expect("with a new file", (end, changed), ((0, ""), ["PROVENANCE", "SHA256SUMS"]))
+    yield from expect("with a new file", (end, changed), ((0, ""), sorted(OF_COMMIT)))
 
 
 def packed_texts(out):
@@ -158,7 +167,9 @@ def packed_texts(out):
     with tarfile.open(out / f"{ARCHIVE}.tar.gz") as archive:
         for it in archive.getmembers():
             path = it.name.removeprefix(f"{ARCHIVE}/").replace("share/man/man1/", "man/")
-            if it.isfile() and path.startswith(("man/", "include/", "README", "CHANGELOG", "LICENSE")):
+            if it.isfile() and path.startswith(("man/", "include/", "LICENSE", "docs/", "examples/")):
+                yield path, archive.extractfile(it).read()
+            if path in ("README.md", "CHANGELOG.md", "SECURITY.md"):
                 yield path, archive.extractfile(it).read()
     with zipfile.ZipFile(next(out.glob("*.whl"))) as wheel:
         for name in wheel.namelist():
@@ -166,9 +177,14 @@ def packed_texts(out):
                 yield f"python/{name}", wheel.read(name)
 
 
+def without_links(path, content):
+    """The text of a page with the text of each link in its place; other files unchanged."""
+    return LINK.sub(r"\1", content.decode()) if path.endswith(".md") else content
+
+
 @check(needs=NEEDS)
 def as_git_has_them(folder):
-    """Texts in the packages are those that git shows of the commit."""
+    """Texts in the packages are those that git shows of the commit, but for where the links of pages lead."""
     clone = Clone(folder)
     for path in sorted({*CHANGED} - {"VERSION", "python/pyproject.toml"}):
         append(clone.top / path)
@@ -176,8 +192,112 @@ def as_git_has_them(folder):
     found = dict(packed_texts(folder / "out"))
     words = ["git", "-C", clone.top, "cat-file", "blob"]
     wanted = {it: subprocess.run([*words, f"HEAD:{it}"], stdout=subprocess.PIPE).stdout for it in found}
+    found, wanted = ({it: without_links(it, text) for it, text in each.items()} for each in (found, wanted))
     yield from expect("how many", len(found) > 12, True)
     yield from expect("differences", differing(found, wanted), [])
+
+
+# ---- pages
+
+
+def dead_links(prefix):
+    """The links of the packed pages that lead to no packed file."""
+    for page in sorted(prefix.folder.rglob("*.md")):
+        for _, link in LINK.findall(CODE.sub("", page.read_text())):
+            if link and "://" not in link and not (page.parent / link).exists():
+                yield f"{prefix.name}: {page.relative_to(prefix.folder)} links {link}"
+
+
+@check(needs=NEEDS)
+def links_of_packed_pages(folder):
+    """The pages of the archive and of the Debian packages link only what is packed with them."""
+    clone = Clone(folder)
+    clone.pack(folder / "out")
+    for prefix in prefixes(folder / "out", folder):
+        names = {it.name for it in prefix.folder.rglob("*.md")}
+        yield from expect("its pages", {"README.md", "NINJA-GRAPH.md", "C.md", "PYTHON.md"} - names, set())
+        yield from dead_links(prefix)
+
+
+def refusal_after(clone, folder, change, *words):
+    """How a packing ends after a change that is committed, and the names of the packed files."""
+    change()
+    clone.git("-c", "user.name=check", "-c", "user.email=check", "commit", "-qam", "planted")
+    (status, error), found = clone.pack(folder / change.__name__, *words)
+    return status, error, sorted(found)
+
+
+@check(needs=NEEDS)
+def pages_with_dead_links(folder):
+    """A link to a file that the commit lacks, and a page that is missing, are refused."""
+    clone = Clone(folder)
+
+    def dead_link():
+        append(clone.top / "docs/DEPS.md", "\nSee [there](GONE.md).\n")
+
+    def missing_page():
+        clone.git("checkout", "-q", "HEAD~1", "--", "docs/DEPS.md")
+        clone.git("rm", "-q", "docs/NINJA-GRAPH.md")
+
+    said = "dist: docs/DEPS.md links GONE.md, and the commit has no file docs/GONE.md\n"
+    yield from expect("a dead link", refusal_after(clone, folder, dead_link), (1, said, []))
+    status, error, found = refusal_after(clone, folder, missing_page)
+    said = "and the commit has no file docs/NINJA-GRAPH.md\n"
+    yield from expect(f"a missing page: {error}", (status, error.endswith(said), found), (1, True, []))
+
+
+# ---- who made it
+
+
+def key_of(folder, name):
+    """A new key of OpenSSH, and the file that says whose signatures by it are allowed."""
+    key, allowed = folder / name, folder / f"{name}.allowed"
+    run("ssh-keygen", "-q", "-t", "ed25519", "-N", "", "-C", name, "-f", key, check=True)
+    allowed.write_text(f"{name} {(folder / f'{name}.pub').read_text()}")
+    return key, allowed
+
+
+def is_signed(out, allowed, name):
+    """Whether the signature holds, as SECURITY.md tells a user to find out."""
+    words = ["ssh-keygen", "-Y", "verify", "-f", allowed, "-I", name, "-n", "file"]
+    sums = (out / "SHA256SUMS").read_text()
+    return run(*words, "-s", out / "SHA256SUMS.sig", input=sums).returncode == 0
+
+
+@check(needs=[*NEEDS, "ssh-keygen"])
+def signatures(folder):
+    """The checksums are signed by the given key, and no other key or text fits the signature."""
+    clone, out = Clone(folder), folder / "out"
+    key, allowed = key_of(folder, "maker")
+    _, others = key_of(folder, "stranger")
+    end, _ = clone.pack(out, "--key", key)
+    yield from expect("the status", end, (0, ""))
+    yield from expect("signed", is_signed(out, allowed, "maker"), True)
+    yield from expect("signed by another key", is_signed(out, others, "stranger"), False)
+    append(out / "SHA256SUMS", "0  planted\n")
+    yield from expect("of another text", is_signed(out, allowed, "maker"), False)
+    end, found = clone.pack(folder / "no key", "--key", folder / "none")
+    yield from expect("without the key", (end[0], "SHA256SUMS.sig" in found), (1, False))
+
+
+@check(needs=NEEDS)
+def statement_of_origins(folder):
+    """The statement has the checksums of the packages, the commit, and no builder that nobody named."""
+    clone, out = Clone(folder), folder / "out"
+    clone.pack(out)
+    stated = json.loads((out / STATEMENT).read_text())
+    found = {it["name"]: it["digest"]["sha256"] for it in stated["subject"]}
+    sums = dict(reversed(line.split("  ")) for line in (out / "SHA256SUMS").read_text().splitlines())
+    wanted = {name: sum for name, sum in sums.items() if name not in ("PROVENANCE", STATEMENT)}
+    yield from expect("the subjects", found, wanted)
+    predicate = stated["predicate"]
+    source = predicate["buildDefinition"]["resolvedDependencies"][0]
+    yield from expect("the commit", source, {"name": "source", "digest": {"gitCommit": clone.commit}})
+    yield from expect("the builder", predicate["runDetails"]["builder"], {})
+    clone.pack(folder / "named", "--builder", "https://builder.example/1")
+    predicate = json.loads((folder / "named" / STATEMENT).read_text())["predicate"]
+    wanted = {"id": "https://builder.example/1"}
+    yield from expect("a named builder", predicate["runDetails"]["builder"], wanted)
 
 
 # ---- verdicts
@@ -200,7 +320,7 @@ def no_verdicts(folder):
     (clone.top / "bin/verdicts" / first).unlink()
     yield from is_refused(clone, folder, "one is missing", [first])
     end, found = clone.pack(folder / "by both", "--log", log)
-    yield from expect("by a log and a verdict", (end, len(found)), ((0, ""), 4 + len(DEBS)))
+    yield from expect("by a log and a verdict", (end, len(found)), ((0, ""), 5 + len(DEBS)))
     shutil.rmtree(clone.top / "bin/verdicts")
     yield from is_refused(clone, folder, "none is there", clone.crates)
     yield from is_refused(clone, folder, "a log lacks one", [last], "--log", log)

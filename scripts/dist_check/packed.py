@@ -19,6 +19,7 @@ Built = namedtuple("Built", "crates library log", defaults=[None])
 Prefix = namedtuple("Prefix", "name folder libraries environment")
 
 ARCHIVE = f"ninja-explain-{version()}-linux-x86_64"
+STATEMENT = "PROVENANCE.intoto.json"
 DEBS = [f"{it.name}_{version()}_amd64.deb" for it in (PROGRAM_PACKAGE, LIBRARY_PACKAGE)]
 
 
@@ -30,8 +31,8 @@ def run(*words, check=False, **how):
     return ran
 
 
-def pack(built, out):
-    words = ["--crates", built.crates, "--library", built.library]
+def pack(built, out, *more):
+    words = ["--crates", built.crates, "--library", built.library, *more]
     words += ["--log", built.log] if built.log else []
     return run(sys.executable, ROOT / "scripts/dist", *words, out)
 
@@ -43,7 +44,7 @@ def wheel_of(built):
 
 def files_of(built):
     """The names of all files that are packed."""
-    return {f"{ARCHIVE}.tar.gz", *DEBS, wheel_of(built), "PROVENANCE", "SHA256SUMS"}
+    return {f"{ARCHIVE}.tar.gz", *DEBS, wheel_of(built), "PROVENANCE", STATEMENT, "SHA256SUMS"}
 
 
 def unpack_archive(packed, folder):

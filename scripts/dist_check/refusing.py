@@ -4,7 +4,7 @@ import re
 import shutil
 
 from dist.contents import LIBRARY, PROGRAMS
-from dist_check.packed import ARCHIVE, DEBS, Built, files_of, pack, run
+from dist_check.packed import ARCHIVE, DEBS, STATEMENT, Built, files_of, pack, run
 from lib.checks import check, expect
 from lib.programs import ROOT
 
@@ -121,5 +121,5 @@ def changed_program(built, packed, folder):
     changed = {
         it.name for it in packed.iterdir() if it.read_bytes() != (folder / "out" / it.name).read_bytes()
     }
-    wanted = {f"{ARCHIVE}.tar.gz", DEBS[0], "PROVENANCE", "SHA256SUMS"}
+    wanted = {f"{ARCHIVE}.tar.gz", DEBS[0], "PROVENANCE", STATEMENT, "SHA256SUMS"}
     yield from expect("the files that differ", changed, wanted)
