@@ -24,6 +24,10 @@ _ninja_graph_options() {
         why) echo '--validations --no-order-only' ;;
         audit) echo '--all --only --except --json --list' ;;
         keys) echo '--base --take --resume' ;;
+        stale) echo '--why --no-manifest' ;;
+        tests)
+            echo '--ctest --source-dir -z --ignore --ignore-unknown --allow-empty --format --why --json --unnamed'
+            ;;
     esac
 }
 
@@ -63,7 +67,7 @@ _ninja_graph_words() {
         case $option in
             --) ended=yes ;;
             -C | -f | --deps-log-file | --source-dir | --ignore | --rule | --prefix | --only | --except | \
-                --base | --take | --resume | --limit | --inputs)
+                --base | --take | --resume | --limit | --inputs | --ctest | --format | --unnamed)
                 [[ ${COMP_WORDS[index + 1]} == '=' ]] && ((index++))
                 if ((++index >= COMP_CWORD)); then
                     wanted=$option
@@ -94,9 +98,11 @@ _ninja_graph_offer_value() {
     [[ $current == '=' ]] && current=''
     case $wanted in
         -C | --source-dir | --base) offer=(-d) ;;
-        -f | --deps-log-file) offer=(-f) ;;
+        -f | --deps-log-file | --ctest) offer=(-f) ;;
         --rule) _ninja_graph_offer_lines < <(_ninja_graph_rules) ;;
         --only | --except) offer=(-W "$(_ninja_graph_kinds)") ;;
+        --format) offer=(-W 'lines ctest') ;;
+        --unnamed) offer=(-W skip) ;;
     esac
 }
 
@@ -118,11 +124,11 @@ _ninja_graph() {
     elif [[ ! $subcommand && $current == -* ]]; then
         offer=(-W '-h --help -V --version')
     elif [[ ! $subcommand ]]; then
-        offer=(-W 'affected audit draw json keys why')
+        offer=(-W 'affected audit draw json keys stale tests why')
     elif [[ ! $ended && $current == -* ]]; then
         offer=(-W "-C -f --dyndep --deps --deps-log-file -h --help --
             $(_ninja_graph_options "$subcommand")")
-    elif [[ $subcommand == draw || $subcommand == keys || $subcommand == why ]]; then
+    elif [[ $subcommand == draw || $subcommand == keys || $subcommand == stale || $subcommand == why ]]; then
         _ninja_graph_offer_targets
     fi
 

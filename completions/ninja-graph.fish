@@ -17,6 +17,8 @@ function __ninja_graph_subcommands
         draw 'A drawing of the edges that targets need' \
         json 'Each edge as an object of JSON' \
         keys 'A key for each command that targets need' \
+        stale 'What Ninja would run now' \
+        tests 'The tests that a change of files reaches' \
         why 'A chain of inputs by which a file needs another'
 end
 
@@ -91,7 +93,7 @@ complete -c ninja-graph -n __ninja_graph_has_subcommand -l deps -d 'Join what bu
 complete -c ninja-graph -n __ninja_graph_has_subcommand -l deps-log-file -r -F -d 'The same, with this deps log'
 
 complete -c ninja-graph -n '__ninja_graph_is affected' -l source-dir -x \
-    -d 'The directory of the changed paths' -a '(__fish_complete_directories)'
+    -d 'A directory of the changed paths' -a '(__fish_complete_directories)'
 complete -c ninja-graph -n '__ninja_graph_is affected' -s z -d 'Paths are ended by zero bytes'
 complete -c ninja-graph -n '__ninja_graph_is affected' -l ignore -x -d 'Ignore paths that this glob matches'
 complete -c ninja-graph -n '__ninja_graph_is affected' -l rule -x -d 'Only edges with this rule' \
@@ -102,7 +104,7 @@ complete -c ninja-graph -n '__ninja_graph_is affected' -l ignore-unknown \
     -d 'Do not report paths that no edge names'
 complete -c ninja-graph -n '__ninja_graph_is affected' -l allow-empty -d 'Accept an input without a changed path'
 
-complete -c ninja-graph -n '__ninja_graph_is draw keys why' -a '(__ninja_graph_targets)'
+complete -c ninja-graph -n '__ninja_graph_is draw keys stale why' -a '(__ninja_graph_targets)'
 complete -c ninja-graph -n '__ninja_graph_is draw' -l affected -d 'Draw the edges that a change of the files affects'
 complete -c ninja-graph -n '__ninja_graph_is draw' -l fold -d 'Draw each phony edge as a point'
 complete -c ninja-graph -n '__ninja_graph_is draw' -l limit -x -d 'How many nodes at most'
@@ -122,3 +124,21 @@ complete -c ninja-graph -n '__ninja_graph_is keys' -l base -x -d 'Let a number s
     -a '(__fish_complete_directories)'
 complete -c ninja-graph -n '__ninja_graph_is keys' -l take -x -d 'Stop after so many commands'
 complete -c ninja-graph -n '__ninja_graph_is keys' -l resume -x -d 'Write the rest after this mark'
+
+complete -c ninja-graph -n '__ninja_graph_is stale' -l why -d 'Write the first reason after each output'
+complete -c ninja-graph -n '__ninja_graph_is stale' -l no-manifest \
+    -d 'Do not ask whether the manifest itself is stale'
+
+complete -c ninja-graph -n '__ninja_graph_is tests' -l ctest -r -F -d 'What ctest --show-only=json-v1 wrote'
+complete -c ninja-graph -n '__ninja_graph_is tests' -l source-dir -x \
+    -d 'A directory of the changed paths' -a '(__fish_complete_directories)'
+complete -c ninja-graph -n '__ninja_graph_is tests' -s z -d 'Paths are ended by zero bytes'
+complete -c ninja-graph -n '__ninja_graph_is tests' -l ignore -x -d 'Ignore paths that this glob matches'
+complete -c ninja-graph -n '__ninja_graph_is tests' -l ignore-unknown \
+    -d 'Do not report paths that no edge names'
+complete -c ninja-graph -n '__ninja_graph_is tests' -l allow-empty -d 'Accept an input without a changed path'
+complete -c ninja-graph -n '__ninja_graph_is tests' -l format -x -d 'How the tests are written' -a 'lines ctest'
+complete -c ninja-graph -n '__ninja_graph_is tests' -l why -d 'Write why each test is chosen, too'
+complete -c ninja-graph -n '__ninja_graph_is tests' -l json -d 'An object of JSON for each test'
+complete -c ninja-graph -n '__ninja_graph_is tests' -l unnamed -x \
+    -d 'What becomes of tests that name no file of the build' -a skip
