@@ -109,7 +109,7 @@ edits:
 	@python3 scripts/edits.py $(if $(ALL),--all) $(CRATES)
 
 # The gate: every proof from nothing and the stored runs, by `rt ci`; the must-fail edits of the crates
-# that changed since theirs were refused, and of two others; and `make smoke`. With ALL=1 it tries all
+# that changed since theirs were refused, and some of two others; and `make smoke`. With ALL=1 it tries all
 # edits. The program remains in $(BUILT).
 gate:
 	@scripts/gate.sh $(if $(ALL),--all)
@@ -188,9 +188,11 @@ uninstall:
 
 # Packs the program and the library for C, which are proved first if they were not, in dist/: an
 # archive, Debian packages, their provenance, and checksums. With LOG=FILE the verdicts come
-# from a log of the gate; else they are those that `make` and `make c` kept.
+# from a log of the gate; else they are those that `make` and `make c` kept. KEY=FILE is a private key of
+# OpenSSH that signs the checksums, and BUILDER=URI names who builds.
 dist: $(BUILT) $(GRAPH) $(LIBRARY).so
-	@python3 scripts/dist $(if $(LOG),--log "$(LOG)")
+	@python3 scripts/dist $(if $(LOG),--log "$(LOG)") $(if $(KEY),--key "$(KEY)") \
+	$(if $(BUILDER),--builder "$(BUILDER)")
 
 # Packs the Python package with the library for C in dist/.
 wheel: $(LIBRARY).so

@@ -12,7 +12,7 @@ with status 1 if the page says otherwise.
 NAME is `run_words` by default; `commands_law` for the headline, with the run that it is about;
 `run_read_words`, which `main` of ninja-explain calls; `nj_c` for the exports of the library for C;
 or `ninja_graph` for its contracts, those of the calls that `nj_ask` exports, and those of the keys
-and findings that it writes. `all` prints a line for each of these.
+and findings that it writes. `all` prints a line for each NAME.
 
 It starts at the contract and follows each name in it to its definition, each name in that
 definition, and so on. Definitions are those in crates/*/specs and, in crates/*/src, the value and
@@ -204,7 +204,7 @@ def rust(file):
 
 @cache
 def declared(crate, name):
-    """The type or trait with this name that a crate declares, or re-exports from another one."""
+    """The type or trait with the given name that a crate declares, or re-exports from another crate."""
     for file in sorted((CRATES / crate).glob("src/**/*.rt")):
         of, text = rust(file)
         if found := re.search(rf"^pub (struct|enum|trait) {name}\b", text, re.M):
@@ -215,7 +215,7 @@ def declared(crate, name):
 
 
 def type_at(of, name, text, found):
-    """A type as contracts see it: its model if it has one, or else its declaration."""
+    """A type as contracts see it: its model, if any, or else its declaration."""
     whole = block_at(text, found.start())
     if model := re.search(rf"^impl\b.* Model for {name}\b", text, re.M):
         whole = members(block_at(text, model.start()), MODEL)
@@ -239,7 +239,7 @@ def contracts(file):
         end = re.compile(r"^ *\{|;$", re.M).search(text, found.start())
         head = text[found.start() : end.start()] if end else ""
         clause = re.search(r"^\s*(?:requires|ensures)\b", head, re.M)
-        # where there is none, the brace of the body ends the signature's last line
+        # without a clause, the brace of the body ends the signature's last line
         if clause and not re.search(r"\{$", head[: clause.start()], re.M):
             yield found[1], Definition(of, found[1], head)
 
@@ -288,7 +288,7 @@ def libraries():
 
 
 def call(word):
-    """The contract of the call that a word names, and its title. It stops where there is not one."""
+    """The contract of the call that a word names, and its title. It stops unless one call has the name."""
     first, _, others = word.partition("::")
     crates, title = ([first], others) if first in libraries() else (libraries(), word)
     known = [(it, had) for crate in crates for it, had in calls_of(crate)]
@@ -314,7 +314,7 @@ def named_in(definition):
 
 
 def reached(starts):
-    """All definitions that are reached from these, without duplicates."""
+    """All definitions that are reached from the starts, without duplicates."""
     found, pending = [], list(starts)
     while pending:
         if (definition := pending.pop()) not in found:

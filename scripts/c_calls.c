@@ -4,9 +4,9 @@
 
    For each project it makes every call of ninja_explain.h on a session that is closed, open,
    loaded, loaded again, opened again and closed twice: with numbers that no edge or file has,
-   buffers that are too small, null pointers of length 0, and words and marks that mean nothing.
-   A call that gives many items has to give what was given one at a time. What files need, chains of
-   inputs, undeclared inputs, dirty edges and files from which the manifest is made have to be those
+   buffers that are too small, null pointers of length 0, and invalid arguments and marks. A call
+   that returns many items has to return the same items as one at a time. What files need, chains of
+   inputs, undeclared inputs, dirty edges and files on which the manifest depends have to be those
    that searches of its own find.
    Each status has to be one that the header names for the call and the state of the session, a
    buffer may only be written where a text goes, and after the last close no block of memory may be
@@ -70,7 +70,7 @@ void __wrap_free(void *block)
 
 #define OF(status) (1u << NX_##status)
 
-/* A text that is handed in. */
+/* A text that a call takes. */
 struct text {
     const uint8_t *bytes;
     size_t length;
@@ -274,7 +274,7 @@ static size_t fitting(size_t length, size_t from, size_t room)
     return left < room ? left : room;
 }
 
-/* Gives the inputs of an edge as files. There is other room for their kinds, which are checked. */
+/* Returns the inputs of an edge as files. A separate array takes their kinds, which are checked. */
 static int32_t give_inputs(nx_session *of, size_t edge, size_t from, size_t *files, size_t room,
                            size_t *count)
 {
@@ -610,7 +610,7 @@ static int is_input(size_t edge, size_t file, int32_t kind)
     return 0;
 }
 
-/* How many steps a shortest chain has from the file that was measured to another; FAR if there is none. */
+/* How many steps a shortest chain has from the measured file to another; FAR without a chain. */
 static size_t steps_to(size_t found, size_t file, int with_validations)
 {
     for (size_t place = 0; place < found; place++) {
@@ -624,7 +624,7 @@ static size_t steps_to(size_t found, size_t file, int with_validations)
     return FAR;
 }
 
-/* Asks for what a file needs: all edges of the search, each once, none before a nearer one. */
+/* Lists what a file needs: all edges of the search without duplicates, none before a nearer edge. */
 static void try_nearest(size_t file)
 {
     unsigned known = if_known(file, file_count, OF(DONE)) | OF(OUT_OF_MEMORY);
@@ -648,7 +648,7 @@ static void try_nearest(size_t file)
 static nx_step steps[MOST_MANY + GUARD];
 static const nx_step no_step = { NO_ITEM, NO_ITEM, NO_KIND };
 
-/* Asks for a chain with room for some steps. All but these stay as they are. */
+/* Asks for a chain with room for some steps. The rest of the array is unchanged. */
 static int32_t ask_path(size_t from, size_t to, uint32_t with_validations, size_t room, size_t *count,
                         unsigned statuses)
 {
@@ -664,7 +664,7 @@ static int32_t ask_path(size_t from, size_t to, uint32_t with_validations, size_
     return status;
 }
 
-/* Each step has to be one, and to begin where the one before it ends. */
+/* Each step has to be an input of its edge, and to begin where the step before it ends. */
 static void expect_chain(size_t from, size_t to, size_t count)
 {
     size_t file = from, edge;
@@ -773,7 +773,7 @@ static size_t project_files;
 
 #define ADDED (OF(DONE) | OF(OUT_OF_MEMORY))
 
-/* Hands in the file that is wanted. Returns whether that could be done. */
+/* Supplies the file that is wanted. Returns whether that could be done. */
 static int hand_in(void)
 {
     for (size_t at = 0; at < project_files; at++) {
@@ -785,7 +785,7 @@ static int hand_in(void)
     return IF_OPEN(ADDED, nx_add_absent(&session, given, given_length)) == NX_DONE;
 }
 
-/* Hands in all files that are wanted. Returns whether that could be done. */
+/* Supplies all files that are wanted. Returns whether that could be done. */
 static int hand_in_all(void)
 {
     size_t index = 0;
@@ -864,7 +864,7 @@ static void put_path(struct text path, uint32_t number)
     put_word(~number);
 }
 
-/* The path of this number depends on that of another one, since a time. */
+/* The path with the given number depends on the path with another number, since a time. */
 static void put_dependency(uint32_t output, uint32_t input)
 {
     put_word(4 * 4 | (uint32_t)1 << 31);
@@ -874,7 +874,7 @@ static void put_dependency(uint32_t output, uint32_t input)
     put_word(input);
 }
 
-/* An edge with a value of `deps`, if there is one; its first output is then in `given`. */
+/* An edge with a value of `deps`, if any; its first output is then in `given`. */
 static int find_with_deps(size_t *edge)
 {
     variable = (struct text){ (const uint8_t *)"deps", 4 };
@@ -891,8 +891,8 @@ static int find_with_deps(size_t *edge)
 static nx_edge_input undeclared[MOST_MANY + GUARD];
 static const nx_edge_input no_input = { NO_ITEM, NO_ITEM };
 
-/* Asks for the inputs that the log has and no edge declares, with room for some. All but these stay as
-   they are. */
+/* Asks for the inputs that the log has and no edge declares, with room for some. The rest of the
+   array is unchanged. */
 static int32_t ask_undeclared(size_t room, size_t *count, unsigned statuses)
 {
     for (size_t at = 0; at < room + GUARD; at++)
@@ -907,8 +907,8 @@ static int32_t ask_undeclared(size_t room, size_t *count, unsigned statuses)
     return status;
 }
 
-/* Asks for them, and each has to be made by another edge than its own, which has no such input. Returns
-   how many there are, or 0 if these are too many. */
+/* Lists the undeclared inputs. Each has to be made by another edge than its own, which has no such
+   input. Returns how many exist, or 0 if they do not fit. */
 static size_t list_undeclared(unsigned statuses)
 {
     size_t count = 0, same = 0, maker = 0;
@@ -1041,7 +1041,7 @@ static void try_logs(void)
 
 static uint64_t times[MOST_MANY];
 
-/* Joins by the log and the times, and hands in the depfiles that are wanted, all at once. */
+/* Joins by the log and the times, and supplies the depfiles that are wanted, all at once. */
 static int32_t discover(unsigned statuses)
 {
     int32_t status = NX_WANTED;

@@ -1,7 +1,7 @@
 /*
- * Counts loads: c_loads FOLDER JOINS loads build.ninja of a folder by ninja_explain_files.h, and prints
- * how many loads that took, how many files it handed in, and how it ended. The status is 0 if the
- * folder was loaded.
+ * Counts loads: c_loads FOLDER JOINS loads build.ninja of a directory by ninja_explain_files.h, and prints
+ * how many loads that took, how many files it supplied, and how it ended. The status is 0 if the
+ * directory was loaded.
  */
 #define _POSIX_C_SOURCE 200809L
 #include <ninja_explain.h>

@@ -1,13 +1,14 @@
 #!/usr/bin/env python3
 """Tests the library for C in lib/: c_test.py [--cases N] PROGRAM GRAPH_PROGRAM
 
-The example examples/c and the Python package python/ have to give what the program gives: on examples/project, on what CMake writes for examples/cmake, and on a manifest of 2,000 included
-files; whole, in pages, and where there is a fault. So have runs of the program's arguments by the
-library, tool by tool. Names that collide under a known key may take at most four times as long as
-others. A deps log that Ninja wrote has to give the inputs that are known of it, the undeclared ones
-that Ninja reports, and the edges that Ninja would run. c_calls.c makes every call on N manifests with changes (`lib/strangers.py` makes them), and while
-allocations are refused, with 256 KB of stack. Where valgrind is installed, it may find nothing in
-the C example, nor in some of these cases.
+The example examples/c and the Python package python/ have to write what the program writes: on
+examples/project, on what CMake writes for examples/cmake, and on a manifest of 2,000 included files;
+whole, in pages, and with a fault. So have runs of the program's arguments by the library, tool by
+tool. Names that collide under a known key may take at most four times as long as others. A deps log
+that Ninja wrote has to add the inputs that are known of it, the undeclared inputs that Ninja reports,
+and the edges that Ninja would run. c_calls.c makes every call on N changed manifests
+(`lib/strangers.py` makes them), and while allocations are refused, with 256 KB of stack. Valgrind, if
+installed, may find nothing in the C example, nor in some of the cases.
 
 Prints how much was tried, and the problems. The status is 1 if anything is wrong.
 """
@@ -326,7 +327,7 @@ def try_chain(tests, name, folder, recipe, start, end):
 
 
 def step_count(graph, start, end):
-    """How many steps a shortest chain has between two words; 0 if there is none."""
+    """How many steps a shortest chain has between two words; 0 without a chain."""
     try:
         files, last = {graph.target(start)}, graph.target(end)
     except ninja_explain.Fault:

@@ -7,7 +7,7 @@ PROGRAM, with its arguments, reads changed paths from standard input. It has to 
 build.ninja in its working directory that they affect, one per line. It runs on manifests like the ones
 of CMake and LLVM with N edges, and on each for N changes, which are random files. The outputs that
 Ninja's `query` lists for a file belong to the edges that have it as an input. So the affected
-targets are these, those that `query` lists for them, and so on. Each difference is printed. The last
+targets are those outputs, what `query` lists for them, and so on. Each difference is printed. The last
 line has the counts.
 """
 

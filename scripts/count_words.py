@@ -16,7 +16,7 @@ import sys
 import tarfile
 from collections import Counter
 
-from lib.phrases import NEVER, SELDOM, finds, prose
+from lib.phrases import IN_PAGES, NEVER, SELDOM, finds, prose
 from lib.programs import ROOT
 
 # The kinds of files, each with the paths of its files; the first that fits counts.
@@ -29,6 +29,7 @@ KINDS = {
     "scripts": r"(scripts|bench|python|examples)/.*\.(py|sh|c|h)|Makefile|include/.*\.h",
 }
 COUNTED = list(KINDS)[1:]
+PHRASES = NEVER | IN_PAGES | SELDOM
 
 
 def kind_of(name):
@@ -57,7 +58,7 @@ def counted(files):
     """How often each phrase is in each kind of file."""
     counts = Counter()
     for name, text in files:
-        for _, _, phrase in finds({**NEVER, **SELDOM}, prose(name, text)):
+        for _, _, phrase in finds(PHRASES, prose(name, text)):
             counts[phrase, kind_of(name)] += 1
     return counts
 
@@ -70,21 +71,21 @@ def print_table(*columns):
         return " -> ".join(str(counts[key]) for counts in columns)
 
     row(COUNTED, "phrase")
-    for phrase in [*NEVER, *SELDOM]:
+    for phrase in PHRASES:
         row([cell((phrase, kind)) for kind in COUNTED], phrase[:60])
 
 
 def main():
     parser = argparse.ArgumentParser(description=__doc__.split("\n")[0])
     parser.add_argument("--at", metavar="COMMIT", help="count in the files of a commit")
-    parser.add_argument("--before", metavar="COMMIT", help="count in those of this one too")
-    parser.add_argument("--show", metavar="PHRASE", help="print each place of such phrases")
+    parser.add_argument("--before", metavar="COMMIT", help="count in those of another commit too")
+    parser.add_argument("--show", metavar="PHRASE", help="print each place of phrases with this text")
     words = parser.parse_args()
     files = list(files_at(words.at) if words.at else files_now())
     if words.show is None:
         print_table(*([counted(files_at(words.before))] if words.before else []), counted(files))
         return 0
-    phrases = [phrase for phrase in {**NEVER, **SELDOM} if words.show in phrase]
+    phrases = [phrase for phrase in PHRASES if words.show in phrase]
     for name, text in files:
         if kind_of(name) in COUNTED:
             for line, found, _ in finds(phrases, prose(name, text)):

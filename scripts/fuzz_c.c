@@ -13,7 +13,7 @@
        %%a
        build x: phony
 
-   Texts are handed in where memory ends behind them. Memory of the library has signs around each
+   Texts are supplied where memory ends behind them. Memory of the library has signs around each
    block, is overwritten when it is freed, and is refused beyond a limit. libFuzzer sees no code of
    the library, so what the calls return counts as coverage. If anything is wrong it is printed, and
    the process aborts. With PLANTED it expects what is not so. */
@@ -89,7 +89,7 @@ struct head {
 static const uint64_t SIGN = 0x9e3779b97f4a7c15u;
 static size_t held;
 
-/* The head of a block, whose signs have to be as they were. */
+/* The head of a block, whose signs have to be unchanged. */
 static struct head *head_of(void *block)
 {
     struct head *head = (struct head *)block - 1;
@@ -148,7 +148,7 @@ void *__real_realloc(void *old, size_t size)
     return block;
 }
 
-/* ---- texts that are handed in ---- */
+/* ---- texts that are supplied ---- */
 
 enum { ROOM = 1 << 16, MOST_SECTIONS = 12 };
 /* Where copies go: two for each file, and those for what a call takes. */
@@ -303,7 +303,7 @@ static void keep_known_targets(void)
     target_count = kept;
 }
 
-/* Makes the defaults the targets. Returns whether these are all of them. */
+/* Makes the defaults the targets. Returns whether all of them fit. */
 static int take_defaults(void)
 {
     size_t file = 0;
@@ -609,7 +609,7 @@ static void ask_wanted(struct text argument)
     TEXT(if_open, nx_wanted, taken_number(&argument), OF(DONE) | OF(NOTHING));
 }
 
-/* Hands in the content of one file by the name of another. */
+/* Supplies the content of one file by the name of another. */
 static void add_file(struct text argument)
 {
     if (project_files == 0)
@@ -771,7 +771,7 @@ static void ask_found(struct text argument)
     TEXT(if_open, give_mark, 0, each);
 }
 
-/* Runs once, or until nothing more is wanted. The graph stays as it is. */
+/* Runs once, or until nothing more is wanted. The graph is unchanged. */
 static void run_by(int32_t running(struct text words, unsigned statuses), struct text words)
 {
     size_t edges = 0;

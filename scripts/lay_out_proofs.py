@@ -14,7 +14,7 @@ from lib.programs import ROOT
 
 # How wide a line may be.
 WIDTH = 110
-# How well a line is broken before a word, or after one; any other place is worse than these.
+# How well a line is broken before a word, or after a word; any other place is worse.
 BEFORE = {"→": 0, "in": 0, "∙": 1, "×": 1, "⊎": 1, "↔": 1, "|": 1, "&&": 2, "||": 2, "≡": 2, "++": 3}
 AFTER = {";": 0, "=": 0, "↦": 0, ",": 1}
 WORST = 4

@@ -1,6 +1,6 @@
 #!/usr/bin/env python3
 """Writes docs/reference/, a page for each library: its public calls with their documentation, their
-contracts, and the edits and tests that show that these say something. Calls that the crate for clients
+contracts, and the edits and tests that show what the contracts say. Calls that the crate for clients
 re-exports are on its page alone.
 
     reference.py            writes the pages, and removes those of crates that are gone

@@ -6,8 +6,8 @@ with tests, and each program on the files that lie beside its `src/` (`args`, `s
 built there with run-time checks and run by `rt try`, several side by side. A program has to write the
 text of its file `stdout` and to end with the status in its file `status`. Where it ends with the line
 `N rows, M differ`, each of its rows counts. The layout of the sources in tests/ is compared, and
-`make lint` runs. With names of crates only these are run, and with --rows only the rows of
-tests/*/data/NAME.rows. With --lay-out the sources in tests/ are laid out, as by `rt fmt`.
+`make lint` runs. With names of crates only those crates are run, and with --rows only the
+rows of tests/*/data/NAME.rows. With --lay-out the sources in tests/ are laid out, as by `rt fmt`.
 
 A failure is told with the name of its test or row. A run that does not say how it ended fails. The
 last line is `N passed, M failed`, and the status is 1 if anything failed.
@@ -97,7 +97,7 @@ def run_tests(folder):
 
 
 def bytes_of(file):
-    """The contents of a file, or nothing where there is none."""
+    """The contents of a file; nothing if it is missing."""
     return file.read_bytes() if file.is_file() else b""
 
 
@@ -229,7 +229,7 @@ def run_all(work, jobs):
 
 
 def crate_of_rows(name):
-    """The crate of tests/ that has the file of rows of this name."""
+    """The crate of tests/ that has the file of rows with the given name."""
     found = sorted(TESTS.glob(f"*/data/{name}.rows"))
     if not found:
         known = " ".join(sorted(file.stem for file in TESTS.glob("*/data/*.rows")))

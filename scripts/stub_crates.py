@@ -64,7 +64,7 @@ def stubbed(text, crate):
 
 
 def stub_sources(folder):
-    """Gives the functions of a crate other bodies. Returns whether it has functions."""
+    """Replaces the bodies of the functions of a crate. Returns whether it has functions."""
     crate, texts = folder.name, {file: file.read_text() for file in folder.glob("src/**/*.rt")}
     found = {file: stubbed(text, crate) for file, text in texts.items()}
     if not sum(count for _, count in found.values()):

@@ -4,7 +4,7 @@
 `rt try` builds the program without any proof, and runs it with WORDS, by default `-t commands`, in a
 new directory with a copy of each `*.ninja` file in FOLDER and below it. It has no other files of
 FOLDER, such as dyndep files. WORDS is split as a shell does it, so an argument may have quotes; after
-an argument `;` comes another question, for which nothing is built anew.
+an argument `;` comes another question, for which nothing is built again.
 
 `rt try` refuses runs that take more than a minute or write more than 1 MiB. This script then prints
 which of the two it was. It ends with the status of `rt try`.

@@ -4,9 +4,9 @@
  *     commands [-f FILE] [--take N] [--resume MARK] [TARGET..]
  *
  * FILE, by default build.ninja, and all files that it includes are read from the disk. After N
- * commands it stops; if any are left, it writes the mark for --resume to the error output. The
- * status is 0 at the end, 1 after a fault, 2 on a usage error, 3 if it stopped before the
- * end, and 4 if the output could not be written.
+ * commands it stops; if any are left, it writes the mark for --resume to standard error. The status
+ * is 0 at the end, 1 after a fault, 2 on a usage error, 3 if it stopped before the end, and 4 if
+ * standard output failed.
  */
 #define _DEFAULT_SOURCE
 #include <ninja_explain_files.h>
@@ -17,7 +17,7 @@
 
 enum ending { DONE, FAULT, USAGE, STOPPED, OUTPUT_FAILED };
 
-/* Bytes with room for more. What a call gives is followed by a zero byte. */
+/* Bytes with room for more. A zero byte follows what a call returns. */
 struct text {
     char *bytes;
     size_t length;
@@ -38,7 +38,7 @@ struct request {
     size_t word_count;
 };
 
-/* Makes room for this many bytes. Returns whether there is memory for them. */
+/* Makes room for a number of bytes. Returns whether memory sufficed. */
 static int reserve(struct text *text, size_t needed)
 {
     if (needed <= text->size)
@@ -51,7 +51,7 @@ static int reserve(struct text *text, size_t needed)
     return 1;
 }
 
-/* ---- calls that give a text ---- */
+/* ---- calls that return a text ---- */
 
 typedef int32_t giving(nx_session *, size_t number, void *buffer, size_t size, size_t *needed);
 
@@ -69,7 +69,7 @@ static int32_t give_fault(nx_session *session, size_t number, void *buffer, size
     return nx_fault_line(session, buffer, size, needed);
 }
 
-/* Gets the text that a call gives, in a buffer that grows. */
+/* Gets the text that a call returns, in a buffer that grows. */
 static int32_t get(giving *call, nx_session *session, size_t number, struct text *text)
 {
     int32_t status;
@@ -86,7 +86,7 @@ static int32_t get(giving *call, nx_session *session, size_t number, struct text
 
 /* ---- files ---- */
 
-/* Loads the main file and all that it includes, wherever that is, and tells of a file that fails. */
+/* Loads the main file and all that it includes, wherever that is, and reports a file that fails. */
 static int32_t load(nx_session *session, const char *main)
 {
     struct nx_files files = NX_FILES_IN("");
@@ -100,7 +100,7 @@ static int32_t load(nx_session *session, const char *main)
 
 /* ---- targets and commands ---- */
 
-/* Adds a file. Returns whether there is memory for it. */
+/* Adds a file. Returns whether memory sufficed. */
 static int push(struct files *files, size_t file)
 {
     if (files->count == files->size) {
@@ -115,7 +115,7 @@ static int push(struct files *files, size_t file)
     return 1;
 }
 
-/* The target at an index: that of a word, or one of the defaults if there are no words. */
+/* The target at an index: that of an argument or, without arguments, one of the defaults. */
 static int32_t pick_target(nx_session *session, const struct request *request, size_t index,
                            size_t *file)
 {
@@ -196,7 +196,7 @@ static enum ending end(nx_session *session, int32_t status)
     return ending;
 }
 
-/* Reads the words. Returns whether they are a request. */
+/* Reads the arguments. Returns whether they are a request. */
 static int read_words(int count, char **words, struct request *request)
 {
     static const struct option options[] = {

@@ -1,12 +1,12 @@
 /*
- * Writes which edges use files without declaring them, by the deps log of a build: a line with the first
- * output of the edge and the file, for each file that another edge makes and that the edge may not wait
- * for. It is what `ninja -t missingdeps` looks for.
+ * Writes which edges use files without declaring them, by the deps log of a build: for each file that
+ * another edge makes and for which the edge may not wait, a line with the first output of the edge and
+ * the file. `ninja -t missingdeps` looks for the same.
  *
  *     undeclared
  *
- * build.ninja, all files that it includes and .ninja_deps are read in the working folder. The status is 0 if
- * there is none, 3 if there is one, and 1 after a fault.
+ * build.ninja, all files that it includes and .ninja_deps are read in the working directory. The status is
+ * 3 if any such file is found, 0 if not, and 1 after a fault.
  */
 #define _DEFAULT_SOURCE
 #include <ninja_explain_files.h>
@@ -27,7 +27,7 @@ static void write_path(nx_session *session, size_t file)
         printf("file %zu", file);
 }
 
-/* Writes the undeclared inputs, as many as there is room for, and gives how many there are. */
+/* Writes the undeclared inputs, as many as fit, and returns how many exist. */
 static int32_t write_undeclared(nx_session *session, struct nx_files *files, size_t *count)
 {
     static nx_edge_input inputs[MOST_INPUTS];
@@ -48,7 +48,7 @@ static int32_t write_undeclared(nx_session *session, struct nx_files *files, siz
     return NX_DONE;
 }
 
-/* Tells what went wrong. */
+/* Reports what went wrong. */
 static void tell(nx_session *session, int32_t status, const struct nx_files *files)
 {
     char line[MOST_BYTES];

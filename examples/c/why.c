@@ -1,12 +1,12 @@
 /*
- * Writes why a target needs a file: a shortest chain of inputs from the one to the other. Files that the
- * compiler discovered are inputs too, if there is a deps log.
+ * Writes why a target needs a file: a shortest chain of inputs from the target to the file. With a deps
+ * log, compiler-discovered files are inputs too.
  *
  *     why TARGET FILE
  *
  * build.ninja, all files that it includes and .ninja_deps are read in the working directory. The chain has
- * a line for each file. The status is 0 if there is a chain, 1 if there is none or after a fault, and 2
- * on a usage error.
+ * a line for each file. The status is 0 if a chain exists, 1 if not or after a fault, and 2 on a usage
+ * error.
  */
 #define _DEFAULT_SOURCE
 #include <ninja_explain_files.h>
@@ -74,7 +74,7 @@ static int32_t explain(nx_session *session, char **words, struct nx_files *files
     return status == NX_DONE ? write_count(session, target) : status;
 }
 
-/* Tells what went wrong. */
+/* Reports what went wrong. */
 static void tell(nx_session *session, int32_t status, const struct nx_files *files)
 {
     char line[MOST_BYTES];

@@ -1,13 +1,13 @@
 #!/usr/bin/env python3
-"""Has a C project of CMake explained to clang-tidy: try.py [PROGRAM]
+"""Explains a C project of CMake to clang-tidy: try.py [PROGRAM]
 
-PROGRAM is ninja-explain, else bin/ninja-explain. It needs cmake, ninja, cc, jq and clang-tidy.
+PROGRAM is ninja-explain, by default bin/ninja-explain. It needs cmake, ninja, cc, jq and clang-tidy.
 
-CMake writes a manifest for the project of this directory, in a build directory in a temporary place. Of
-that `PROGRAM -t compdb` writes a compilation database. This has to be an array as jq sees it, the
+CMake writes a manifest for the project of this directory, in a temporary build directory. From it
+`PROGRAM -t compdb` writes a compilation database. The database has to be an array as jq sees it, the
 same as `ninja -t compdb` writes, and to have the commands that CMake itself writes for the sources.
-Then clang-tidy reads it: it has to find the project's header, for which a command is all it has to
-go by, and not to find it where the command lacks the include path.
+Then clang-tidy reads it: it has to find the project's header, for which it knows only the command,
+and has to fail if the command lacks the include path.
 
 Prints the problems, or that all is well. The status is 1 if anything is wrong.
 """
@@ -54,7 +54,7 @@ def without_phony(entries, build):
 
 
 def without_depfile(command):
-    """The words of a command, but for those that have the compiler write a depfile. CMake leaves
+    """The words of a command, without those that make the compiler write a depfile. CMake leaves
     them out of its own database. The output and the source may come in any order."""
     words, kept = iter(shlex.split(command)), []
     for word in words:
@@ -74,7 +74,7 @@ def commands_of_sources(entries):
 
 
 def finds_header(entries, folder):
-    """Whether clang-tidy can read the sources by a database of these entries, and its output."""
+    """Whether clang-tidy can read the sources by a database of the entries, and its output."""
     (folder / "compile_commands.json").write_text(json.dumps(entries))
     words = ["clang-tidy", "--quiet", "--checks=-*,bugprone-*", "-p", str(folder)]
     ran = subprocess.run([*words, *sorted(SOURCES)], cwd=folder, capture_output=True, text=True)

@@ -46,10 +46,10 @@ def page():
     every, found = set(), {name: set() for name in SUBCOMMANDS}
     for tag, after in tagged("OPTIONS"):
         options = set(re.findall(r"(?<![\w-])--?[A-Za-z][\w-]*|--$", tag))
-        if owner := re.fullmatch(r"\.RB \( (\w+) \)", after):
-            found.setdefault(owner[1], set()).update(options)
-        else:
-            every |= options
+        owners = re.fullmatch(r'\.RB \( (\w+(?: ", " \w+)*) \)', after)
+        for owner in owners[1].split(' ", " ') if owners else ():
+            found.setdefault(owner, set()).update(options)
+        every |= set() if owners else options
     wanted = every_subcommand() | VERSION | {END}
     yield from compare(PAGE.name, "the option of every subcommand", every, wanted)
     for name in SUBCOMMANDS:

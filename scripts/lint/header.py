@@ -1,9 +1,9 @@
 """Compares include/ninja_explain.h with the exports of the crate nj_c.
 
 Each export has to be declared with the C types of its parameters, and each declaration has to be
-an export. The numbers of `enum nx_status`, `enum nx_fault` and `enum nx_kind` have to be those that the
-crate gives. Where there is a compiler, it and include/ninja_explain_files.h have to compile as C11
-and as C++17 without a warning, and so have the programs at their tops.
+an export. The numbers of `enum nx_status`, `enum nx_fault` and `enum nx_kind` have to be those of the
+crate. With a compiler, it and include/ninja_explain_files.h have to compile as C11 and as C++17
+without a warning, and so have the programs at their tops.
 """
 
 import re

@@ -3,26 +3,28 @@ and scripts (lib/phrases.py).
 """
 
 from lib.checks import check, expect
-from lib.phrases import EXCEPT, NEVER, finds, prose, refused_names
+from lib.phrases import EXCEPT, NEVER, finds, phrases_of, prose, refused_names
 from lib.programs import ROOT
 
 GENERATED = ("HEADLINE.md",)
 PAGES = "*.md", "docs/*.md", "crates/*/README.md", "tests/*.md", "man/*.1"
 SOURCES = "crates/*/src/**/*.rt", "crates/*/specs/**/*.antt", "crates/*/proofs/**/*.antt"
 TESTS = ("tests/*/src/*.rs",)
-SCRIPTS = "bench/*.py", "scripts/**/*.py", "examples/**/*.py", "python/**/*.py", "include/*.h"
+SCRIPTS = "bench/*.py", "scripts/**/*.py", "examples/**/*.py", "python/**/*.py"
+IN_C = "include/*.h", "examples/c/*.c", "scripts/*.c", "scripts/lib/*.c", "bench/*.c"
 
 
 def pages():
-    found = {file for kind in (*PAGES, *SOURCES, *TESTS, *SCRIPTS) for file in ROOT.glob(kind)}
+    found = {file for kind in (*PAGES, *SOURCES, *TESTS, *SCRIPTS, *IN_C) for file in ROOT.glob(kind)}
     return sorted(page for page in found if page.name not in {*GENERATED, "phrases.py"})
 
 
 def refused(name, text):
     """The phrases of a page that are not among its exceptions, each with its line."""
-    phrases = [phrase for phrase in NEVER if phrase not in EXCEPT.get(name, ())]
+    better = phrases_of(name)
+    phrases = [phrase for phrase in better if phrase not in EXCEPT.get(name, ())]
     for line, found, phrase in finds(phrases, prose(name, text)):
-        yield line, f"{found} (better: {NEVER[phrase] or 'nothing'})"
+        yield line, f"{found} (better: {better[phrase] or 'nothing'})"
 
 
 @check
@@ -57,8 +59,16 @@ PLANTED = [
     ("a.md", "After it [the links](for_good.md) are kept for good.\n", 1),
     ("a.md", "<!-- map: crates -->\n| each once |\n<!-- end -->\nEach once.\n", 1),
     ("a.1", ".TP\nIt is written as it\nis, as it is needed.\n", 1),
-    ("a.rt", "/// Gives out names, each once.\nlet for_good = \"for good\";\n// one file\n// more\n", 3),
+    ("crates/a/a.rt", "/// Gives out names, each once.\nlet for_good = \"for good\";\n// one file\n// more\n", 3),
+    ("crates/nj_ask/a.rt", "/// Each once.\nlet for_good = \"for \\\nfolder\";\nlet a = \"folder\";\n", 2),
+    ("a.h", "/* each once */ int folder;\n/* the\n * folder */\nchar *a = \"// folder\";\n", 2),
     ("a.py", '"""The folder."""\nfolder = """\nfolder\n"""  # in\n# a folder\n', 2),
+    ("a.md", "The file of this\nnumber, if there is one, is given twice.\nThese files are there once.\n", 3),
+    ("a.md", "These are no files, and such\nmay be named as such, but there are no more of\nthese.\n", 4),
+    ("a.1", "It writes as many as there are, and\ntells\n.I which\nfile it is that is there.\n", 2),
+    ("a.h", "/* the path with this\n * name; `these are` */\n", 1),
+    ("crates/a/a.rt", "/// The file of this number, if there is one.\n", 0),
+    ("crates/a/README.md", "These are no files.\n", 0),
 ]
 
 
