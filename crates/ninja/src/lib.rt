@@ -1,7 +1,7 @@
 //! Ninja build files for programs that query them: the graph of a manifest and of all that it
 //! includes, the edges that targets need and that a change affects, and the output of the tools of
-//! `ninja-explain`. It re-exports what a client names; the crates that declare these are its own
-//! affair.
+//! `ninja-explain`. It re-exports every name that a client needs; the crates that declare the names
+//! are an implementation detail.
 #![tactic(auto)]
 
 pub use nj_deps::{DepsLog, DepsLogFault, LoggedOutput, PathNo, Paths};

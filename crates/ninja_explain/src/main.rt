@@ -21,7 +21,7 @@ fn run(rt: HostRuntime) -> Status {
         Err(_) => return refuse_words(&mut err),
     };
     let read = read_words(rt.alloc(), &words);
-    // The name of the file that is read from standard input, if the arguments request that.
+    // The name of the file that is read from standard input, if the arguments request it.
     let stdin_for = match &read {
         Ok(request) if request.from_stdin => Some(request.file.as_str()),
         _ => None,
@@ -37,7 +37,7 @@ fn run(rt: HostRuntime) -> Status {
     status
 }
 
-/// The program's arguments, without its name. It fails if one of them is not UTF-8.
+/// The program's arguments, without its name. Fails if an argument is not UTF-8.
 fn words(rt: HostRuntime) -> io::Result<Vec<String>> {
     Ok(env::args(&rt)?.skip(1).collect(rt.alloc())?)
 }

@@ -1,4 +1,4 @@
--- What sources give that declare it.
+-- The results of sources that declare them.
 use Rattle.std.proofs.Common.{◌≡◌, ℕ, Bool, true, false, cond, Option, Some, None}
 use Rattle.std.proofs.Common.{is_some, IfSome, unwrap_or}
 use Rattle.std.proofs.Common.{List, [], ◌∷◌, ◌++◌, refl, sym, ap, subst, ◌∙◌, bytes_eq}
@@ -51,7 +51,7 @@ pub answer-is : (times : DeclaredTimes) → TellAll times → (path : List ℕ) 
     → IsTimeOf times path found → found ≡ answer times path
 answer-is times all path found is = answer-at times path (all path) found is
 
--- a file is there
+-- a file exists
 is_there : TimeFound → Bool
 is_there (Time (Some time)) = true
 is_there (Time None) = false

@@ -83,7 +83,7 @@ module _ (files : List ℕ → Option (Option (List ℕ))) (before after : Sourc
 
 -- ---- for all edges
 
--- the time of the first output is declared, and so is the depfile where that counts
+-- the time of the first output is declared, and so is the depfile where it matters
 pub record IsTold (files : List ℕ → Option (Option (List ℕ))) (times : DeclaredTimes) (edge : EdgePaths)
     (deps depfile : List ℕ) : Type 0 where
   pub time : (output : List ℕ) → first_output edge ≡ Some output → is_some (times output) ≡ true
@@ -123,7 +123,7 @@ module _ (before after before2 after2 : SourceState)
         (from_neither none3 none4 also) =
         is ∙ sym also
 
-    -- where what counts is declared
+    -- where what matters is declared
     pub told-agree : (entries : List ReadStatement) (one other : DiscoveriesModel)
         → ((e : ℕ) → e < length (edges_read entries) → IsTold before.files times
         (edge_at (paths_of_edges (edges_read entries)) e) (late_text_of entries e (codes "deps"))

@@ -1,4 +1,4 @@
--- Two lists of flags that say the same of the same things.
+-- Two lists of flags with the same meaning for the same items.
 use Rattle.std.proofs.Common.{◌≡◌, Bool, true, false, List, [], ◌∷◌, refl, sym, ap, ◌∙◌}
 use Rattle.std.specs.Prelude.{◌↔◌}
 

@@ -79,7 +79,7 @@ one-cycle edges one other is also =
     is.fault_is ∙ ap (λ (e : EdgeModel). fault_at e.file e.spot (Cycle is.output)) edge
     ∙ ap (λ o. fault_at also.edge.file also.edge.spot (Cycle o)) output ∙ sym also.fault_is
 
--- edges of statements do not both lie on no cycle and have the fault of one
+-- edges of statements cannot both be free of cycles and have the fault of a cycle
 pub acyclic-or-cycle : (entries : List ReadStatement) (fault : GraphFault)
     → IsAcyclic (makers_of_inputs (paths_of_edges (edges_read entries)))
     (length (paths_of_edges (edges_read entries)))

@@ -41,8 +41,9 @@ use Rattle.nj_agreement.proofs.DeclaredAnswers.{same-readings}
 
 -- ---- one reading
 
--- By these files the reading ends so: with these statements, of which no edge needs itself by a chain; or
--- with the first fault.
+-- The end of a reading by the given files: it yields the given statements, and no edge of them needs itself
+-- by a chain;
+-- or it ends with the first fault.
 abbrev pub EndsAs : (before after : SourceState) → (files : List Reading) → (List Reading → ReachedModel)
     → Result (List ReadStatement) GraphFault → Type 0
 EndsAs before after files reading (Ok entries) = IsWhole before after files reading entries
@@ -68,7 +69,7 @@ abbrev pub Escapes : {A : Type 0} → (before after : SourceState) → Result A 
 Escapes before after (Ok done) = ⊥
 Escapes before after (Err fault) = (fault ≡ no_memory) ⊎ Fails before after fault
 
--- whatever more files there are, the reading reaches this
+-- with any further files, the reading still comes to `reached`
 abbrev Settles : (List Reading → ReachedModel) → (files : List Reading) → ReachedModel → Type 0
 Settles reading files reached = (all : List Reading) → IsPrefix files all → reading all ≡ reached
 
@@ -80,7 +81,7 @@ record IsSettled (reading : List Reading → ReachedModel) (files : List Reading
   pub fits : Fits reached end
   pub paths : reached.paths ≡ paths_of files
 
--- more files change no reading that went to its end
+-- further files do not change a reading that went to its end
 abbrev pub IsKept : (List Reading → ReachedModel) → Type 0
 IsKept reading = (files all : List Reading) → IsPrefix files all → (reading files).read.end ≡ Whole
     → reading all ≡ reading files
@@ -125,7 +126,7 @@ module _ (reading : List Reading → ReachedModel) (kept : IsKept reading) (befo
       paths = cycle.whole.came_to;
     })
 
--- ---- two of them
+-- ---- two readings
 
 entries-are : (reached : ReachedModel) (one other : List ReadStatement)
     → reached.read ≡ record { entries = one; end = Whole }
@@ -165,7 +166,7 @@ abbrev pub IsByPaths : (List Reading → ReachedModel) → Type 0
 IsByPaths reading = (files others : List Reading)
     → ((path : List ℕ) → reading_of files path ≡ reading_of others path) → reading files ≡ reading others
 
--- the same files were loaded, and both graphs are those of these statements
+-- the same files were loaded, and both graphs are those of the given statements
 pub record AreLoadedAlike (one other : LoadedModel) : Type 0 where
   pub files : one.files ≡ other.files
   pub entries : List ReadStatement

@@ -18,7 +18,7 @@ use Rattle.nj_agreement.proofs.FileNumbers.{one-number, same-numbers}
 oks : {X E : Type 0} (x y : X) (expected : Result X E) → expected ≡ Ok x → expected ≡ Ok y → x ≡ y
 oks x y expected is also = let e = sym is ∙ also in let same : Ok x ≡ Ok y = e in cc
 
--- two faults, or one
+-- two faults are the same, unless one is out of memory
 faults : {X : Type 0} (expected : Result X GraphFault) (one other : GraphFault)
     → ((one ≡ no_memory) ⊎ (expected ≡ Err one)) → ((other ≡ no_memory) ⊎ (expected ≡ Err other))
     → (one ≡ other) ⊎ (IsGraphOutOfMemory one ⊎ IsGraphOutOfMemory other)

@@ -1,7 +1,8 @@
 -- When two answers of one call are the same.
 use Rattle.std.specs.Prelude.{◌≡◌, ◌⊎◌, Result, Ok, Err}
 
--- Both are values, and these are the same; or both are errors, and equal unless one of them is free; or the only error is free.
+-- Both are values, and the values are the same; or both are errors, and the errors are equal unless one of them is
+-- free; or the only error is free.
 abbrev pub AgreeUpTo : {T E : Type 0} → (Same : T → T → Type 0) → (IsFree : E → Type 0) → (one other : Result T E) → Type 0
 AgreeUpTo Same IsFree (Ok one) (Ok other) = Same one other
 AgreeUpTo Same IsFree (Err one) (Err other) = (one ≡ other) ⊎ (IsFree one ⊎ IsFree other)
@@ -12,7 +13,7 @@ AgreeUpTo Same IsFree (Err one) (Ok other) = IsFree one
 abbrev pub AgreeBut : {T E : Type 0} → (IsFree : E → Type 0) → (one other : Result T E) → Type 0
 AgreeBut IsFree one other = AgreeUpTo (λ a b. a ≡ b) IsFree one other
 
--- if both are values, these are the same
+-- if both are values, the values are the same
 abbrev pub AgreeIfOk : {T E : Type 0} → (Same : T → T → Type 0) → (one other : Result T E) → Type 0
 AgreeIfOk Same (Ok one) (Ok other) = Same one other
 AgreeIfOk Same (Ok one) (Err other) = Unit {0}

@@ -20,7 +20,8 @@ pub record SameDeclarations (one other : DeclarationsModel) : Type 0 where
   pub rules : one.rules ≡ other.rules
   pub pools : one.pools ≡ other.pools
 
--- the same edges, with the same bindings in the block of each, and the same defaults; their files may be numbered otherwise
+-- the same edges, with the same bindings in the block of each, and the same defaults; their files may be numbered
+-- differently
 pub record SameBuilt (one other : BuiltModel) : Type 0 where
   pub edges : one.graph.edges ≡ other.graph.edges
   pub details : one.details ≡ other.details
@@ -36,7 +37,7 @@ pub record SameStated (one other : GraphModel) : Type 0 where
   pub declarations : SameDeclarations one.declarations other.declarations
   pub built : SameBuilt one.built other.built
 
--- the same graph, but for the numbers of files, and for what the scopes lie in
+-- the same graph, except for the numbers of files and the scopes around each scope
 pub record SameGraph (one other : GraphModel) : Type 0 where
   pub stated : SameStated one other
   pub origins : one.origins ≡ other.origins
@@ -46,13 +47,13 @@ pub record SameLoaded (one other : LoadedModel) : Type 0 where
   pub files : one.files ≡ other.files
   pub graph : SameGraph one.graph other.graph
 
--- the same was discovered for each edge; the paths may be numbered otherwise
+-- the same discoveries for each edge; the paths may be numbered differently
 pub record SameDiscoveries (one other : DiscoveriesModel) : Type 0 where
   pub count : length one.edges ≡ length other.edges
   pub each : (edge : ℕ) → edge < length one.edges → discovery_at one edge ≡ discovery_at other edge
 
--- The same edges, by number, without duplicates and nearest to the files first: so only edges that are equally far may have changed
--- places.
+-- The same edges, by number, without duplicates and nearest to the files first: so only edges at the same distance may
+-- be in a different order.
 pub record SameNearestFirst (edges : List EdgePaths) (files : List (List ℕ)) (one other : List ℕ) : Type 0 where
   pub same : (edge : ℕ) → Contains one edge ↔ Contains other edge
   pub once : IsDistinct nat_eq one × IsDistinct nat_eq other

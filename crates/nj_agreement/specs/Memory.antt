@@ -1,4 +1,4 @@
--- The errors which say that memory lacks, or that something outside failed.
+-- The errors that report out of memory, or a failure outside the library.
 use Rattle.std.specs.Prelude.{◌≡◌, ◌⊎◌, ℕ, Some, List}
 use Rattle.nj_deps.specs.declared.log_fault.DepsLogFault.{DepsLogFault}
 use Rattle.nj_deps.specs.declared.log_fault.DepsLogFault.TheVariants as log

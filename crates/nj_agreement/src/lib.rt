@@ -1,5 +1,6 @@
 //! When two answers of one call are the same: results, graphs, and what they were read from; with
-//! the lemmas by which the calls of the libraries are compared.
+//! the lemmas that compare the calls of the libraries.
 //!
-//! It has no functions: the crates that make calls twice state and prove their contracts by it.
+//! The crate has no functions: the crates that make a call twice use it to state and prove their
+//! contracts.
 #![tactic(auto)]

@@ -143,7 +143,7 @@ module _ (rows : List Row) (name : List ℕ) where
       (unwrap_or (first_of (codes "--directory") rows) (codes ".")) (is_on (codes "-x") rows)) (λ e. cc)
       tt)
 
-  -- of a tool's options first those that do not go with it
+  -- the options that do not go with the tool come first
   tool_ends : (tool : Tool) (foreign : Option ToolOption) → NamesTool rows name tool
       → first_foreign tool rows ≡ foreign
       → Ends rows (map foreign_option all_options ++ last_mistakes)
@@ -212,7 +212,7 @@ unfolding request_of
 first_fault-is_reported [] some fault = absurd (some refl)
 first_fault-is_reported (word ∷ words) some fault = first_reported (given_rows (word ∷ words)) fault
 
--- where there is a value there is no mistake, and conversely
+-- there is a value exactly if there is no mistake
 lacks_all : {A : Type 0} {rows : List Row} {mistakes : List Mistake} {result : Result A UsageFault}
     → Ends rows mistakes result
     → IsOk result → LacksAll rows mistakes

@@ -1,4 +1,4 @@
--- Worked rows of mistakes. Each is there, whatever else is wrong.
+-- Worked rows of mistakes. Each mistake is found, whatever else is wrong.
 use Rattle.std.proofs.Common.{◌≡◌, List, [], ◌∷◌, Some, refl}
 use Rattle.std.specs.Prelude.{codes}
 use Rattle.clap.proofs.OnLiterals.{clap_on_literals}

@@ -1,4 +1,4 @@
--- Mistakes in the rows of the arguments, and computations that end with the fault of the first.
+-- Mistakes in the rows of the arguments, and computations that end with the fault of the first mistake.
 use Rattle.std.proofs.Common.{◌≡◌, ◌≢◌, ℕ, Bool, true, false, cond, List, [], ◌∷◌, ◌++◌, map, take, drop}
 use Rattle.std.proofs.Common.{Option, Some, None, Result, Ok, Err, refl, sym, ap, subst, ◌∙◌}
 use Rattle.std.specs.Prelude.{⊤, codes, not, ◌&&◌, is_some, find}
@@ -20,7 +20,7 @@ use Rattle.nj_args.specs.declared.tools.Tool.TheVariants.{Targets}
 
 -- ---- one fault for a mistake, one first fault
 
--- one tool is named
+-- only one tool is named
 same_tool : {rows : List Row} {name other : List ℕ} {tool another : Tool} → NamesTool rows name tool
     → NamesTool rows other another
     → (name ≡ other) × (tool ≡ another)
@@ -59,12 +59,12 @@ abbrev pub LacksAll : List Row → List Mistake → Type 0
 LacksAll rows [] = ⊤
 LacksAll rows (mistake ∷ mistakes) = Lacks rows mistake × LacksAll rows mistakes
 
--- it ends with a value where there is none of the mistakes; else with the fault of the first
+-- it ends with a value if none of the mistakes is present; otherwise with the fault of the first mistake
 pub data Ends {A : Type 0} (rows : List Row) (mistakes : List Mistake) : Result A UsageFault → Type 0 where
   in_value : {x : A} → LacksAll rows mistakes → Ends rows mistakes (Ok x)
   in_fault : {fault : UsageFault} → IsFirstOf rows mistakes fault → Ends rows mistakes (Err fault)
 
--- one more mistake is not there
+-- one more mistake is absent
 pub skip : {A : Type 0} {rows : List Row} {mistake : Mistake} {mistakes : List Mistake}
     {result : Result A UsageFault}
     → Lacks rows mistake → Ends rows mistakes result → Ends rows (mistake ∷ mistakes) result
@@ -92,7 +92,7 @@ no_first : {rows : List Row} {mistakes : List Mistake} {fault : UsageFault} → 
 no_first none (first h) = none.0 _ h
 no_first none (later lacks h) = no_first none.1 h
 
--- a computation that ends so has a fault exactly where it is the first
+-- a computation that ends so has a fault exactly if the fault reports the first mistake
 pub reported : {A : Type 0} {rows : List Row} {mistakes : List Mistake} {fault : UsageFault}
     {result : Result A UsageFault}
     → Ends rows mistakes result → IsFirstOf rows mistakes fault → result ≡ Err fault
@@ -108,7 +108,7 @@ module _ (rows : List Row) (name : List ℕ) (tool : Tool) (names : NamesTool ro
       let g : is_foreign another rows option ≡ false = rw (← same) e in
       absurd (cc)
 
-  -- a first one is found
+  -- a first foreign option is found
   pub found : (options : List ToolOption) (rest : List Mistake) (option : ToolOption)
       → find (is_foreign tool rows) options ≡ Some option
       → IsFirstOf rows (map foreign_option options ++ rest) (ForeignOption option name)
@@ -125,7 +125,7 @@ module _ (rows : List Row) (name : List ℕ) (tool : Tool) (names : NamesTool ro
           rw (← same) (first (foreign name tool x names b))
       by_test false b e others = later (goes x b) (others e)
 
-  -- none is found
+  -- no option is foreign
   pub none_found : {A : Type 0} (options : List ToolOption) (rest : List Mistake)
       (result : Result A UsageFault)
       → find (is_foreign tool rows) options ≡ None → Ends rows rest result
@@ -142,7 +142,7 @@ module _ (rows : List Row) (name : List ℕ) (tool : Tool) (names : NamesTool ro
       by_test true b e others = absurd (cc)
       by_test false b e others = skip (goes x b) (others e)
 
--- a test that no option of a list passes is not passed by one of them
+-- a test that no option of a list passes is not passed by an option of that list
 passed_over : (p : ToolOption → Bool) (before : List ToolOption) (x : ToolOption) (after : List ToolOption)
     → find p (before ++ x ∷ after) ≡ None → p x ≡ false
 passed_over p [] x after e = by_test (p x) refl e
@@ -190,7 +190,7 @@ module _ (rows : List Row) (name : List ℕ) (tool : Tool) (names : NamesTool ro
   pub lacks_bad_depth : tool ≢ Targets → Lacks rows bad_depth
   lacks_bad_depth e fault (no_depth other text two f k) = absurd (e (same_tool names two).1)
 
-  -- a tool that takes the arguments, and is not `targets`
+  -- a tool that accepts the arguments, and is not `targets`
   pub takes_all : {A : Type 0} (x : A) → tool ≢ Targets → TakesWords tool (words_in rows)
       → Ends rows (bad_words ∷ bad_depth ∷ []) (Ok x)
   takes_all x other takes = in_value (lacks_bad_words takes, (lacks_bad_depth other, tt))

@@ -1,4 +1,4 @@
--- The command is one that `clap` describes in full, and its errors.
+-- The command, which `clap` describes in full, and its errors.
 use Rattle.std.proofs.Common.{◌≡◌, ◌⊎◌, Bool, true, false, [], ◌∷◌, length, eqb, arith, refl, inl, inr, ap}
 use Rattle.std.proofs.lemmas.Bool.Decides.{nat_tests}
 use Rattle.std.specs.Prelude.{not, if◌then◌else◌}
@@ -30,7 +30,7 @@ with_kinds k x xs (inl e) = inl e
 with_kinds k x xs (inr e) = let some : eqb (length (x ∷ xs)) 0 ≡ false = grind (arith, nat_tests) in
     inr (e, rw some refl)
 
--- an error is want of memory, or there is a kind of fault
+-- an error is a lack of memory; otherwise there is at least one kind of fault
 pub refused : (k : ErrorKind) (kinds : Kinds) → (k ≡ kind.OutOfMemory) ⊎ IsAmong k kinds
     → (refusal k ≡ OutOfMemory) ⊎ ((refusal k ≡ Unparsed) × (not (is_empty kinds) ≡ true))
 refused k kinds (inl e) = inl (ap refusal e)

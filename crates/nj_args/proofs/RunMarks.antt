@@ -10,13 +10,13 @@ use Rattle.nj_needs.specs.MarkTexts.{given_mark, number_of, numbers_in, ReadsBac
 use Rattle.nj_needs.specs.Inside.MarkScanning.{is_dot}
 use Rattle.nj_args.specs.RunMarks.{run_mark_text, given_run_mark, RunMarksAreApart}
 
--- a mark that reads back from its text reads back as the mark of a run, of either kind
+-- a mark that can be read back from its text can be read back as the mark of a run of either kind
 pub run-mark_reads_back : (validations : Bool) (mark : List ℕ) → ReadsBack mark
     → given_run_mark validations (run_mark_text validations mark) ≡ Some mark
 run-mark_reads_back false mark back = back
 run-mark_reads_back true mark back = back
 
--- ---- no mark begins with `v`
+-- ---- marks do not begin with `v`
 
 no_number : (part : List ℕ) → number_of (118 ∷ part) ≡ None
 no_number [] = refl

@@ -4,7 +4,7 @@ use Rattle.clap.specs.Words.{App, Rule, new_rule}
 use Rattle.clap.specs.Simple.{new_shape}
 use Rattle.clap.specs.declared.builder.ArgAction.TheVariants.{Append, SetTrue}
 
--- an option with a value, as it is written: `-L VALUE`; its values are kept under that text
+-- an option with a value, as it is written: `-L VALUE`; its values are stored under the given text
 abbrev pub short_option : (text : List ℕ) → Rule
 short_option text = record (new_rule text) { short = slice_get text 1 }
 
@@ -16,11 +16,11 @@ long_option text = record (new_rule text) { long = Some (drop 2 text) }
 abbrev pub flag : Rule → Rule
 flag option = record option { action = Some SetTrue }
 
--- the command without options and arguments; it knows neither help nor a version
+-- the command without options and arguments; it has neither a help nor a version option
 abbrev pub nothing_yet : App
 nothing_yet = record { top = record (new_shape (codes "ninja-explain")) { no_binary_name = true; disable_help_flag = true }; subs = [] }
 
--- last the arguments that are not options
+-- last, the arguments that are not options
 abbrev pub arguments : List Rule
 arguments = short_option (codes "-t") ∷ short_option (codes "-f")
     ∷ long_option (codes "--take") ∷ long_option (codes "--resume")

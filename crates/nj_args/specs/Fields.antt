@@ -14,6 +14,6 @@ is_on option rows = option_map_or (λ text. bytes_eq text (codes "true")) (first
 abbrev pub words_in : List Row → List (List ℕ)
 words_in rows = unwrap_or (all_of (codes "words") rows) []
 
--- the rows of the arguments, where `clap` does not refuse them for a cause other than memory
+-- the rows of the arguments, unless `clap` refuses them for a cause other than memory
 abbrev pub given_rows : (words : List (List ℕ)) → Option (List Row)
 given_rows words = if is_empty (fault_of command words) then Some (matches_of command words) else None

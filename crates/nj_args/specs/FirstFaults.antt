@@ -35,7 +35,7 @@ pub data IsView (words : List (List ℕ)) : Type 0 where
   sources : words ≡ codes "rule" ∷ [] → IsView words
   of_rule : (name : List ℕ) → words ≡ codes "rule" ∷ name ∷ [] → IsView words
 
--- the tool takes these arguments beside its options
+-- the tool accepts the arguments besides its options
 abbrev pub TakesWords : Tool → (words : List (List ℕ)) → Type 0
 TakesWords Commands words = ⊤
 TakesWords Inputs words = ⊤
@@ -44,12 +44,12 @@ TakesWords Query words = words ≢ []
 TakesWords Rules words = words ≡ []
 TakesWords Compdb words = ⊤
 
--- the rows name this tool
+-- the rows name the given tool
 pub record NamesTool (rows : List Row) (name : List ℕ) (tool : Tool) : Type 0 where
   pub asked : first_of (codes "-t") rows ≡ Some name
   pub known : tool_named name ≡ Some tool
 
--- the rows have this mistake, whatever else is wrong with them, and the fault reports it
+-- the rows have the given mistake, whatever else is wrong with them, and the fault reports it
 pub data HasMistake (rows : List Row) : Mistake → UsageFault → Type 0 where
   toolless : first_of (codes "-t") rows ≡ None → HasMistake rows no_tool Unparsed
   unknown : (name : List ℕ) → first_of (codes "-t") rows ≡ Some name → tool_named name ≡ None
@@ -65,22 +65,22 @@ pub data HasMistake (rows : List Row) : Mistake → UsageFault → Type 0 where
   no_depth : (name text : List ℕ) → NamesTool rows name Targets → words_in rows ≡ codes "depth" ∷ text ∷ [] → given_depth text ≡ None
       → HasMistake rows bad_depth (BadNumber text)
 
--- the words do not have this mistake
+-- the rows do not have the given mistake
 abbrev pub Lacks : List Row → Mistake → Type 0
 Lacks rows mistake = (fault : UsageFault) → ¬ HasMistake rows mistake fault
 
--- the words have no mistake
+-- the rows have no mistake
 abbrev pub HasNoMistake : List Row → Type 0
 HasNoMistake rows = (mistake : Mistake) → Lacks rows mistake
 
--- the fault reports the first of these mistakes that the rows have
+-- the fault reports the first of the given mistakes that the rows have
 pub data IsFirstOf (rows : List Row) : List Mistake → UsageFault → Type 0 where
   first : {mistake : Mistake} {mistakes : List Mistake} {fault : UsageFault} → HasMistake rows mistake fault
       → IsFirstOf rows (mistake ∷ mistakes) fault
   later : {mistake : Mistake} {mistakes : List Mistake} {fault : UsageFault} → Lacks rows mistake → IsFirstOf rows mistakes fault
       → IsFirstOf rows (mistake ∷ mistakes) fault
 
--- of arguments that `clap` refuses only that is reported
+-- if `clap` refuses the arguments, only that is reported
 abbrev pub IsFirstFault : (words : List (List ℕ)) → UsageFault → Type 0
 IsFirstFault words fault = MatchOption (given_rows words) (fault ≡ Unparsed) (λ rows. IsFirstOf rows all_mistakes fault)
 
@@ -88,7 +88,7 @@ IsFirstFault words fault = MatchOption (given_rows words) (fault ≡ Unparsed) (
 abbrev pub AreFaultless : (words : List (List ℕ)) → Type 0
 AreFaultless words = MatchOption (given_rows words) ⊥ HasNoMistake
 
--- no arguments at all are a request too
+-- the first fault of arguments is reported; an empty list of arguments is a request
 abbrev pub FirstFaultIsReported : Type 0
 FirstFaultIsReported = (words : List (List ℕ)) → words ≢ [] → (fault : UsageFault)
     → (request_of words ≡ Err fault) ↔ IsFirstFault words fault

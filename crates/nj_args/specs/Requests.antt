@@ -31,7 +31,8 @@ abbrev pub start_of : (validations : Bool) → Option (List ℕ) → Result (Lis
 start_of validations None = Ok []
 start_of validations (Some text) = ok_or (given_run_mark validations text) (BadMark text)
 
--- the commands of the edges that the targets need, from a mark on, up to a limit; or with `-s` the commands of the edges that make them
+-- the commands of the edges that the targets need, from a mark on, up to a limit; or with `-s`, the commands of the edges that make the
+-- targets
 abbrev pub commands_of : List Row → Result ActionModel UsageFault
 commands_of rows = if is_on (codes "-s") rows then Ok (single_commands (words_in rows)) else do
   take ← take_of (first_of (codes "--take") rows)
@@ -40,7 +41,7 @@ commands_of rows = if is_on (codes "-s") rows then Ok (single_commands (words_in
 
 -- ---- `targets`
 
--- `depth`, `depth N`, `all`, `rule` or `rule NAME`; without arguments as `depth 1`
+-- `depth`, `depth N`, `all`, `rule` or `rule NAME`; without arguments, the same as `depth 1`
 abbrev pub view_of : (name : List ℕ) (words : List (List ℕ)) → Result TargetsView UsageFault
 view_of name [] = Ok (Depth 1)
 view_of name (word ∷ []) =
@@ -66,8 +67,8 @@ style_of rows = record {
 
 -- ---- the request
 
--- The action of the tool with the given name, by options that go with it. `inputs` takes any number of targets, `query` one file or more,
--- `rules` no arguments, and `compdb` any number of rules; the working directory is its directory where no other is given.
+-- The action of the tool with the given name, by options that go with it. `inputs` accepts any number of targets, `query` one or more
+-- files, `rules` no arguments, and `compdb` any number of rules; its directory is the working directory unless another is given.
 abbrev pub asked_of : Tool → (name : List ℕ) → List Row → Result ActionModel UsageFault
 asked_of tool.Commands name rows = commands_of rows
 asked_of tool.Inputs name rows = Ok (inputs (words_in rows) (is_on (codes "--validations") rows) (style_of rows))
@@ -95,7 +96,8 @@ request_in rows = do
     action = action;
   })
 
--- Without any arguments: all commands of a file from standard input. Else the rows are those that `clap` reads in the arguments.
+-- Without any arguments: all commands of a file from standard input. Otherwise the request of the rows that `clap` reads in the
+-- arguments.
 unfoldable pub request_of : (words : List (List ℕ)) → Result RequestModel UsageFault
 request_of [] = Ok (record { file = codes "build.ninja"; from_stdin = true; dyndep = false; action = commands [] false None [] })
 request_of (word ∷ words) = ok_or (given_rows (word ∷ words)) Unparsed >>= request_in

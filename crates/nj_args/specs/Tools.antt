@@ -21,7 +21,8 @@ tool_named name =
     else if bytes_eq name (codes "compdb") then Some Compdb
     else None
 
--- the options that go with a tool, beside those that go with each; with `-s`, `commands` takes no other
+-- the options that go with a tool, besides the options that go with every tool; with `-s`, `commands` accepts
+-- no other option
 abbrev pub options_of : Tool → (is_single : Bool) → List ToolOption
 options_of Commands true = Single ∷ []
 options_of Commands false = Single ∷ Take ∷ Resume ∷ Validations ∷ []
@@ -30,14 +31,14 @@ options_of Rules is_single = Descriptions ∷ []
 options_of Compdb is_single = Expand ∷ Directory ∷ []
 options_of tool is_single = []
 
--- an option with a value is given if it has one
+-- an option that requires a value is given if it has a value
 abbrev pub is_given : List Row → ToolOption → Bool
 is_given rows Directory = is_some (first_of (codes "--directory") rows)
 is_given rows Take = is_some (first_of (codes "--take") rows)
 is_given rows Resume = is_some (first_of (codes "--resume") rows)
 is_given rows option = is_on (option_text option) rows
 
--- an option is given, and is none of those that go with the tool
+-- whether an option is given and does not go with the tool
 abbrev pub is_foreign : Tool → List Row → ToolOption → Bool
 is_foreign tool rows option =
     let own = options_of tool (is_on (codes "-s") rows) in

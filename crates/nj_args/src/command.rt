@@ -6,7 +6,7 @@ ghost use Rattle.nj_args.specs.Cited.{app_of, rule_of, with_rule, command, nothi
 use clap::{Arg, ArgAction, Command};
 use std::alloc::{AllocError, Global};
 
-// How an option is written: `-L` or `--NAME`, before a value or alone.
+// How an option is written: `-L` or `--NAME`, with or without a value.
 #[derive(Clone, Copy)]
 enum Form {
     Short(char),
@@ -15,7 +15,7 @@ enum Form {
     LongFlag(&'static str),
 }
 
-// The options in their order, each with the text under which it is kept.
+// The options in their order, each with the text under which it is stored.
 const OPTIONS: [(&str, Form); 14] = [
     ("-t", Form::Short('t')),
     ("-f", Form::Short('f')),
@@ -40,7 +40,7 @@ pub fn command<'a>(alloc: Global) -> Result<Command<'a>, AllocError>
     with_options(alloc, nothing_yet(alloc), &OPTIONS)?.arg(all_words(alloc))
 }
 
-// Adds these options to a command.
+// Adds the given options to a command.
 fn with_options<'a>(
     alloc: Global,
     command: Command<'a>,
@@ -56,7 +56,7 @@ fn with_options<'a>(
     Ok(made)
 }
 
-// An option in this form, kept under this text.
+// An option in the given form, stored under the given text.
 fn option_in<'a>(alloc: Global, text: &'a str, form: Form) -> Arg<'a>
     ensures rule { rule_of result ≡ option_in text.entry.now form }
     ensures local { result.global ≡ false }
@@ -69,7 +69,7 @@ fn option_in<'a>(alloc: Global, text: &'a str, form: Form) -> Arg<'a>
     }
 }
 
-// The command without options and arguments. It knows neither help nor a version.
+// The command without options and arguments. It has neither a help nor a version option.
 fn nothing_yet<'a>(alloc: Global) -> Command<'a>
     ensures { app_of result ≡ nothing_yet }
 {
@@ -78,7 +78,7 @@ fn nothing_yet<'a>(alloc: Global) -> Command<'a>
         .disable_help_flag(true)
 }
 
-// `-L VALUE`, kept under this text.
+// `-L VALUE`, stored under the given text.
 fn short_option<'a>(alloc: Global, text: &'a str, letter: char) -> Arg<'a>
     ensures rule { rule_of result ≡ with_letter text.entry.now letter }
     ensures local { result.global ≡ false }
@@ -86,7 +86,7 @@ fn short_option<'a>(alloc: Global, text: &'a str, letter: char) -> Arg<'a>
     Arg::new(alloc, text).short(letter)
 }
 
-// `--NAME VALUE`, kept under this text.
+// `--NAME VALUE`, stored under the given text.
 fn long_option<'a>(alloc: Global, text: &'a str, name: &'a str) -> Arg<'a>
     ensures rule { rule_of result ≡ with_name text.entry.now name.entry.now }
     ensures local { result.global ≡ false }
@@ -94,7 +94,7 @@ fn long_option<'a>(alloc: Global, text: &'a str, name: &'a str) -> Arg<'a>
     Arg::new(alloc, text).long(name)
 }
 
-// `-L`, kept under this text.
+// `-L`, stored under the given text.
 fn short_flag<'a>(alloc: Global, text: &'a str, letter: char) -> Arg<'a>
     ensures rule { rule_of result ≡ flag (with_letter text.entry.now letter) }
     ensures local { result.global ≡ false }
@@ -102,7 +102,7 @@ fn short_flag<'a>(alloc: Global, text: &'a str, letter: char) -> Arg<'a>
     short_option(alloc, text, letter).action(ArgAction::SetTrue)
 }
 
-// `--NAME`, kept under this text.
+// `--NAME`, stored under the given text.
 fn long_flag<'a>(alloc: Global, text: &'a str, name: &'a str) -> Arg<'a>
     ensures rule { rule_of result ≡ flag (with_name text.entry.now name.entry.now) }
     ensures local { result.global ≡ false }

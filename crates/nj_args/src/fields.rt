@@ -9,7 +9,7 @@ use clap::ArgMatches;
 use clap::error::ErrorKind;
 use std::alloc::Global;
 
-/// The matches of `clap` for the arguments. `Unparsed` where it refuses them.
+/// Returns the matches of `clap` for the arguments, or `Unparsed` if it refuses them.
 pub fn parse<'w>(alloc: Global, words: &'w [String]) -> Result<ArgMatches<'w>, UsageFault>
     ensures ok { OnOk result (is_refused (map string_bytes words.entry.now) ≡ false) }
     ensures rows { IfOk result (λ matches.

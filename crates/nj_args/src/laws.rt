@@ -2,19 +2,19 @@
 
 ghost use Rattle.nj_args.specs.Cited.{FirstFaultIsReported, FaultlessWordsAreRequests, RunMarksAreApart};
 
-/// The marks of runs that follow validations differ from all others: no text is a mark of runs
-/// of both kinds.
+/// The marks of runs that follow validations differ from all other marks: a text is never a mark of
+/// both kinds of runs.
 pub fn run_marks_law()
     ensures { RunMarksAreApart }
 {}
 
-/// The fault that is reported of arguments that are not a request is that of their first mistake.
-/// `clap` refuses the arguments, and then nothing else is known of them; else, in this order, there
-/// is no tool, or none of that name; an option does not go with the tool, the first in the order of
-/// `ToolOption`; the value of `--take` is not a number, or the value of `--resume` not a mark; the
-/// tool does not take the arguments beside the options; the number of levels is not a number. Each
-/// mistake is stated for itself, whatever else is wrong. Arguments without one are a request, and
-/// so are no arguments at all.
+/// For arguments that are not a request, the fault of their first mistake is reported. If `clap`
+/// refuses the arguments, nothing else is known of them. Otherwise the mistakes are, in this order:
+/// the tool is missing or unknown; an option does not go with the tool (the first in the order of
+/// `ToolOption`); the value of `--take` is not a number, or the value of `--resume` is not a mark;
+/// the tool does not accept the arguments besides the options; the number of levels is not a
+/// number. Each mistake is stated separately, whatever else is wrong. Arguments without a mistake
+/// are a request, and so is an empty list of arguments.
 pub fn first_fault_law()
     ensures reported { FirstFaultIsReported }
     ensures faultless { FaultlessWordsAreRequests }

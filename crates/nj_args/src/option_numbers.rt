@@ -5,7 +5,7 @@ ghost use Rattle.nj_args.specs.Cited.{given_number, given_depth, begins_with_plu
 
 const GREATEST_DEPTH: u64 = 2_147_483_647;
 
-/// The number that decimal digits give, with or without leading zeros.
+/// The number that decimal digits denote, with or without leading zeros.
 pub fn number_in(text: &str) -> Option<u64>
     ensures { result ≡ given_number text.now }
 {
@@ -18,7 +18,7 @@ pub fn number_in(text: &str) -> Option<u64>
     }
 }
 
-/// The number of levels that decimal digits give, in the same way.
+/// The number of levels that decimal digits denote, with or without leading zeros.
 pub fn depth_in(text: &str) -> Option<u32>
     ensures { result ≡ given_depth text.now }
 {
@@ -28,7 +28,7 @@ pub fn depth_in(text: &str) -> Option<u32>
     }
 }
 
-// Whether the text begins with a plus sign, which `parse` would take.
+// Whether the text begins with a plus sign, which `parse` would accept.
 fn has_plus(text: &[u8]) -> bool
     ensures { result ≡ begins_with_plus text.now }
 {

@@ -14,11 +14,11 @@ use std::alloc::{AllocError, Global};
 
 const MAIN_FILE: &str = "build.ninja";
 
-// The working directory, which `compdb` names if no other is given.
+// The working directory, which `compdb` names if no other directory is given.
 const HERE: &str = ".";
 
-/// The request of these arguments, without the program's name. The first fault of the arguments in
-/// the order of [`UsageFault`] is reported.
+/// Returns the request of the given arguments, without the program's name. If they have several
+/// faults, the first in the order of [`UsageFault`] is reported.
 ///
 /// # Errors
 ///
@@ -281,7 +281,7 @@ fn view_of_pair(
     }
 }
 
-// The roots, with this many levels.
+// The roots, with the given number of levels.
 fn depth_of(alloc: Global, text: &str) -> Result<TargetsView, UsageFault>
     ensures ok { IfOk result (λ view. depth_of text.now ≡ Ok view) }
     ensures err { IfErr result (λ fault. (fault ≡ OutOfMemory)

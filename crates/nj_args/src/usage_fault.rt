@@ -24,7 +24,7 @@ impl Model for Word {
 }
 
 impl Word {
-    /// The argument of this text.
+    /// The argument with the given text.
     pub fn new(alloc: Global, text: &str) -> Result<Word, AllocError>
         ensures { IfOk result (λ word. word ≡ text.now) }
     {
@@ -105,21 +105,21 @@ impl fmt::Display for ToolOption {
 /// Why the arguments of a command line are not a valid request.
 #[derive(Debug, Drop)]
 pub enum UsageFault {
-    /// The arguments cannot be read: an option is unknown, given twice or without its value; or no
-    /// tool is given. The argument after an option is not a value if it begins with `-`, but `-`
-    /// itself is.
+    /// The arguments cannot be read: an option is unknown, is repeated, or lacks its value; or the
+    /// tool is missing. The argument after an option is not its value if it begins with `-`, unless
+    /// it is `-` itself.
     Unparsed,
-    /// There is no tool with the given name ("Extra tools").
+    /// A tool with the given name does not exist ("Extra tools").
     UnknownTool(Word),
     /// The option does not go with the tool, or not with `-s`.
     ForeignOption { option: ToolOption, tool: Word },
-    /// The text is not a number: for `--take` one below 2 to the power of 64, for `depth N` one of
-    /// at most 2147483647.
+    /// The text is not a valid number: below 2 to the power of 64 for `--take`, and at most
+    /// 2147483647 for `depth N`.
     BadNumber(Word),
-    /// The text is not a mark, or not a mark of such a run: with `--validations` it begins with
-    /// `v`.
+    /// The text is not a mark, or not a mark of the requested kind of run: with `--validations`,
+    /// marks begin with `v`.
     BadMark(Word),
-    /// The tool with the given name does not take the arguments given beside the options ("Extra
+    /// The tool with the given name does not accept the arguments given besides the options ("Extra
     /// tools").
     BadWords(Word),
     /// An allocation failed.

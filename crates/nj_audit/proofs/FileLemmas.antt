@@ -68,7 +68,7 @@ adds-unmeant g folder seen path number old p n m =
     (sym (file-if g folder seen path number false p n m))
 
 module _ (g : GraphModel) (folder : List ℕ) where
-  -- the files that these names mean
+  -- the files that the given names mean
   abbrev pub files_at : List SeenName → List GraphFile
   files_at names = files_numbered g (filter_map (file_named g folder) names)
 

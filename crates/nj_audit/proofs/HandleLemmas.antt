@@ -19,7 +19,7 @@ use Rattle.nj_audit.specs.Inside.Handles.{AreIn, files_numbered}
 abbrev pub numbers_of : List GraphEdge → List ℕ
 numbers_of edges = map (λ edge. edge.number) edges
 
--- the edges are all of this graph
+-- all edges are in the graph
 abbrev pub AreOf : GraphModel → List GraphEdge → Type 0
 AreOf g edges = edges ≡ edges_in g (numbers_of edges)
 
@@ -37,7 +37,7 @@ pub paths_there : (g : GraphModel) (paths : List (List ℕ))
 paths_there g [] = refl
 paths_there g (p ∷ ps) = ap (λ qs. p ∷ qs) (paths_there g ps)
 
--- ---- the first of those that are left, and the others
+-- ---- the first of the edges that are left, and the others
 
 module _ (g : GraphModel) (edge : GraphEdge) (left others : List GraphEdge) (is : left ≡ edge ∷ others) where
   pub first-of : AreOf g left → edge.graph ≡ g
@@ -45,7 +45,7 @@ module _ (g : GraphModel) (edge : GraphEdge) (left others : List GraphEdge) (is 
       let both : edge ∷ others ≡ edge_in g edge.number ∷ edges_in g (numbers_of others) =
       subst (λ es. es ≡ edges_in g (numbers_of es)) is of in cc
 
-  -- those from a number on
+  -- the edges from a number on
   pub next-from : (place : ℕ) → left ≡ edges_in g (range_with_len place (length left))
       → (edge ≡ edge_in g place) × (others ≡ edges_in g (range_with_len (place + 1) (length others)))
   next-from place of =

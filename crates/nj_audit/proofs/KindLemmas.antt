@@ -75,7 +75,7 @@ module _ {X : Type 0} (kind : Kind) where
   of-flat-map h are [] asked = nothing (asked kind)
   of-flat-map h are (x ∷ xs) asked = of-append kind (h x) (flat_map h xs) (are x) (of-flat-map h are xs) asked
 
--- a finding, if there is one, is of a kind
+-- a finding, if any, is of a kind
 abbrev IsOf : Kind → Option FindingModel → Type 0
 IsOf kind None = Unit {0}
 IsOf kind (Some f) = f.kind ≡ kind
@@ -269,7 +269,7 @@ module _ (g : GraphModel) (entries : List ReadStatement) (missing serving : List
   of-kind RepeatedInput = of-inputs g
   of-kind UndeclaredInput = are
 
-  -- kind by kind, the requested ones are a filter of all
+  -- kind by kind, the requested findings are a filter of all findings
   pub asked-law : (kinds : Kinds)
       → flat_map (asked_of kinds (findings_of g entries missing serving undeclared)) all_kinds
       ≡ findings_asked_for kinds (all_findings g entries missing serving undeclared)

@@ -11,11 +11,11 @@ use Rattle.nj_audit.specs.Audit.{findings_asked_for}
 use Rattle.nj_audit.specs.Findings.{FindingModel}
 use Rattle.nj_audit.specs.Kinds.{Selection, all_kinds, first_unknown, is_asked_for}
 
--- the options with these values, without `--all`
+-- the options with the given values, without `--all`
 abbrev values : (only except : List (List ℕ)) → Selection
 values only except = record { all = false; only = only; except = except }
 
--- the kinds that these values select
+-- the kinds that the given values select
 abbrev asked : (only except : List (List ℕ)) → List Kind
 asked only except = filter (is_asked_for (values only except)) all_kinds
 
@@ -47,7 +47,7 @@ only_except_itself = refl
 except_one : asked [] (codes "undeclared-input" ∷ []) ≡ []
 except_one = refl
 
--- a kind that is not taken need not be excepted
+-- a kind that is not selected need not be excepted
 except_others : asked [] (codes "unused-pool" ∷ codes "unused-variable" ∷ []) ≡ asked [] []
 except_others = refl
 
@@ -55,7 +55,7 @@ only_and_except : asked (codes "unused-pool" ∷ codes "unused-rule" ∷ [])
     (codes "unused-pool" ∷ codes "missing-source" ∷ []) ≡ UnusedRule ∷ []
 only_and_except = refl
 
--- ---- words that name no kind
+-- ---- words that do not name a kind
 
 known : first_unknown (values (codes "unused-output" ∷ codes "unused-variable" ∷ [])
     (codes "depfile-without-deps" ∷ [])) ≡ None

@@ -116,7 +116,7 @@ none-is (Some x) not = elim (not x refl) [ ]
 
 -- ---- what is left
 
--- the values of the first one come first
+-- the values of the first item come first
 pub left-step : {X Y : Type 0} (all : List X → List Y) (whole : IsPiecewise all) (x : X) (others : List X)
     (text after : List Y) → after ≡ text ++ all (x ∷ []) → after ++ all others ≡ text ++ all (x ∷ others)
 left-step all whole x others text after is =

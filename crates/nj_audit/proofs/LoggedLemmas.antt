@@ -49,7 +49,7 @@ module _ (g : GraphModel) (entries : List ReadStatement) (folder : List ℕ) whe
     those-then _ _ (has_it is rest) = has_it is (those-then _ _ rest)
     those-then _ _ (lacks_it is rest) = lacks_it is (those-then _ _ rest)
 
-  -- those of some inputs, and then those of more
+  -- the findings of some inputs, and then those of more
   module _ (logged more : List InputOfEdge) (base old new : List FindingModel) where
     pub logged-then : AddsLogged g entries folder logged base old → AddsLogged g entries folder more old new
         → AddsLogged g entries folder (logged ++ more) base new
@@ -98,7 +98,7 @@ module _ (g : GraphModel) (entries : List ReadStatement) (folder : List ℕ) (in
     λ alone. refl,
   )
 
--- ---- whether an input is of the graph
+-- ---- whether an input is in the graph
 
 same-some : {X : Type 0} (y x : X) → Some y ≡ Some x → y ≡ x
 same-some y x is = cc
@@ -143,7 +143,7 @@ module _ (g : GraphModel) (input : LoggedInput) where
     both-there edge file b alone is = subst (λ found. Adds found new) (sym (in-both true true edge file))
         (logged-one g entries folder (input_of_edge (files_of g) input) old new b alone is)
 
--- ---- those that are looked for
+-- ---- inputs that are searched for
 
 pub of-undeclared-if : (asked : Bool) (g : GraphModel) (entries : List ReadStatement) (folder : List ℕ)
     (logged : List InputOfEdge)

@@ -85,7 +85,7 @@ one-more old new list name adds are other =
     ∙ or-turned (bytes_eq other name) (is_among list other)
     ∙ sym (among-append list (name ∷ []) other)
 
--- several names more
+-- several more names
 pub all-more : (old new list names : List (List ℕ))
     → ((other : List ℕ) → is_among new other ≡ is_among (old ++ names) other) → AreNames old list
     → AreNames new (list ++ names)
@@ -93,7 +93,7 @@ all-more old new list names adds are other =
     adds other ∙ among-append old names other ∙ ap (λ b. b || is_among names other) (are other)
     ∙ sym (among-append list names other)
 
--- a name that is added, unless it is there
+-- a name is added, unless it is in the set
 pub among-with : (names : List (List ℕ)) (name other : List ℕ)
     → is_among (with_name names name) other ≡ (bytes_eq other name || is_among names other)
 among-with names name other = by (is_among names name) refl

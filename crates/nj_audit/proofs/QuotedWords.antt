@@ -18,7 +18,7 @@ both-true : (s t : Bool) → (s && t) ≡ true → (s ≡ true) × (t ≡ true)
 both-true true t is = (refl, is)
 both-true false t is = absurd cc
 
--- a byte with a property is not one without it
+-- a byte with a property differs from a byte without it
 differs : (p : ℕ → Bool) (b n : ℕ) → p n ≡ false → p b ≡ true → (b == n) ≡ false
 differs p b n lacks has = elim (eqb_tells b n) [
   | inl same ↦ absurd (true≢false (sym has ∙ ap p same.1 ∙ lacks))
@@ -148,7 +148,7 @@ with-path : (path : List ℕ) (tokens : List TokenModel) → path ≢ []
 with-path [] tokens some = absurd (some refl)
 with-path (b ∷ path) tokens some = refl
 
--- a quoted path begins a word, and no comment
+-- a quoted path begins a word, not a comment
 begins-plain : (path text : List ℕ) → list_all is_plain_byte path ≡ true → path ≢ []
     → tokens_of (path ++ text) ≡ read [] Bare (path ++ text)
 begins-plain [] text plain some = absurd (some refl)

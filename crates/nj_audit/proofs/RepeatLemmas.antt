@@ -1,4 +1,4 @@
--- Paths that others before them repeat.
+-- Paths that repeat earlier paths.
 use Rattle.std.proofs.Common.{◌≡◌, ◌+◌, ℕ, Bool, true, false, cond, Some, None, List, [], ◌∷◌, ◌++◌}
 use Rattle.std.proofs.Common.{length, take, slice_get, refl, sym, ap, ◌∙◌, append_assoc, if◌then◌else◌}
 use Rattle.std.specs.Prelude.{option_and_then}
@@ -10,7 +10,7 @@ use Rattle.nj_graph.specs.Edges.{is_among}
 use Rattle.nj_audit.specs.Audit.{repeated_path, repeated_paths}
 use Rattle.nj_audit.proofs.NameLemmas.{AreNames, among-with, one-more}
 
--- those of some paths that are among the seen ones or come after themselves
+-- the given paths that were seen or that repeat an earlier path
 abbrev pub repeats_in : (seen paths : List (List ℕ)) → List (List ℕ)
 repeats_in seen [] = []
 repeats_in seen (path ∷ paths) =
@@ -62,6 +62,6 @@ repeats-are seen done (path ∷ left) are = by (is_among seen path) refl
         put true ps = refl
         put false ps = refl
 
--- at first none is seen
+-- at first no path was seen
 pub all_repeats : (paths : List (List ℕ)) → repeats_in [] paths ≡ repeated_paths paths
 all_repeats paths = repeats-are [] [] paths (λ name. refl)

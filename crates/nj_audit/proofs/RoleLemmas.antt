@@ -20,7 +20,7 @@ has-append (x ∷ xs) ys n = by (nat_eq n x) (has-append xs ys n)
     by true rest = refl
     by false rest = rest
 
--- a number that is there already
+-- a number that is already in the list
 has-again : (xs : List ℕ) (x n : ℕ) → has xs x ≡ true → has xs n ≡ has (xs ++ x ∷ []) n
 has-again xs x n known = sym (has-append xs (x ∷ []) n ∙ elim (eqb_tells n x) [
   | inl same ↦

@@ -18,7 +18,7 @@ use Rattle.nj_audit.specs.Inside.Served.{FindsServing, HasCommand, MakesOneOf}
 use Rattle.nj_audit.specs.Serving.{ServesCommand}
 use Rattle.nj_audit.specs.Serving.ServesCommand.{by_edge, by_itself}
 
--- the same edges, said in another way
+-- the same edges, described in another way
 finds-as : (P R : ℕ → Type 0) (old new : NumberSetModel) → ((e : ℕ) → P e → R e) → ((e : ℕ) → R e → P e)
     → FindsMore P old new → FindsMore R old new
 finds-as P R old new there back a =
@@ -34,7 +34,7 @@ finds-some : (n : ℕ) (old new : NumberSetModel) → FindsMore (λ e. e ≡ n) 
 finds-some n old new a = finds-as (λ e. e ≡ n) (λ e. Some n ≡ Some e) old new
     (λ e is. ap Some (sym is)) (λ e is. sym (same-some n e is)) a
 
--- those of a list, and one more
+-- the edges of a list, and one more
 finds-next : (found : List (Option ℕ)) (edge : Option ℕ) (first old new : NumberSetModel)
     → FindsMore (λ e. Contains found (Some e)) first old → FindsMore (λ e. edge ≡ Some e) old new
     → FindsMore (λ e. Contains (found ++ edge ∷ []) (Some e)) first new
@@ -48,7 +48,7 @@ finds-next found edge first old new a b =
 
 -- ---- edges with commands
 
--- those below a number
+-- the edges with commands below a number
 abbrev pub IsCommandBelow : List EdgePaths → (number edge : ℕ) → Type 0
 IsCommandBelow edges number e = (e < number) × ((edge_at edges e).is_phony ≡ false)
 
@@ -66,7 +66,7 @@ module _ (edges : List EdgePaths) (n : ℕ) (first old : NumberSetModel)
       ])
       finds
 
-  -- and with one
+  -- and an edge with a command
   pub finds-command : (new : NumberSetModel) → (edge_at edges n).is_phony ≡ false
       → FindsMore (λ e. e ≡ n) old new → FindsMore (IsCommandBelow edges (n + 1)) first new
   finds-command new ordinary more =
@@ -96,7 +96,7 @@ module _ (edges : List EdgePaths) (done : List (List ℕ)) (path : List ℕ) (fi
   finds-maker new maker is more = found-next new (subst (λ o. FindsMore (λ e. o ≡ Some e) old new) (sym is)
       (finds-some maker old new more))
 
-  -- and one that none makes
+  -- and an input that no edge makes
   pub finds-source : maker_of edges path ≡ None → FindsMore (MakesOneOf edges (done ++ path ∷ [])) first old
   finds-source is = found-next old (subst (λ o. FindsMore (λ e. o ≡ Some e) old old) (sym is)
       (finds-none (λ e. None ≡ Some e) old (λ e none. absurd cc)))

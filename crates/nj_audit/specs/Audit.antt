@@ -21,7 +21,7 @@ use Rattle.nj_audit.specs.declared.kinds.Kind.TheVariants.{UnusedVariable, Repea
 use Rattle.nj_audit.specs.declared.kinds.Kind.TheVariants.{DepfileWithoutDeps, RepeatedInput}
 use Rattle.nj_audit.specs.declared.kinds.Kinds.{Kinds}
 
--- the numbers below this one
+-- the numbers below the given number
 abbrev pub numbers : ℕ → List ℕ
 numbers count = range_with_len 0 count
 
@@ -43,7 +43,7 @@ first_output_at g edge = unwrap_or (first_output (paths_at g edge)) []
 abbrev pub defaults_of : GraphModel → List (List ℕ)
 defaults_of g = defaults_in_force g.built.defaults (edges_of g)
 
--- no edge has it as an input or as a validation, and it is not among the defaults
+-- an output is neither an input nor a validation of an edge, and is not among the defaults
 abbrev pub is_unused_output : GraphModel → (path : List ℕ) → Bool
 is_unused_output g path =
     length (users_of (edges_of g) path) == 0 && length (validation_users_of (edges_of g) path) == 0
@@ -65,7 +65,7 @@ unused_outputs g = flat_map (unused_outputs_at g) (edge_numbers g)
 abbrev pub path_of : GraphModel → (file : ℕ) → List ℕ
 path_of g file = unwrap_or (slice_get (files_of g) file) []
 
--- whether the flag at an index is set; past the last one none is
+-- whether the flag at an index is set; past the last flag it is not
 abbrev pub is_set : (flags : List Bool) → (index : ℕ) → Bool
 is_set flags index = slice_index_or flags index false
 
@@ -93,15 +93,15 @@ missing_sources g missing serving =
 abbrev pub rule_number : GraphModel → (edge : ℕ) → ℕ
 rule_number g edge = (detail_at g.built.details edge).rule
 
--- some edge has this rule
+-- some edge has the given rule
 abbrev pub is_used_rule : GraphModel → (rule : ℕ) → Bool
 is_used_rule g rule = list_any (λ edge. rule_number g edge == rule) (edge_numbers g)
 
--- the rule of a number
+-- the rule with the given number
 abbrev pub rule_of_number : GraphModel → (rule : ℕ) → RuleModel
 rule_of_number g rule = slice_index_or g.declarations.rules rule phony_rule
 
--- no statement declares `phony`, so that it has no place
+-- the finding about a rule, if no edge uses it; `phony` is not declared by a statement, so it has no place
 abbrev pub unused_rule : GraphModel → (rule : ℕ) → Option FindingModel
 unused_rule g rule =
     if is_used_rule g rule then None
@@ -132,16 +132,16 @@ unused_pool g entries pool = option_and_then (λ name.
 abbrev pub unused_pools : GraphModel → List ReadStatement → List FindingModel
 unused_pools g entries = filter_map (unused_pool g entries) (numbers (length g.declarations.pools))
 
--- ---- variables of edges to which no line of their rules refers
+-- ---- variables of edges that their rules do not refer to
 
--- the names that mean something to Ninja itself
+-- the names that have a meaning to Ninja itself
 abbrev pub known_names : List (List ℕ)
 known_names =
     codes "command" ∷ codes "depfile" ∷ codes "deps" ∷ codes "description" ∷ codes "dyndep"
     ∷ codes "generator" ∷ codes "in" ∷ codes "in_newline" ∷ codes "msvc_deps_prefix" ∷ codes "out"
     ∷ codes "pool" ∷ codes "restat" ∷ codes "rspfile" ∷ codes "rspfile_content" ∷ []
 
--- Ninja itself gives the name a meaning
+-- a name has a meaning to Ninja itself
 abbrev pub is_known : (name : List ℕ) → Bool
 is_known name = is_among known_names name
 
@@ -162,7 +162,7 @@ references_of rule = flat_map (λ line. names_in line.value) rule.lines
 abbrev pub rule_at : GraphModel → (edge : ℕ) → RuleModel
 rule_at g edge = rule_of_number g (rule_number g edge)
 
--- neither does a line of the edge's rule refer to it, nor does it mean something to Ninja itself
+-- the edge's rule does not refer to the name, and it has no meaning to Ninja itself
 abbrev pub is_unused_variable : GraphModel → (edge : ℕ) → (name : List ℕ) → Bool
 is_unused_variable g edge name =
     not (is_known name) && not (is_among (references_of (rule_at g edge)) name)
@@ -194,11 +194,11 @@ has_command g edge = not (paths_at g edge).is_phony
 abbrev pub has_generator : List ReadStatement → (edge : ℕ) → Bool
 has_generator entries edge = not (length (late_text_of entries edge (codes "generator")) == 0)
 
--- its command, if it has one
+-- the command of an edge, if any
 abbrev pub commands_at : GraphModel → List ReadStatement → (edge : ℕ) → List (List ℕ)
 commands_at g entries edge = if has_command g edge then command_of entries edge ∷ [] else []
 
--- the commands of the edges before one
+-- the commands of the edges before the given edge
 abbrev pub commands_before : GraphModel → List ReadStatement → (edge : ℕ) → List (List ℕ)
 commands_before g entries edge = flat_map (commands_at g entries) (numbers edge)
 
@@ -207,7 +207,7 @@ abbrev pub repeats_command : GraphModel → List ReadStatement → (edge : ℕ) 
 repeats_command g entries edge =
     has_command g edge && is_among (commands_before g entries edge) (command_of entries edge)
 
--- the edges that repeat the command of an earlier one
+-- the edges that repeat the command of an earlier edge
 abbrev pub repeated_commands : GraphModel → List ReadStatement → List FindingModel
 repeated_commands g entries =
     map (λ edge. edge_finding g edge RepeatedCommand (first_output_at g edge))
@@ -227,7 +227,7 @@ depfiles_without_deps g entries =
     map (λ edge. edge_finding g edge DepfileWithoutDeps (first_output_at g edge))
     (filter (has_depfile_without_deps entries) (edge_numbers g))
 
--- ---- inputs that an edge has more than once
+-- ---- inputs that an edge repeats
 
 -- the path at an index, if it is among those before it
 abbrev pub repeated_path : (paths : List (List ℕ)) → (index : ℕ) → Option (List ℕ)
@@ -235,7 +235,7 @@ repeated_path paths index =
     option_and_then (λ path. if is_among (take index paths) path then Some path else None)
     (slice_get paths index)
 
--- the paths that these repeat
+-- the paths that the given paths repeat
 abbrev pub repeated_paths : (paths : List (List ℕ)) → List (List ℕ)
 repeated_paths paths = filter_map (repeated_path paths) (numbers (length paths))
 
@@ -248,7 +248,7 @@ repeated_inputs_at g edge =
 abbrev pub repeated_inputs : GraphModel → List FindingModel
 repeated_inputs g = flat_map (repeated_inputs_at g) (edge_numbers g)
 
--- ---- all of it
+-- ---- all findings
 
 -- the findings of all kinds
 abbrev pub all_findings : GraphModel → List ReadStatement → (missing serving : List Bool)
@@ -258,6 +258,6 @@ all_findings g entries missing serving undeclared =
     ++ unused_variables g entries ++ repeated_commands g entries ++ depfiles_without_deps g entries
     ++ repeated_inputs g ++ undeclared
 
--- those of the requested kinds
+-- the findings of the requested kinds
 abbrev pub findings_asked_for : Kinds → List FindingModel → List FindingModel
 findings_asked_for kinds found = filter (λ f. contains kinds f.kind) found

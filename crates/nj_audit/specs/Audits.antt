@@ -11,8 +11,8 @@ use Rattle.nj_audit.specs.Serving.{AreServing}
 use Rattle.nj_audit.specs.declared.kinds.Kind.TheVariants.{UndeclaredInput}
 use Rattle.nj_audit.specs.declared.kinds.Kinds.{Kinds}
 
--- The findings of these kinds about a manifest, where `missing` has of each file whether it is missing, commands name files as seen
--- from the directory, and a deps log names these inputs that edges do not declare.
+-- The findings of the given kinds about a manifest. `missing` has for each file whether it is missing, commands name files as seen from the
+-- directory, and a deps log names the given inputs that edges do not declare.
 pub record IsAudit (g : GraphModel) (entries : List ReadStatement) (missing : List Bool) (folder : List ℕ) (logged : List InputOfEdge)
     (kinds : Kinds) (found : List FindingModel) : Type 0 where
   pub serving : List Bool

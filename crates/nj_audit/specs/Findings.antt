@@ -7,7 +7,7 @@ use Rattle.nj_graph.specs.Origins.{place_text}
 use Rattle.nj_audit.specs.declared.findings.Finding.{Finding}
 use Rattle.nj_audit.specs.declared.kinds.Kind.{Kind}
 
--- a finding at the statement of a place, and the name that it is about
+-- a finding at the statement of a place, and the name that the finding is about
 pub record FindingModel : Type 0 where
   pub place : Place
   pub kind : Kind

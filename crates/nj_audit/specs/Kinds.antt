@@ -34,7 +34,7 @@ phrase_of DepfileWithoutDeps = codes "depfile without deps"
 phrase_of RepeatedInput = codes "repeated input"
 phrase_of UndeclaredInput = codes "undeclared input"
 
--- what a finding of the kind means, as `--list` says it
+-- the meaning of a finding of the kind, as `--list` prints it
 abbrev pub meaning_of : Kind → List ℕ
 meaning_of UnusedOutput = codes "an output that is neither a default, an input nor a validation"
 meaning_of MissingSource = codes "a source that a command needs and that is not on disk"
@@ -57,12 +57,12 @@ pub record Selection : Type 0 where
   pub only : List (List ℕ)
   pub except : List (List ℕ)
 
--- `--all` takes each kind, and `--only` those that it names; without them, those are taken that are on by default
+-- `--all` selects each kind, and `--only` the kinds that it names; without them, the kinds that are on by default are selected
 abbrev pub is_taken : (all : Bool) → (only : List (List ℕ)) → Kind → Bool
 is_taken all only kind =
     all || (if length only == 0 then is_on_by_default kind else is_among only (name_of kind))
 
--- a kind is selected if it is taken and `--except` does not name it
+-- a kind is requested if it is selected and `--except` does not name it
 abbrev pub is_asked_for : Selection → Kind → Bool
 is_asked_for selection kind =
     is_taken selection.all selection.only kind && not (is_among selection.except (name_of kind))
@@ -73,11 +73,11 @@ all_kinds =
     UnusedOutput ∷ MissingSource ∷ UnusedRule ∷ UnusedPool ∷ UnusedVariable ∷ RepeatedCommand
     ∷ DepfileWithoutDeps ∷ RepeatedInput ∷ UndeclaredInput ∷ []
 
--- a word names no kind
+-- a word does not name a kind
 abbrev pub is_unknown : (word : List ℕ) → Bool
 is_unknown word = not (is_among (map name_of all_kinds) word)
 
--- the first such word, those of `--only` before those of `--except`
+-- the first word that does not name a kind, in `--only` before `--except`
 abbrev pub first_unknown : Selection → Option (List ℕ)
 first_unknown selection = find is_unknown (selection.only ++ selection.except)
 
@@ -91,7 +91,7 @@ selection_of all only except = record { all = all; only = texts only; except = t
 
 -- ---- kinds as flags
 
--- the kind is among these
+-- the kinds include a kind
 abbrev pub contains : Kinds → Kind → Bool
 contains kinds UnusedOutput = kinds.unused_output
 contains kinds MissingSource = kinds.missing_source

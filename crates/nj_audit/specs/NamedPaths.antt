@@ -11,7 +11,7 @@ after_sign word = option_map (λ index. drop (index + 1) word) (position (λ b. 
 abbrev pub after_letter : (word : List ℕ) → Option (List ℕ)
 after_letter word = if starts_with nat_eq word (codes "-") then Some (drop 2 word) else None
 
--- the names in a word: itself, and the texts after these signs
+-- the names in a word: the word itself, the text after its `=`, and the text after its option letter
 abbrev pub word_names : (word : List ℕ) → List (List ℕ)
 word_names word = word ∷ cons_option (after_sign word) (cons_option (after_letter word) [])
 
@@ -20,18 +20,18 @@ abbrev pub after_slash : (text : List ℕ) → Option (List ℕ)
 after_slash [] = None
 after_slash (b ∷ text) = if b == 47 then Some text else None
 
--- a path without the directory that it begins with, if that is given
+-- a path without the directory that it begins with, if a directory is given
 abbrev pub without_folder : (folder path : List ℕ) → List ℕ
 without_folder folder path =
     if length folder == 0 || not (starts_with nat_eq path folder) then path
     else unwrap_or (after_slash (drop (length folder) path)) path
 
--- the path of a name, as seen from the directory; an empty name has none
+-- the path of a name, as seen from the directory; `None` for an empty name
 abbrev pub path_named : (folder name : List ℕ) → Option (List ℕ)
 path_named folder [] = None
 path_named folder (b ∷ name) = Some (without_folder folder (clean_path_of (b ∷ name)))
 
--- a name, and the directory from which a command sees it: one that `cd` entered, or empty
+-- a name, and the directory from which a command sees it, as entered by `cd`, or empty
 pub record SeenName : Type 0 where
   pub folder : List ℕ
   pub name : List ℕ
@@ -40,11 +40,11 @@ pub record SeenName : Type 0 where
 abbrev pub seen_from : (folder name : List ℕ) → SeenName
 seen_from folder name = record { folder = folder; name = name }
 
--- a path is absolute, or there is no directory to read it in
+-- a path is absolute, or no directory is given in which to read it
 abbrev pub stands_alone : (folder path : List ℕ) → Bool
 stands_alone folder path = length folder == 0 || is_absolute path
 
--- a path that is read in a directory, if there is one
+-- a path that is read in a directory, if any
 abbrev pub path_below : (folder path : List ℕ) → List ℕ
 path_below folder path = if stands_alone folder path then path else folder ++ 47 ∷ path
 
@@ -56,6 +56,6 @@ path_seen folder seen = if length seen.name == 0 then None else path_named folde
 abbrev pub is_bare : (name : List ℕ) → Bool
 is_bare name = not (list_any (λ b. b == 47 || b == 46) name)
 
--- the number of the file at a path, if there is one
+-- the number of the file at a path, if any
 abbrev pub number_at : (files : List (List ℕ)) → (path : List ℕ) → Option ℕ
 number_at files path = position (bytes_eq path) files

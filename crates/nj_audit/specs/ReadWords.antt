@@ -1,5 +1,5 @@
--- The words of a command that name files which it reads, and where it reads them: not what it writes, and below the directory that `cd`
--- entered.
+-- The words of a command that name files that it reads, and the directory in which it reads them: not files that it writes, and below the
+-- directory that `cd` entered.
 use Rattle.std.specs.Prelude.{ℕ, ◌==◌, Bool, true, false, nat_eq, nat_le, ◌&&◌, ◌||◌, not, if◌then◌else◌, List, [], ◌∷◌, ◌++◌, bytes_eq, codes, length, map}
 use Rattle.std.specs.List.{ends_with, starts_with}
 use Rattle.nj_audit.specs.ShellWords.{TokenModel, tokens_of}
@@ -19,11 +19,11 @@ pub record NextWordModel : Type 0 where
 abbrev pub is_option : (word : List ℕ) → Bool
 is_option word = starts_with nat_eq word (codes "-")
 
--- a word is `-o`, after which the output comes
+-- a word is `-o`, which comes before the output
 abbrev pub is_output_option : (word : List ℕ) → Bool
 is_output_option word = bytes_eq word (codes "-o")
 
--- a word begins with `-o`, so that it is that or has the output in it
+-- a word begins with `-o`: it is `-o`, or has the output in it
 abbrev pub names_output : (word : List ℕ) → Bool
 names_output word = starts_with nat_eq word (codes "-o")
 
@@ -46,7 +46,7 @@ after_operator next b =
 abbrev pub is_cd : (word : List ℕ) → Bool
 is_cd word = bytes_eq word (codes "cd")
 
--- the program `tee` writes the files that it is given
+-- the program `tee` writes the files that it names
 abbrev pub is_tee : (program : List ℕ) → Bool
 is_tee program = bytes_eq program (codes "tee") || ends_with nat_eq program (codes "/tee")
 
@@ -54,11 +54,11 @@ is_tee program = bytes_eq program (codes "tee") || ends_with nat_eq program (cod
 abbrev pub part_after : (program : List ℕ) → Part
 part_after program = if is_cd program then Directory else (if is_tee program then Copy else Argument)
 
--- the bytes that a path may have for the system
+-- the number of bytes that the system allows in a path
 abbrev pub longest_path : ℕ
 longest_path = 4096
 
--- the directory after `cd`: the one of this name, as seen from the directory before; one with too long a path is not entered
+-- the directory after `cd`, as seen from the directory before; `cd` is ignored if the path is too long
 abbrev pub entered : (folder name : List ℕ) → List ℕ
 entered folder name = if nat_le (length (path_below folder name)) longest_path then path_below folder name else folder
 
@@ -70,7 +70,7 @@ after_part Directory next word =
 after_part Copy next word = next
 after_part Argument next word = record next { is_written = is_output_option word }
 
--- After a word. What comes after `-o` is written.
+-- After a word. The word after `-o` is written.
 abbrev pub after_word : NextWordModel → (word : List ℕ) → NextWordModel
 after_word next word = if next.is_written then record next { is_written = false } else after_part next.part next word
 
@@ -81,7 +81,7 @@ abbrev pub is_copy : Part → Bool
 is_copy Copy = true
 is_copy part = false
 
--- A word may name what is read: neither comes it after `>` or `-o`, nor is it an argument of `tee`, nor does it begin with `-o`.
+-- A word may name a file that is read: it does not come after `>` or `-o`, is not an argument of `tee`, and does not begin with `-o`.
 abbrev pub is_read : NextWordModel → (word : List ℕ) → Bool
 is_read next word = not (next.is_written || is_copy next.part || names_output word)
 
@@ -89,11 +89,11 @@ is_read next word = not (next.is_written || is_copy next.part || names_output wo
 abbrev pub names_in_word : (folder word : List ℕ) → List SeenName
 names_in_word folder word = map (seen_from folder) (word_names word)
 
--- those of the next word, if it is read
+-- the names in the next word, if it is read
 abbrev pub names_of_next : NextWordModel → (word : List ℕ) → List SeenName
 names_of_next next word = if is_read next word then names_in_word next.folder word else []
 
--- those of a token
+-- the names in a token
 abbrev pub names_of_token : NextWordModel → TokenModel → List SeenName
 names_of_token next (Word word) = names_of_next next word
 names_of_token next (Operator b) = []
@@ -103,7 +103,7 @@ abbrev pub after_token : NextWordModel → TokenModel → NextWordModel
 after_token next (Word word) = after_word next word
 after_token next (Operator b) = after_operator next b
 
--- the names in these words and operators
+-- the names in the given words and operators
 abbrev pub names_after : NextWordModel → List TokenModel → List SeenName
 names_after next [] = []
 names_after next (token ∷ tokens) = names_of_token next token ++ names_after (after_token next token) tokens
@@ -112,6 +112,6 @@ names_after next (token ∷ tokens) = names_of_token next token ++ names_after (
 abbrev pub first_word : NextWordModel
 first_word = record { part = Program; is_written = false; folder = [] }
 
--- the names in the words of a command that it reads
+-- the names in the words of a command that the command reads
 abbrev pub command_names : (command : List ℕ) → List SeenName
 command_names command = names_after first_word (tokens_of command)

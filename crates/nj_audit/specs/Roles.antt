@@ -1,4 +1,4 @@
--- What edges are for: which are run by hand, and which make the manifest.
+-- The roles of edges: which are run by hand, and which make the manifest.
 use Rattle.std.specs.Prelude.{ℕ, Bool, false, ◌&&◌, not, Option, Some, None, option_and_then, List, [], codes, map, bytes_eq}
 use Rattle.std.specs.List.{filter_map}
 use Rattle.nj_names.specs.NumberSets.{has}
@@ -22,7 +22,7 @@ is_console (Some pool) = bytes_eq pool (codes "console")
 abbrev pub built_by_default : GraphModel → List ℕ
 built_by_default g = map (λ edge. edge.number) (commands_needed (record { graph = g; paths = defaults_of g }))
 
--- An edge of the pool `console` that no default needs is run by hand, as by `ninja menuconfig`.
+-- An edge in the pool `console` that no default needs is run by hand, as by `ninja menuconfig`.
 abbrev pub is_run_by_hand : GraphModel → List ReadStatement → (edge : ℕ) → Bool
 is_run_by_hand g entries edge =
     is_console (assigned_at (assigned_read entries) edge).pool && not (has (built_by_default g) edge)
@@ -39,7 +39,7 @@ maker_of_opened g opening =
 abbrev pub makers_of_opened : GraphModel → List ℕ
 makers_of_opened g = filter_map (maker_of_opened g) g.origins.openings
 
--- an edge makes a file of the manifest, if there is an edge
+-- the given edge, if any, makes a file of the manifest
 abbrev pub makes_opened : GraphModel → (edge : Option ℕ) → Bool
 makes_opened g None = false
 makes_opened g (Some edge) = has (makers_of_opened g) edge

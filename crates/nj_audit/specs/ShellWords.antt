@@ -36,8 +36,7 @@ next_quoting Double b = if b == 92 then DoubleEscaped else (if b == 34 then Bare
 next_quoting DoubleEscaped b = Double
 next_quoting Comment b = if b == 10 then Between else Comment
 
--- a word keeps nothing of it: of a quote, of a backslash that quotes the byte after it, of the end of a line after a backslash, and of a
--- comment
+-- a word drops a byte: a quote, a backslash that quotes the byte after it, the end of a line after a backslash, or a byte of a comment
 abbrev pub is_dropped : Quoting → ℕ → Bool
 is_dropped Between b = b == 35 || b == 92 || b == 39 || b == 34
 is_dropped Bare b = b == 92 || b == 39 || b == 34
@@ -63,7 +62,7 @@ pub data ReadByte : Type 0 where
   Kept : (byte : ℕ) → ReadByte
   Cut : (byte : ℕ) → ReadByte
 
--- what it reads of a byte
+-- what a shell reads of a byte
 abbrev pub read_byte : Quoting → ℕ → List ReadByte
 read_byte quoting b = if ends_at quoting b then Cut b ∷ [] else map Kept (kept quoting b)
 
@@ -72,7 +71,7 @@ unfoldable pub read_text : Quoting → (text : List ℕ) → List ReadByte
 read_text quoting [] = []
 read_text quoting (b ∷ text) = read_byte quoting b ++ read_text (next_quoting quoting b) text
 
--- a token: a word, or a byte of an operator, of which the end of a line is one
+-- a token: a word, or a byte of an operator, including the end of a line
 pub data TokenModel : Type 0 where
   Word : (text : List ℕ) → TokenModel
   Operator : (byte : ℕ) → TokenModel

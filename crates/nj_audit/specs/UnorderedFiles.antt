@@ -15,7 +15,7 @@ use Rattle.nj_audit.specs.declared.kinds.Kind.TheVariants.{UndeclaredInput}
 
 -- ---- files that an edge names
 
--- the contents of an edge's response file, if it has a name
+-- the contents of an edge's response file, if the file has a name
 abbrev pub response_of : List ReadStatement → (edge : ℕ) → List ℕ
 response_of entries edge =
     if length (late_text_of entries edge (codes "rspfile")) == 0 then [] else late_text_of entries edge (codes "rspfile_content")
@@ -28,7 +28,7 @@ names_at entries edge = command_names (command_of entries edge) ++ command_names
 abbrev pub is_input : GraphModel → (path : List ℕ) → Bool
 is_input g path = not (length (users_of (edges_of g) path) == 0)
 
--- a name means the file at a path: a bare one does so only if some edge has that as an input
+-- a name means the file at a path; a bare name does so only if some edge has the path as an input
 abbrev pub is_meant : GraphModel → (name path : List ℕ) → Bool
 is_meant g name path = not (is_bare name) || is_input g path
 
@@ -36,12 +36,12 @@ is_meant g name path = not (is_bare name) || is_input g path
 abbrev pub file_if_meant : GraphModel → (name : List ℕ) → (file : ℕ) → Option ℕ
 file_if_meant g name file = if is_meant g name (path_of g file) then Some file else None
 
--- the file that a name means, as seen from the directory: the one at its path
+-- the file at the path of a name, as seen from the directory, if the name means it
 abbrev pub file_named : GraphModel → (folder : List ℕ) → SeenName → Option ℕ
 file_named g folder seen =
     option_and_then (file_if_meant g seen.name) (option_and_then (number_at (files_of g)) (path_seen folder seen))
 
--- An edge runs a command in a build, which does not regenerate the build: that reads and writes what it likes.
+-- An edge is examined if it runs a command in a build and does not regenerate the build: a generator reads and writes what it likes.
 abbrev pub is_looked_at : GraphModel → List ReadStatement → (edge : ℕ) → Bool
 is_looked_at g entries edge = has_command g edge && not (has_generator entries edge) && not (is_run_by_hand g entries edge)
 
@@ -50,21 +50,21 @@ abbrev pub files_named : GraphModel → List ReadStatement → (folder : List �
 files_named g entries folder edge =
     if is_looked_at g entries edge then filter_map (file_named g folder) (names_at entries edge) else []
 
--- ---- which of them are unordered
+-- ---- which files are unordered
 
--- an edge has the rule and the inputs of another one
+-- an edge has the rule and the inputs of another edge
 pub record IsTwin (g : GraphModel) (edge other : ℕ) : Type 0 where
   pub rule : rule_number g edge ≡ rule_number g other
   pub inputs : inputs_of (paths_at g edge) ≡ inputs_of (paths_at g other)
 
--- An edge has a command, is no twin, and makes no file of the manifest: Ninja makes those before it runs any other command.
+-- An edge has a command, is not a twin, and does not make a file of the manifest: Ninja makes those files before it runs any other command.
 pub record IsOther (g : GraphModel) (edge other : ℕ) : Type 0 where
   pub is_no_phony : (paths_at g other).is_phony ≡ false
   pub makes_no_manifest : has (makers_of_opened g) other ≡ false
   pub is_no_twin : ¬ IsTwin g edge other
 
--- A file is unordered with an edge, so that it may come too late: another edge makes it that has a command, is no twin and makes no file of
--- the manifest, and neither of the two needs the other through any chain of inputs.
+-- A file is unordered with an edge, so that it may come too late: it is made by another edge that has a command, is not a twin and does not
+-- make a file of the manifest, and neither of the two edges needs the other through any chain of inputs.
 pub record IsUnordered (g : GraphModel) (edge : ℕ) (path : List ℕ) : Type 0 where
   pub maker : ℕ
   pub made : maker_of (edges_of g) path ≡ Some maker
@@ -72,7 +72,7 @@ pub record IsUnordered (g : GraphModel) (edge : ℕ) (path : List ℕ) : Type 0 
   pub is_unneeded : ¬ IsOrNeeds (edges_of g) edge maker
   pub is_no_user : ¬ IsOrNeeds (edges_of g) maker edge
 
--- Of these files, the paths of those that are unordered with an edge, without duplicates, in their order.
+-- The paths of the given files that are unordered with an edge, without duplicates, in their order.
 pub data AreUnordered (g : GraphModel) (edge : ℕ) : (files : List ℕ) → (paths : List (List ℕ)) → Type 0 where
   none : AreUnordered g edge [] []
   unordered : {files : List ℕ} {paths : List (List ℕ)} (file : ℕ) → AreUnordered g edge files paths
@@ -83,7 +83,7 @@ pub data AreUnordered (g : GraphModel) (edge : ℕ) : (files : List ℕ) → (pa
   ordered : {files : List ℕ} {paths : List (List ℕ)} (file : ℕ) → AreUnordered g edge files paths
       → ¬ IsUnordered g edge (path_of g file) → AreUnordered g edge (files ++ file ∷ []) paths
 
--- The findings about the files that these edges name and that are unordered with them, edge by edge.
+-- The findings about the files that the given edges name and that are unordered with them, edge by edge.
 pub data AreNamedUnordered (g : GraphModel) (entries : List ReadStatement) (folder : List ℕ) :
     (edges : List ℕ) → List FindingModel → Type 0 where
   no_edges : AreNamedUnordered g entries folder [] []

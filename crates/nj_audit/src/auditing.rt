@@ -18,15 +18,15 @@ use crate::variables::find_unused_variables;
 use nj_graph::{Graph, UndeclaredInput};
 use std::alloc::{AllocError, Global};
 
-/// The findings of these kinds, kind by kind. `missing` has of each file whether it is missing on
-/// the disk; without `missing-source` it may be empty. Commands name files as seen from the
-/// directory, which is absolute; it may be empty, and then absolute names stay.
+/// Returns the findings of the given kinds, kind by kind. `missing` has for each file whether it is
+/// missing on the disk; without `missing-source` it may be empty. Commands name files as seen from
+/// the directory, which is absolute; it may be empty, and then absolute names stay.
 ///
 /// `logged` are the inputs that edges do not declare by a deps log
 /// ([`nj_graph::undeclared_inputs`]), in numbers of this graph, to which the log may be joined by
-/// now; one whose edge or file is not the graph's counts for nothing. They come after the inputs
-/// that commands name, and without those. Where many of them are unordered with their edges still,
-/// as without the log in the graph, each takes the time to read the command of its edge.
+/// now. Inputs whose edge or file is not in the graph are ignored. The others come after the inputs
+/// that commands name, and do not repeat them. If many logged inputs are still unordered with their
+/// edges, as without the log in the graph, each takes the time to read the command of its edge.
 pub fn audit<'a>(
     alloc: Global,
     graph: &'a Graph,
@@ -48,7 +48,7 @@ pub fn audit<'a>(
     find_all(alloc, graph, missing, edges.flags(), &undeclared, kinds)
 }
 
-/// The findings of these kinds, where flags say which edges serve commands.
+/// Returns the findings of the given kinds, where flags mark the edges that serve commands.
 fn find_all<'a>(
     alloc: Global,
     graph: &'a Graph,
@@ -70,7 +70,7 @@ fn find_all<'a>(
     Ok(found)
 }
 
-/// Appends the findings of a kind, if it is one of these.
+/// Appends the findings of a kind, if it is requested.
 fn find<'a>(
     alloc: Global,
     graph: &'a Graph,

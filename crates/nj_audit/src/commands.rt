@@ -26,7 +26,7 @@ pub fn find_repeated_commands<'a>(
     Ok(())
 }
 
-/// Appends an edge, if its command is among these commands, to which it is added.
+/// Appends an edge if the given commands include its command; otherwise adds the command to them.
 fn push_if_repeated<'a>(
     alloc: Global,
     edge: Edge<'a>,

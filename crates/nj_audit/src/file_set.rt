@@ -32,7 +32,7 @@ impl<'g> Model for FileSet<'g> {
 }
 
 impl<'g> FileSet<'g> {
-    /// No files.
+    /// Returns an empty set.
     pub fn new(alloc: Global, graph: &'g Graph) -> Result<FileSet<'g>, AllocError>
         ensures { IfOk result (λ s. s ≡ record { graph = graph.entry.now; paths = [] }) }
     {
@@ -42,7 +42,7 @@ impl<'g> FileSet<'g> {
         })
     }
 
-    /// Whether a file is one of them.
+    /// Whether a file is in the set.
     pub fn has(&self, file: File<'_>) -> bool
         requires { (file_of file).graph ≡ self.now.graph }
         ensures { result ≡ is_among self.now.paths (file_of file.entry).path }
@@ -62,7 +62,7 @@ impl<'g> FileSet<'g> {
         self.numbers.insert(file.number().0)
     }
 
-    /// Takes all files from the set.
+    /// Removes all files from the set.
     pub fn clear(&mut self)
         ensures { self.new ≡ record self.old { paths = [] } }
     {

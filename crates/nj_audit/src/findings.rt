@@ -32,7 +32,7 @@ impl<'a> Model for Findings<'a> {
 }
 
 impl<'a> Findings<'a> {
-    /// No findings.
+    /// Returns an empty list of findings.
     pub fn new(alloc: Global) -> Findings<'a>
         ensures { result ≡ [] }
     {
@@ -41,7 +41,7 @@ impl<'a> Findings<'a> {
         }
     }
 
-    /// All of them, in order.
+    /// Returns all findings, in order.
     pub fn as_slice(&self) -> &[Finding<'a>]
         ensures { map finding_model result.now ≡ self.now }
     {
@@ -73,7 +73,7 @@ impl<'a> Findings<'a> {
         self.push(edge.place(), kind, name)
     }
 
-    /// Appends all findings of others.
+    /// Appends all findings of another list.
     pub fn extend(&mut self, others: &Findings<'a>) -> Result<(), AllocError>
         ensures { OnOk result (self.new ≡ self.old ++ others.now) }
     {

@@ -1,4 +1,4 @@
-//! Inputs that an edge has more than once.
+//! Inputs that an edge repeats.
 
 ghost use Rattle.std.specs.Prelude.{◌≡◌, ◌++◌, OnOk};
 ghost use Rattle.nj_audit.specs.Cited.{edge_of, repeated_inputs, repeated_inputs_at};
@@ -9,7 +9,7 @@ use crate::kinds::Kind;
 use nj_graph::{Edge, Graph};
 use std::alloc::{AllocError, Global};
 
-/// Appends the inputs that were given to their edge before.
+/// Appends the inputs that edges repeat.
 #[tactic(auto, using(crate::proofs::HandleLemmas::numbers_there))]
 pub fn find_repeated_inputs<'a>(
     alloc: Global,
@@ -25,7 +25,7 @@ pub fn find_repeated_inputs<'a>(
     Ok(())
 }
 
-/// Appends those of an edge. The set is for its inputs.
+/// Appends the inputs that an edge repeats. The set is for its inputs.
 #[tactic(auto, using(crate::proofs::HandleLemmas::paths_there, crate::proofs::RepeatLemmas::all_repeats))]
 fn push_repeated_inputs<'a>(
     edge: Edge<'a>,

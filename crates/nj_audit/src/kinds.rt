@@ -31,7 +31,7 @@ impl Kind {
         Kind::UndeclaredInput,
     ];
 
-    /// Its name on the command line and in JSON.
+    /// Returns the name of the kind on the command line and in JSON.
     pub fn name(self) -> &'static str
         ensures { result.now ≡ name_of self }
     {
@@ -48,7 +48,7 @@ impl Kind {
         }
     }
 
-    /// Its name in a plain line.
+    /// Returns the name of the kind in a plain line.
     pub fn phrase(self) -> &'static str
         ensures { result.now ≡ phrase_of self }
     {
@@ -65,7 +65,7 @@ impl Kind {
         }
     }
 
-    /// The meaning of a finding of this kind.
+    /// Returns the meaning of a finding of this kind.
     pub fn meaning(self) -> &'static str
         ensures { result.now ≡ meaning_of self }
     {
@@ -83,7 +83,7 @@ impl Kind {
         }
     }
 
-    /// Whether it is reported without any option.
+    /// Whether the kind is reported without any option.
     pub fn is_on_by_default(self) -> bool
         ensures { result ≡ is_on_by_default self }
     {
@@ -106,11 +106,11 @@ pub struct Kinds {
 }
 
 impl Kinds {
-    /// The kinds that the flag `--all` and the values of `--only` and of `--except` select.
+    /// Returns the kinds that the flag `--all` and the values of `--only` and of `--except` select.
     ///
     /// # Errors
     ///
-    /// The first value that names no kind.
+    /// The first value that does not name a kind.
     pub fn from_words<'a>(all: bool, only: &[&'a str], except: &[&'a str]) -> Result<Kinds, &'a str>
         ensures asked { IfOk result (λ kinds.
             AskFor kinds (selection_of all only.now except.now)) }
@@ -124,7 +124,7 @@ impl Kinds {
         }
     }
 
-    /// The kinds that options select, where each value names a kind.
+    /// Returns the kinds that options select, where each value names a kind.
     fn known_from_words(all: bool, only: &[&str], except: &[&str]) -> Kinds
         ensures { AskFor result (selection_of all only.now except.now) }
     {
@@ -141,7 +141,7 @@ impl Kinds {
         }
     }
 
-    /// Whether a kind is one of them.
+    /// Whether the kinds include a kind.
     pub fn contains(self, kind: Kind) -> bool
         ensures { result ≡ contains self kind }
     {
@@ -159,7 +159,7 @@ impl Kinds {
     }
 }
 
-/// The first value that names no kind.
+/// Returns the first value that does not name a kind, if any.
 fn first_unknown<'a>(only: &[&'a str], except: &[&'a str]) -> Option<&'a str>
     ensures { option_map (λ word. word.now) result
         ≡ find is_unknown (texts only.now ++ texts except.now) }
@@ -170,7 +170,7 @@ fn first_unknown<'a>(only: &[&'a str], except: &[&'a str]) -> Option<&'a str>
         .find(|word| is_unknown(word))
 }
 
-/// Whether a word names no kind.
+/// Whether a word does not name a kind.
 fn is_unknown(word: &str) -> bool
     ensures { result ≡ is_unknown word.now }
 {
@@ -184,7 +184,8 @@ fn is_asked_for(all: bool, only: &[&str], except: &[&str], kind: Kind) -> bool
     is_taken(all, only, kind) && !is_named(except, kind)
 }
 
-/// Whether `--all` or `--only` takes a kind. Without them the kinds that are on by default are taken.
+/// Whether `--all` or `--only` selects a kind. Without them the kinds that are on by default are
+/// selected.
 fn is_taken(all: bool, only: &[&str], kind: Kind) -> bool
     ensures { result ≡ is_taken all (texts only.now) kind }
 {
@@ -197,7 +198,7 @@ fn is_taken(all: bool, only: &[&str], kind: Kind) -> bool
     }
 }
 
-/// Whether a word names a kind.
+/// Whether one of the given words names a kind.
 fn is_named(words: &[&str], kind: Kind) -> bool
     ensures { result ≡ is_among (texts words.now) (name_of kind) }
 {

@@ -2,7 +2,7 @@
 
 ghost use Rattle.nj_audit.specs.Cited.{QuotedPathsAreWords};
 
-/// Paths that are quoted as in `$in`, with blanks between them, are cut back into these paths.
+/// Paths that are quoted as in `$in`, with blanks between them, are cut back into the same paths.
 pub fn words_law()
     ensures { QuotedPathsAreWords }
 {}

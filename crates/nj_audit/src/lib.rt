@@ -1,4 +1,4 @@
-//! Findings about a manifest: what is probably a mistake in it, or of no use.
+//! Findings about a manifest: likely mistakes and dead entries.
 #![tactic(auto)]
 
 mod auditing;

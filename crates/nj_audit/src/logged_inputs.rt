@@ -1,4 +1,4 @@
-//! Inputs that a deps log names, beside those that commands name.
+//! Inputs that a deps log names, besides the inputs that commands name.
 
 ghost use Rattle.std.specs.Prelude.{◌≡◌, ◌↔◌, [], if◌then◌else◌, IfOk, IsTrue, None, OnOk, Some, length, map, nat_lt, option_map, Contains};
 ghost use Rattle.nj_audit.specs.Cited.{OfEdge, OfStatements, cons_option, edge_of, file_in, file_of, maker_of, makes_opened, edges_of, files_of, path_at, path_of, files_named, AreUndeclaredFindings, IsLoggedAlone, IsNamedUnordered, AddsLogged, HasRoles, AreIn, input_in, input_of, inputs_in};
@@ -10,9 +10,8 @@ use crate::unordered_files::{find_unordered_files, is_looked_at, is_unordered, n
 use nj_graph::{Edge, File, FileNo, Graph, NeedsSearch, UndeclaredInput};
 use std::alloc::{AllocError, Global};
 
-/// The undeclared inputs: the files that commands name and that are unordered with their edges, and
-/// then those of these inputs, which a deps log names, that were not found by the command of their
-/// edge.
+/// Returns the undeclared inputs: the files that commands name and that are unordered with their
+/// edges, and then the inputs of the deps log that were not found by the command of their edge.
 pub fn find_undeclared_inputs<'a>(
     alloc: Global,
     graph: &'a Graph,
@@ -29,8 +28,8 @@ pub fn find_undeclared_inputs<'a>(
     Ok(found)
 }
 
-/// Appends these inputs, but for those that the command of their edge names and that are unordered
-/// with it.
+/// Appends the given inputs, except those that the command of their edge names and that are
+/// unordered with it.
 fn push_logged<'a>(
     alloc: Global,
     graph: &'a Graph,
@@ -61,8 +60,8 @@ fn push_logged<'a>(
     Ok(())
 }
 
-/// Appends an input if its edge and its file are the graph's, unless the command of the edge names
-/// it and it is unordered with it.
+/// Appends an input if its edge and its file are in the graph, unless the command of the edge names
+/// the input and it is unordered with the edge.
 fn push_input<'a>(
     alloc: Global,
     graph: &'a Graph,
@@ -94,7 +93,7 @@ fn push_input<'a>(
     Ok(())
 }
 
-/// The file of a number; `None` past the last one.
+/// Returns the file with the given number, or `None` past the last file.
 fn file_numbered(graph: &Graph, number: FileNo) -> Option<File<'_>>
     ensures { option_map file_of result ≡ (if nat_lt number.0 (length (files_of graph.now))
         then Some (file_in graph.now (path_at (files_of graph.now) number)) else None) }
@@ -193,7 +192,7 @@ fn names_file(
     Ok(has_file(&files, file))
 }
 
-/// Whether one of these files is this.
+/// Whether the given files include a file.
 fn has_file(files: &[File<'_>], file: File<'_>) -> bool
     requires { AreIn (file_of file).graph (map file_of files.now) }
     ensures { IsTrue result

@@ -9,7 +9,7 @@ use crate::shell_words::{Token, take_token};
 use nj_graph::{File, Graph};
 use std::alloc::AllocError;
 
-/// Appends the files of a graph that the words of a command may name, as far as it reads them.
+/// Appends the files of a graph that the words of a command may name, where the command reads them.
 pub fn add_named_files<'g>(
     files: &mut Vec<File<'g>>,
     graph: &'g Graph,
@@ -38,8 +38,8 @@ pub fn add_named_files<'g>(
     Ok(())
 }
 
-/// Appends the files that the next token of a command may name. The word is that of a token that is
-/// one.
+/// Appends the files that the next token of a command may name. If the token is a word, `word` has
+/// its text.
 fn add_token<'g>(
     files: &mut Vec<File<'g>>,
     buffers: &mut PathBuffers,
@@ -66,7 +66,7 @@ fn add_token<'g>(
     }
 }
 
-/// Appends the files that the next word of a command may name, which is this, if it is read.
+/// Appends the files that the given next word of a command may name, if the command reads it.
 fn add_next<'g>(
     files: &mut Vec<File<'g>>,
     buffers: &mut PathBuffers,
@@ -107,7 +107,7 @@ fn add_files_in_word<'g>(
     Ok(())
 }
 
-/// Appends the file that a name means, if there is a name and a file.
+/// Appends the file that a name means, if both exist.
 fn add_file<'g>(
     files: &mut Vec<File<'g>>,
     buffers: &mut PathBuffers,
@@ -143,7 +143,7 @@ fn is_meant(name: &[u8], file: File<'_>) -> bool
     !is_bare(name) || !file.users().is_empty()
 }
 
-/// Whether a name has neither a slash nor a dot: it may be a word of another meaning.
+/// Whether a name has neither a slash nor a dot: it may be a word with another meaning.
 fn is_bare(name: &[u8]) -> bool
     ensures { result ≡ is_bare name.now }
 {

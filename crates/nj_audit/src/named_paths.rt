@@ -6,7 +6,7 @@ ghost use Rattle.nj_audit.specs.Cited.{after_letter, after_sign, after_slash, is
 use nj_text::{TextFault, clean_into, is_clean};
 use std::alloc::{AllocError, Global};
 
-/// Room for paths.
+/// Buffers for paths.
 #[derive(Drop)]
 pub struct PathBuffers {
     /// For a path below a directory.
@@ -16,7 +16,7 @@ pub struct PathBuffers {
 }
 
 impl PathBuffers {
-    /// Nothing is in them.
+    /// Returns empty buffers.
     pub fn new(alloc: Global) -> PathBuffers {
         PathBuffers {
             joined: Vec::new(alloc),
@@ -25,7 +25,7 @@ impl PathBuffers {
     }
 }
 
-/// The text after the first `=` of a word.
+/// Returns the text after the first `=` of a word, if any.
 pub fn after_sign(word: &[u8]) -> Option<&[u8]>
     ensures { option_copied result ≡ after_sign word.now }
 {
@@ -35,7 +35,7 @@ pub fn after_sign(word: &[u8]) -> Option<&[u8]>
     }
 }
 
-/// The position of the first `=` of a word.
+/// Returns the position of the first `=` of a word, if any.
 fn sign_position(word: &[u8]) -> Option<usize>
     ensures position { result ≡ position (λ byte. byte == 61) word.now }
     ensures fits { IfSome result (λ index. index < length word.now) }
@@ -43,7 +43,7 @@ fn sign_position(word: &[u8]) -> Option<usize>
     word.iter().position(|byte| *byte == b'=')
 }
 
-/// The text after the second byte of a word that begins with `-`.
+/// Returns the text after the second byte of a word that begins with `-`.
 pub fn after_letter(word: &[u8]) -> Option<&[u8]>
     ensures { option_copied result ≡ after_letter word.now }
 {
@@ -54,8 +54,8 @@ pub fn after_letter(word: &[u8]) -> Option<&[u8]>
     }
 }
 
-/// The path of a name that a command sees from a directory, as seen from that of the build, in the
-/// buffers where it is another text; `None` for an empty name.
+/// Returns the path of a name that a command sees from a directory, as seen from the directory of
+/// the build, or `None` for an empty name. The path is in the buffers if it differs from the name.
 pub fn path_seen<'a>(
     buffers: &'a mut PathBuffers,
     folder: &[u8],
@@ -76,7 +76,7 @@ pub fn path_seen<'a>(
     path_named(&mut buffers.clean, folder, &buffers.joined)
 }
 
-/// Appends a path that is read in a directory, if there is one.
+/// Appends a path that is read in a directory, if any.
 pub fn push_below(out: &mut Vec<u8>, folder: &[u8], path: &[u8]) -> Result<(), AllocError>
     ensures { OnOk result (out.new.items ≡ out.old.items ++ path_below folder.now path.now) }
 {
@@ -90,7 +90,7 @@ pub fn push_below(out: &mut Vec<u8>, folder: &[u8], path: &[u8]) -> Result<(), A
     Ok(())
 }
 
-/// Whether no directory is put in front of a path.
+/// Whether a path stands alone, without a directory in front of it.
 fn stands_alone(folder: &[u8], path: &[u8]) -> bool
     ensures { result ≡ stands_alone folder.now path.now }
 {
@@ -104,8 +104,8 @@ fn is_absolute(path: &[u8]) -> bool
     matches!(path, [b'/', ..])
 }
 
-/// The path of a name, as seen from the directory, in the buffer where it is another text; `None`
-/// for an empty name. Where no directory is given, absolute paths stay.
+/// Returns the path of a name, as seen from the directory, or `None` for an empty name. The path is
+/// in the buffer if it differs from the name. Without a directory, absolute paths stay.
 pub fn path_named<'a>(
     buffer: &'a mut Vec<u8>,
     folder: &[u8],
@@ -124,7 +124,7 @@ pub fn path_named<'a>(
     }
 }
 
-/// A path without the directory that it begins with, if that is given.
+/// Returns a path without the directory that it begins with, if a directory is given.
 fn without_folder<'a>(folder: &[u8], path: &'a [u8]) -> &'a [u8]
     ensures { result.now ≡ without_folder folder.now path.now }
 {
@@ -137,7 +137,7 @@ fn without_folder<'a>(folder: &[u8], path: &'a [u8]) -> &'a [u8]
     }
 }
 
-/// The text after the slash with which a text begins.
+/// Returns the text after the slash with which a text begins.
 fn after_slash(text: &[u8]) -> Option<&[u8]>
     ensures { option_copied result ≡ after_slash text.now }
 {

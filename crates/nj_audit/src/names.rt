@@ -23,7 +23,7 @@ impl Model for Names {
 }
 
 impl Names {
-    /// No names.
+    /// Returns an empty set.
     pub fn new(alloc: Global) -> Names
         ensures { result ≡ [] }
     {
@@ -33,7 +33,7 @@ impl Names {
         }
     }
 
-    /// Whether a name is one of them.
+    /// Whether a name is in the set.
     pub fn has(&self, name: &[u8]) -> bool
         ensures { result ≡ is_among self.now name.now }
     {

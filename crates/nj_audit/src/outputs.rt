@@ -9,7 +9,7 @@ use crate::kinds::Kind;
 use nj_graph::{Edge, File, Graph};
 use std::alloc::{AllocError, Global};
 
-/// Appends the outputs that no edge has as an input or as a validation, and that are not among the
+/// Appends the outputs that are neither an input nor a validation of an edge, and are not among the
 /// defaults.
 #[tactic(auto, using(crate::proofs::HandleLemmas::numbers_there))]
 pub fn find_unused_outputs<'a>(
@@ -26,7 +26,7 @@ pub fn find_unused_outputs<'a>(
     Ok(())
 }
 
-/// The defaults.
+/// Returns the defaults.
 #[tactic(auto, using(crate::proofs::HandleLemmas::paths_there))]
 fn defaults_of(alloc: Global, graph: &Graph) -> Result<FileSet<'_>, AllocError>
     ensures { IfOk result (HasDefaults graph.now) }
@@ -38,7 +38,7 @@ fn defaults_of(alloc: Global, graph: &Graph) -> Result<FileSet<'_>, AllocError>
     Ok(defaults)
 }
 
-/// Appends those of an edge.
+/// Appends the unused outputs of an edge.
 #[tactic(auto, using(crate::proofs::HandleLemmas::paths_there))]
 fn push_unused_outputs<'a>(
     edge: Edge<'a>,
@@ -65,7 +65,7 @@ fn is_unused(file: File<'_>, defaults: &FileSet<'_>) -> bool
     file.users().is_empty() && file.validation_users().is_empty() && !defaults.has(file)
 }
 
-/// The first output of an edge.
+/// Returns the path of the first output of an edge.
 pub fn first_output<'g>(edge: Edge<'g>) -> &'g [u8]
     ensures { result.now ≡ first_output_at (edge_of edge.entry).graph (edge_of edge.entry).number }
 {

@@ -49,7 +49,7 @@ fn push_if_unused<'a>(
     }
 }
 
-/// The names of the pools that edges use.
+/// Returns the names of the pools that edges use.
 #[tactic(auto, using(crate::proofs::HandleLemmas::numbers_there))]
 fn used_pools(alloc: Global, graph: &Graph) -> Result<Names, AllocError>
     ensures { (entries : List ReadStatement) (name : List ℕ) → IsGraphOf graph.now entries

@@ -7,15 +7,15 @@ use crate::named_paths::push_below;
 use std::alloc::{AllocError, Global};
 use std::marker::Model;
 
-/// The bytes that a path may have for the system.
+/// The number of bytes that the system allows in a path.
 const LONGEST_PATH: usize = 4096;
 
-/// What a word is to the command that it is in.
+/// The part of a word in its command.
 #[derive(Clone, Copy)]
 pub enum Part {
-    /// Its program.
+    /// The program of the command.
     Program,
-    /// The directory of `cd`.
+    /// The directory argument of `cd`.
     Directory,
     /// An argument of `tee`.
     Copy,
@@ -23,13 +23,13 @@ pub enum Part {
     Argument,
 }
 
-/// What the words before it say of the next word of a command.
+/// What is known of the next word of a command from the words before it.
 #[derive(Drop)]
 pub struct NextWord {
     part: Part,
     // whether `>` or `-o` comes before it
     is_written: bool,
-    // that `cd` entered
+    // the directory that `cd` entered
     folder: Vec<u8>,
 }
 
@@ -46,7 +46,7 @@ impl Model for NextWord {
 }
 
 impl NextWord {
-    /// The first word of a command.
+    /// Returns the state before the first word of a command.
     pub fn first(alloc: Global) -> NextWord
         ensures { result ≡ first_word }
     {
@@ -57,21 +57,21 @@ impl NextWord {
         }
     }
 
-    /// The directory that `cd` entered before it; empty before the first `cd`.
+    /// Returns the directory that `cd` entered before the word; empty before the first `cd`.
     pub fn folder(&self) -> &[u8]
         ensures { result.now ≡ self.now.folder }
     {
         &self.folder
     }
 
-    /// Whether the next word, which is this, may name what the command reads.
+    /// Whether the given next word may name a file that the command reads.
     pub fn is_read(&self, word: &[u8]) -> bool
         ensures { result ≡ is_read self.now word.now }
     {
         !(self.is_written || is_copy(self.part) || names_output(word))
     }
 
-    /// The next token is a byte of an operator.
+    /// Advances over a byte of an operator.
     pub fn pass_operator(&mut self, byte: u8)
         ensures { self.new ≡ after_operator self.old byte }
     {
@@ -83,7 +83,7 @@ impl NextWord {
         }
     }
 
-    /// A command begins.
+    /// Begins a command.
     fn begin_command(&mut self)
         ensures { self.new ≡ begins_command self.old }
     {
@@ -91,7 +91,7 @@ impl NextWord {
         self.is_written = false;
     }
 
-    /// The next token is this word.
+    /// Advances over a word.
     pub fn pass_word(&mut self, word: &[u8]) -> Result<(), AllocError>
         ensures { OnOk result (self.new ≡ after_word self.old word.now) }
     {
@@ -102,7 +102,7 @@ impl NextWord {
         self.pass_read(word)
     }
 
-    /// The next token is this word, which neither `>` nor `-o` comes before.
+    /// Advances over a word that does not come after `>` or `-o`.
     fn pass_read(&mut self, word: &[u8]) -> Result<(), AllocError>
         ensures { OnOk result (self.new ≡ after_part self.old.part self.old word.now) }
     {
@@ -121,7 +121,7 @@ impl NextWord {
     }
 }
 
-/// The part of the words after a program.
+/// Returns the part of the words after a program.
 fn part_after(program: &[u8]) -> Part
     ensures { result ≡ part_after program.now }
 {
@@ -176,7 +176,7 @@ fn is_copy(part: Part) -> bool
     matches!(part, Part::Copy)
 }
 
-/// Puts the directory after `cd` in place of the one before it.
+/// Enters the directory after `cd`, as seen from the directory before, unless its path is too long.
 fn enter(folder: &mut Vec<u8>, name: &[u8]) -> Result<(), AllocError>
     ensures { OnOk result (folder.new.items ≡ entered folder.old.items name.now) }
 {

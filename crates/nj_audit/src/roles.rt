@@ -8,17 +8,17 @@ use nj_graph::{Edge, EdgeNo, FileList, Graph};
 use nj_names::NumberSet;
 use std::alloc::{AllocError, Global};
 
-/// What the edges of a graph are for.
+/// The roles of a graph's edges.
 #[derive(Drop)]
 pub struct Roles {
-    /// Those whose commands the defaults need.
+    /// The edges whose commands the defaults need.
     pub built: NumberSet,
-    /// Those that make files of the manifest.
+    /// The edges that make files of the manifest.
     pub opened: NumberSet,
 }
 
 impl Roles {
-    /// The roles of a graph's edges.
+    /// Returns the roles of a graph's edges.
     pub fn new(alloc: Global, graph: &Graph) -> Result<Roles, AllocError>
         ensures { IfOk result (HasRoles graph.now) }
     {
@@ -27,7 +27,7 @@ impl Roles {
         Ok(Roles { built, opened })
     }
 
-    /// Whether an edge of the pool `console` is one that no default needs, so that it is run by hand.
+    /// Whether an edge is in the pool `console` and no default needs it, so that it is run by hand.
     pub fn is_run_by_hand(&self, edge: Edge<'_>) -> bool
         requires { HasRoles (edge_of edge).graph self.now }
         ensures { OfEdge (edge_of edge.entry) (λ entries number.
@@ -56,7 +56,7 @@ fn is_console(pool: &[u8]) -> bool
     pool == b"console".as_slice()
 }
 
-/// The edges whose commands the defaults need.
+/// Returns the edges whose commands the defaults need.
 fn built_by_default(alloc: Global, graph: &Graph) -> Result<NumberSet, AllocError>
     ensures { IfOk result (HasNumbers (length (edges_of graph.now)) (built_by_default graph.now)) }
 {
@@ -68,7 +68,7 @@ fn built_by_default(alloc: Global, graph: &Graph) -> Result<NumberSet, AllocErro
     Ok(built)
 }
 
-/// The defaults.
+/// Returns the defaults.
 fn default_files(alloc: Global, graph: &Graph) -> Result<FileList<'_>, AllocError>
     ensures { IfOk result (λ files. files
         ≡ record { graph = graph.entry.now; paths = defaults_of graph.entry.now }) }
@@ -81,7 +81,7 @@ fn default_files(alloc: Global, graph: &Graph) -> Result<FileList<'_>, AllocErro
     }
 }
 
-/// The edges that make files that were opened.
+/// Returns the edges that make files that were opened.
 fn makers_of_opened(alloc: Global, graph: &Graph) -> Result<NumberSet, AllocError>
     ensures { IfOk result (HasNumbers (length (edges_of graph.now)) (makers_of_opened graph.now)) }
 {
@@ -99,7 +99,8 @@ fn makers_of_opened(alloc: Global, graph: &Graph) -> Result<NumberSet, AllocErro
     Ok(makers)
 }
 
-/// The edge that makes the file that was opened at an index. The buffer is for paths.
+/// Returns the edge that makes the file that was opened at an index, if any. The buffer is for
+/// paths.
 fn maker_of_opened(
     buffer: &mut Vec<u8>,
     graph: &Graph,

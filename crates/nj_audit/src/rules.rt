@@ -19,7 +19,7 @@ pub fn find_unused_rules<'a>(
     let used = used_rules(alloc, graph)?;
     'rules: for (rule, declared) in graph.rules().iter().enumerate() {
         if !used[rule] {
-            // No statement declares `phony`.
+            // `phony` is not declared by a statement.
             if let Some(place) = graph.rule_place(RuleNo(rule)) {
                 found.push(place, Kind::UnusedRule, declared.name())?;
             }
@@ -28,7 +28,7 @@ pub fn find_unused_rules<'a>(
     Ok(())
 }
 
-/// Of each rule whether an edge uses it.
+/// Returns for each rule whether an edge uses it.
 #[tactic(auto, using(crate::proofs::HandleLemmas::numbers_there))]
 fn used_rules(alloc: Global, graph: &Graph) -> Result<Vec<bool>, AllocError>
     ensures len { IfOk result (λ used.

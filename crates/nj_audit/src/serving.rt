@@ -16,7 +16,7 @@ struct Found<'g> {
     edges: Vec<Edge<'g>>,
 }
 
-/// The edges that have a command, and those that they need through any chain of inputs.
+/// Returns the edges that have a command, and the edges that they need through any chain of inputs.
 pub fn serving_edges(alloc: Global, graph: &Graph) -> Result<NumberSet, AllocError>
     ensures { IfOk result (λ found. (edge : ℕ)
         → Contains found.numbers edge ↔ ServesCommand (edges_of graph.now) edge) }

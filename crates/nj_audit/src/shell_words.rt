@@ -32,8 +32,8 @@ pub enum Token {
     Operator(u8),
 }
 
-/// The first word or operator of a command, and the text after it; `None` if there is none. A word is
-/// put in place of `word`, without its quotes.
+/// Returns the first word or operator of a command and the text after it, or `None` if the command
+/// has neither. The text of a word, without its quotes, replaces `word`.
 pub fn take_token<'a>(
     word: &mut Vec<u8>,
     text: &'a [u8],
@@ -65,8 +65,8 @@ pub fn take_token<'a>(
     Ok(Some((Token::Word, b"")))
 }
 
-/// Skips spaces and tabs, and puts the bytes before the next one that ends a word or quotes others in
-/// place of `word`. Returns how the rest is read.
+/// Skips spaces and tabs, and replaces `word` with the bytes before the next byte that ends a word
+/// or quotes others. Returns how the rest is read.
 fn begin_word<'a>(word: &mut Vec<u8>, text: &'a [u8]) -> Result<(Quoting, &'a [u8]), AllocError>
     ensures { IfOk result (λ begun.
         tokens_after word.new.items (read_text begun.0 begun.1.now) ≡ tokens_of text.now) }
@@ -81,7 +81,7 @@ fn begin_word<'a>(word: &mut Vec<u8>, text: &'a [u8]) -> Result<(Quoting, &'a [u
     Ok((Quoting::Bare, &text[count..]))
 }
 
-/// A text without the spaces and tabs in front.
+/// Returns a text without the spaces and tabs in front.
 fn after_gap(text: &[u8]) -> &[u8]
     ensures { tokens_of result.now ≡ tokens_of text.now }
 {
@@ -95,7 +95,7 @@ fn after_gap(text: &[u8]) -> &[u8]
     rest
 }
 
-/// How many bytes come before the first one that ends a word or quotes others.
+/// Returns how many bytes come before the first byte that ends a word or quotes others.
 fn plain_count(text: &[u8]) -> usize
     ensures count { result ≡ position_or_len is_special text.now }
     ensures fits { result ≤ length text.now }
@@ -106,7 +106,7 @@ fn plain_count(text: &[u8]) -> usize
     }
 }
 
-/// The position of the first byte that ends a word or quotes others.
+/// Returns the position of the first byte that ends a word or quotes others, if any.
 fn special_position(text: &[u8]) -> Option<usize>
     ensures position { result ≡ position is_special text.now }
 {
@@ -120,7 +120,7 @@ fn is_special(byte: u8) -> bool
     is_cut(byte) || is_dropped(Quoting::Between, byte)
 }
 
-/// How the byte after one is read.
+/// Returns how the byte after the given byte is read.
 fn next_quoting(quoting: Quoting, byte: u8) -> Quoting
     ensures { result ≡ next_quoting quoting byte }
 {
@@ -148,7 +148,7 @@ fn next_quoting(quoting: Quoting, byte: u8) -> Quoting
     }
 }
 
-/// How the byte after one outside quotes is read.
+/// Returns how the byte after a byte outside quotes is read.
 fn next_bare(byte: u8) -> Quoting
     ensures { result ≡ next_bare byte }
 {
@@ -208,8 +208,8 @@ fn push_kept(word: &mut Vec<u8>, quoting: Quoting, byte: u8) -> Result<(), Alloc
     Ok(())
 }
 
-/// Whether a word keeps nothing of a byte: of a quote, of a backslash before another byte, of the end
-/// of a line after a backslash, and of a comment.
+/// Whether a word drops a byte: a quote, a backslash before another byte, the end of a line after a
+/// backslash, or a byte of a comment.
 fn is_dropped(quoting: Quoting, byte: u8) -> bool
     ensures { result ≡ is_dropped quoting byte }
 {

@@ -45,7 +45,7 @@ fn push_if_missing<'a>(
     }
 }
 
-/// The first of these edges whose flag is set.
+/// Returns the first of the given edges whose flag is set, if any.
 fn first_set<'g>(edges: Edges<'g>, flags: &[bool]) -> Option<Edge<'g>>
     ensures { option_map edge_of result
         ≡ find (λ edge. is_set flags.now edge.number) edges.entry }
@@ -58,7 +58,7 @@ fn first_set<'g>(edges: Edges<'g>, flags: &[bool]) -> Option<Edge<'g>>
     None
 }
 
-/// Whether the flag at this index is set; past the last one it is not.
+/// Whether the flag at the given index is set. Past the last flag, it is not.
 fn is_set(flags: &[bool], index: usize) -> bool
     ensures { result ≡ is_set flags.now index }
 {

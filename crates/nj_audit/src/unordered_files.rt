@@ -11,9 +11,9 @@ use crate::roles::Roles;
 use nj_graph::{Edge, File, Graph, NeedsSearch};
 use std::alloc::{AllocError, Global};
 
-/// The files that the commands of edges and their response files name, and that another edge makes,
-/// where neither edge needs the other. Names are taken as seen from the directory, which is
-/// absolute; without one, absolute names stay.
+/// Returns the files that the commands of edges and their response files name, and that another
+/// edge makes, where neither edge needs the other. Names are read as seen from the directory, which
+/// is absolute; without a directory, absolute names stay.
 pub fn find_unordered_files<'a>(
     alloc: Global,
     graph: &'a Graph,
@@ -43,7 +43,7 @@ pub fn find_unordered_files<'a>(
     Ok(found)
 }
 
-/// The files that the command of an edge and its response file may name.
+/// Returns the files that the command of an edge and its response file may name.
 pub fn named_files<'g>(
     alloc: Global,
     folder: &[u8],
@@ -91,7 +91,7 @@ pub fn has_generator(alloc: Global, edge: Edge<'_>) -> Result<bool, AllocError>
     Ok(!generator.is_empty())
 }
 
-/// The contents of an edge's response file, if it has a name.
+/// Returns the contents of an edge's response file, if the file has a name.
 fn response(alloc: Global, edge: Edge<'_>) -> Result<Vec<u8>, AllocError>
     ensures { OfEdge (edge_of edge.entry) (λ entries number.
         IfOk result (λ text. text.items ≡ response_of entries number)) }
@@ -103,7 +103,7 @@ fn response(alloc: Global, edge: Edge<'_>) -> Result<Vec<u8>, AllocError>
     edge.variable(alloc, b"rspfile_content")
 }
 
-/// Appends those of these files that are unordered with an edge. The set is for those.
+/// Appends the given files that are unordered with an edge. The set is for the files found.
 fn push_unordered<'a>(
     edge: Edge<'a>,
     files: &[File<'a>],
@@ -178,7 +178,8 @@ pub fn is_unordered(
     Ok(!is_user)
 }
 
-/// The edge that makes a file, if that has a command, is no twin and makes no file of the manifest.
+/// Returns the edge that makes a file, if it has a command, is not a twin and does not make a file
+/// of the manifest.
 fn other_maker<'g>(edge: Edge<'_>, file: File<'g>, roles: &Roles) -> Option<Edge<'g>>
     requires graph { (file_of file).graph ≡ (edge_of edge).graph }
     requires roles { HasRoles (edge_of edge).graph roles.now }
@@ -195,7 +196,7 @@ fn other_maker<'g>(edge: Edge<'_>, file: File<'g>, roles: &Roles) -> Option<Edge
     }
 }
 
-/// Whether an edge has the rule and the inputs of another one.
+/// Whether an edge has the rule and the inputs of another edge.
 fn is_twin(edge: Edge<'_>, other: Edge<'_>) -> bool
     requires { (edge_of other).graph ≡ (edge_of edge).graph }
     ensures { IsTrue result ↔ IsTwin

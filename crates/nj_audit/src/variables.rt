@@ -1,4 +1,4 @@
-//! Variables of edges to which no line of their rules refers.
+//! Variables of edges that their rules do not refer to.
 
 ghost use Rattle.std.specs.Prelude.{◌≡◌, ◌++◌, ℕ, List, [], ◌∷◌, IfOk, OnOk};
 ghost use Rattle.nj_audit.specs.Cited.{OfEdge, OfStatements, AllZip, edge_of, is_among, is_known, names_in, rule_at, unused_names, unused_variables, unused_variables_at, HasReferences};
@@ -9,8 +9,8 @@ use crate::names::Names;
 use nj_graph::{Edge, Graph, LateValue, Part, Rule};
 use std::alloc::{AllocError, Global};
 
-/// Appends the names that blocks of edges bind, that no line of the edge's rule refers to, and that
-/// mean nothing to Ninja itself.
+/// Appends the names that blocks of edges bind, that the edge's rule does not refer to, and that
+/// have no meaning to Ninja itself.
 #[tactic(auto, using(crate::proofs::HandleLemmas::numbers_there))]
 pub fn find_unused_variables<'a>(
     alloc: Global,
@@ -27,7 +27,7 @@ pub fn find_unused_variables<'a>(
     Ok(())
 }
 
-/// Appends those of an edge. The references are those of its rule.
+/// Appends the unused names of an edge. The references are those of its rule.
 fn push_unused_variables<'a>(
     edge: Edge<'a>,
     references: &Names,
@@ -64,7 +64,7 @@ fn push_if_unused<'a>(
     found.push_at(edge, Kind::UnusedVariable, name)
 }
 
-/// The names to which the lines of each rule refer.
+/// Returns the names to which the lines of each rule refer.
 fn references_of_rules(alloc: Global, rules: &[Rule]) -> Result<Vec<Names>, AllocError>
     ensures { IfOk result (λ references. AllZip HasReferences references.items rules.now) }
 {
@@ -75,7 +75,7 @@ fn references_of_rules(alloc: Global, rules: &[Rule]) -> Result<Vec<Names>, Allo
     Ok(references)
 }
 
-/// The names to which the lines of a rule refer.
+/// Returns the names to which the lines of a rule refer.
 fn references_of(alloc: Global, rule: &Rule) -> Result<Names, AllocError>
     ensures { IfOk result (λ references. HasReferences references rule.now) }
 {
@@ -102,7 +102,7 @@ fn add_references(references: &mut Names, value: &LateValue) -> Result<(), Alloc
     Ok(())
 }
 
-/// Whether a name means something to Ninja itself.
+/// Whether a name has a meaning to Ninja itself.
 fn is_known(name: &[u8]) -> bool
     ensures { result ≡ is_known name.now }
 {

@@ -14,7 +14,7 @@ use Rattle.nj_build_log.specs.Numbers.{leading_value}
 abbrev digits_from : (base : ℕ) → List ℕ → (place : ℕ) → List ℕ
 digits_from base text place = take_while (λ byte. is_digit byte base) (drop place text)
 
--- the value so far, and the digits that are left, write the number at the front of the text
+-- the value so far and the remaining digits write the number at the front of the text
 abbrev pub IsReadTo : (base : ℕ) → List ℕ → (place value : ℕ) → Type 0
 IsReadTo base text place value =
     min (digits_value_after base value (digits_from base text place)) (2 ^ 64)

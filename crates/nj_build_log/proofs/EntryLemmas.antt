@@ -1,4 +1,4 @@
--- The entries of outputs, of which the last one counts.
+-- The entries of outputs: the last entry of each output counts.
 use Rattle.std.proofs.Common.{◌≡◌, ◌⊎◌, inl, inr, ℕ, zero, suc, ◌+◌, ◌<◌, ◌≤◌, Bool, true, false, cond}
 use Rattle.std.proofs.Common.{Option, Some, None, List, [], ◌∷◌, ◌++◌, length, map, drop, set, add-one, refl}
 use Rattle.std.proofs.Common.{sym, ap, ap₂, ◌∙◌, subst, arith, true≢false, ◌||◌, length-append}
@@ -220,7 +220,7 @@ outputs-push lines line =
     ap (fold with_name []) (map-append (λ l. l.output) lines (line ∷ []))
     ∙ fold-append with_name [] (map (λ l. l.output) lines) (line.output ∷ [])
 
--- the lines with one more
+-- the lines with one more line
 pub view-push : (outputs : List (List ℕ)) (lines : List HeldLine) (entries : List Entry) (output : List ℕ)
     (line : HeldLine)
     → AreLinesHeld outputs lines entries → slice_get (with_name outputs output) line.output ≡ Some output
@@ -264,7 +264,7 @@ held-push outputs lines entries new output line held at sets =
     by q (inr other) = ap (λ b. cond b (Some line.entry) (entry_of (all_named outputs lines) q)) other
         ∙ held.last q ∙ sym (sets.others q other)
 
--- the first of the outputs that are left
+-- the first of the remaining outputs
 pub first-left : (outputs : List (List ℕ)) (n : ℕ) (output : List ℕ) → slice_get outputs n ≡ Some output
     → drop n outputs ≡ output ∷ drop (n + 1) outputs
 first-left outputs n output at = rw (add-one n) (from outputs n at)

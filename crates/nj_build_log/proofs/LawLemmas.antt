@@ -1,4 +1,4 @@
--- What a line does that is put after a log.
+-- The effect of a line that is appended to a log.
 use Rattle.std.proofs.Common.{◌≡◌, ℕ, zero, suc, ◌+◌, ◌-◌, ◌<◌, ◌≤◌, Bool, true, false, cond, ◌⊎◌, inl, inr}
 use Rattle.std.proofs.Common.{true≢false, Option, Some, None, List, [], ◌∷◌, ◌++◌, length, take, drop, refl}
 use Rattle.std.proofs.Common.{sym, ap, ap₂, ◌∙◌, subst, arith, append_assoc, length-append}
@@ -32,7 +32,7 @@ onto_front byte (piece ∷ front) back some = refl
 some_piece : (text : List ℕ) → 0 < length (slice_split is_line_feed text)
 some_piece text = omega (arith, length-slice_split is_line_feed text)
 
--- at a line feed, the pieces before it come first, and then those after it
+-- at a line feed, the pieces before it come first, and then the pieces after it
 split_there : (front back : List ℕ)
     → slice_split is_line_feed (front ++ 10 ∷ back)
     ≡ slice_split is_line_feed front ++ slice_split is_line_feed back
@@ -61,7 +61,7 @@ without_last pieces last =
 one_piece : (line : List ℕ) → IsOneLine line → slice_split is_line_feed line ≡ line ∷ []
 one_piece line one = slice_split_none is_line_feed line (all_fail is_line_feed line one)
 
--- a text whose last piece is no line
+-- a text whose last piece is not a line
 pieces_but_last : (front last : List ℕ) → IsOneLine last
     → lines_of (front ++ 10 ∷ last) ≡ slice_split is_line_feed front
 pieces_but_last front last one =
@@ -112,7 +112,7 @@ line-unended text line (inr ended) one =
 abbrev has_end : List ℕ → Type 0
 has_end text = list_any is_line_feed text ≡ true
 
--- a text with a line feed at its end has one
+-- a text with a line feed at its end has a line feed
 end_there : (front : List ℕ) → has_end (front ++ 10 ∷ [])
 end_there [] = refl
 end_there (byte ∷ front) = by (is_line_feed byte) (end_there front)
@@ -152,7 +152,7 @@ rest_longer text more some =
     ap (λ n. drop (n + 1) (text ++ more)) (same_end text more some)
     ∙ drop-append-le (position_or_len is_line_feed text + 1) text more (omega arith)
 
--- what is left of whole lines after the first one are whole lines
+-- the rest of whole lines after the first line is whole lines
 rest_there : (front : List ℕ) → AreWholeLines (after_first is_line_feed (front ++ 10 ∷ []))
 rest_there [] = inl refl
 rest_there (byte ∷ front) = by (is_line_feed byte) (rest_there front)
@@ -178,7 +178,7 @@ said_by : (text : List ℕ) → 0 < length text → build_log_of text
 said_by [] none = absurd (omega arith)
 said_by (byte ∷ text) some = refl
 
--- a text after an ended one leaves its first line
+-- a text appended to an ended text does not change its first line
 said_more : (text more : List ℕ) → IsEnded text → build_log_of (text ++ more)
     ≡ log_of_version (version_number (before_first is_line_feed text))
     (logged_lines (after_first is_line_feed text ++ more))

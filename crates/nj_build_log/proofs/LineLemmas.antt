@@ -43,7 +43,7 @@ split_some test text k first =
     ap (λ i. Some (take i text, drop (i + 1) text)) (sym at)
     ∙ ap (λ b. cond b (Some (before_first test text, after_first test text)) None) (sym some)
 
--- ---- what is known of texts that are cut so
+-- ---- properties of texts that are cut so
 
 pub two_ways : (b : Bool) → (b ≡ true) ⊎ (b ≡ false)
 two_ways true = inl refl
@@ -159,7 +159,7 @@ five_fields line start rest_1 end rest_2 time rest_3 output hash a b c d =
     ∙ ap (λ fs. end ∷ fs) (field_more 1 rest_2 time rest_3 c
     ∙ ap (λ fs. time ∷ fs) (field_more 0 rest_3 output hash d)))
 
--- the line of these fields, with the numbers that they write
+-- the line with the given fields, with the numbers that they write
 pub line_read : (line counted start rest_1 end rest_2 time rest_3 output hash : List ℕ)
     (started ended timed : ℤ) (hashed : ℕ)
     → counted ≡ counted_part line
@@ -202,7 +202,7 @@ one_line table new line rest after all first added read =
     ∙ ap (λ ls. table ++ ls) (one_more (line_of line) (logged_lines after))
     ∙ ap (λ ls. table ++ filter_map line_of ls) (sym first) ∙ read
 
--- no line is left
+-- the lines are exhausted
 pub all_lines : (table : List LineModel) (rest all : List ℕ) → lines_of rest ≡ []
     → table ++ logged_lines rest ≡ logged_lines all → table ≡ logged_lines all
 all_lines table rest all none read =

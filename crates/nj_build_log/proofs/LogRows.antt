@@ -123,7 +123,7 @@ of_response_file : command_hash Five (codes "cp in b.o && true @b.o.rsp")
     (codes "in in2 in" ++ 10 ∷ codes "in2") ≡ 0xe6ebee7b5265d11e
 of_response_file = refl
 
--- ---- hashes of texts of so many bytes, which two programs computed from the published algorithms
+-- ---- hashes of texts of various lengths, which two programs computed from the published algorithms
 
 murmur-0 : murmur_of (codes "") ≡ 0x87c2bc0beaf1d91d
 murmur-0 = refl

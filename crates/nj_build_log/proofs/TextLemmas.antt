@@ -22,14 +22,14 @@ size_of_text command (byte ∷ contents) some =
       length-append separator (byte ∷ contents),
     )
 
--- its bytes are fewer than those of both and the separator
+-- the text has at most as many bytes as both texts and the separator
 pub text_bounded : (command contents : List ℕ)
     → length (hashed_text command contents) ≤ length command + 9 + length contents
 text_bounded command [] = omega arith
 text_bounded command (byte ∷ contents) = let e = size_of_text command (byte ∷ contents) (omega arith)
     in omega (arith, e)
 
--- a place behind the command is one of the separator and the contents
+-- a place behind the command is a place in the separator or the contents
 abbrev rest_of : List ℕ → List ℕ
 rest_of [] = []
 rest_of (byte ∷ contents) = separator ++ byte ∷ contents
@@ -102,7 +102,7 @@ word_of_contents command (byte ∷ contents) place count behind some within =
 
 -- ---- numbers that are read byte by byte, from the last byte on
 
--- the bytes that are left, and a number that the others write, which fits
+-- the remaining bytes, and the number that the other bytes write, which fits
 pub record IsReadFrom (text : List ℕ) (place count passed number : ℕ) : Type 0 where
   pub read : number ≡ number_of (drop (count - passed) (slice_range text place (place + count)))
   pub fits : number < 256 ^ passed

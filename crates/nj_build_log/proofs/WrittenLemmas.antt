@@ -26,11 +26,11 @@ use Rattle.nj_build_log.proofs.LineLemmas.{five_fields}
 
 -- ---- digits
 
--- a digit of base sixteen is no blank, no sign and no x
+-- a digit of base sixteen is not a blank, a sign or an x
 small_digit : (byte : ℕ) → digit_value byte < 16 → (48 ≤ byte) × (byte < 103) × (byte ≢ 88)
 small_digit byte small = (grind (arith, nat_tests), grind (arith, nat_tests), grind (arith, nat_tests))
 
--- a text of digits is taken whole
+-- a text of digits is read whole
 all_taken : (base : ℕ) (text : List ℕ) → AllDigits base text
     → take_while (λ byte. is_digit byte base) text ≡ text
 all_taken base [] all = refl
@@ -40,7 +40,7 @@ all_taken base (byte ∷ text) all =
     (lt-ltb (digit_value byte) base all.0)
     ∙ ap (λ t. byte ∷ t) (all_taken base text all.1)
 
--- what begins with a digit has no blank and no sign at its front
+-- a text that begins with a digit does not begin with a blank or a sign
 no_blank : (byte : ℕ) (text : List ℕ) → 48 ≤ byte → without_blanks (byte ∷ text) ≡ byte ∷ text
 no_blank byte text high = ap (λ b. cond b (without_blanks text) (byte ∷ text)) (is byte high)
   where

@@ -5,7 +5,7 @@ use Rattle.nj_build_log.specs.Rapid.{rapid_of}
 use Rattle.nj_build_log.specs.declared.log_version.LogVersion.{LogVersion}
 use Rattle.nj_build_log.specs.declared.log_version.LogVersion.TheVariants.{Five, Six, Seven}
 
--- what stands between a command and the contents of its response file
+-- the separator between a command and the contents of its response file
 abbrev pub separator : List ℕ
 separator = codes ";rspfile="
 

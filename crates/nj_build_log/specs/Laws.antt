@@ -1,4 +1,4 @@
--- Laws of build logs: what a line does that is put after a log.
+-- Laws of build logs: the effect of a line that is appended to a log.
 use Rattle.std.specs.Prelude.{◌≡◌, ◌≢◌, ℕ, ◌<◌, ◌^◌, false, pos, Some, Ok, List, [], ◌∷◌, ◌++◌, length, decimal}
 use Rattle.std.specs.Fmt.{digits}
 use Rattle.std.specs.List.{count_by, list_any}
@@ -10,7 +10,7 @@ use Rattle.nj_build_log.specs.Logs.{LineModel, BuildLogModel, buffer_size, build
 abbrev pub IsEnded : (text : List ℕ) → Type 0
 IsEnded text = (front : List ℕ) × (text ≡ front ++ 10 ∷ [])
 
--- no line ends in it
+-- a text without line feeds
 abbrev pub IsOneLine : (line : List ℕ) → Type 0
 IsOneLine line = list_any is_line_feed line ≡ false
 
@@ -18,8 +18,8 @@ IsOneLine line = list_any is_line_feed line ≡ false
 abbrev pub with_line : (text line : List ℕ) → List ℕ
 with_line text line = text ++ (line ++ 10 ∷ [])
 
--- a line that counts is added to a log: it is what the log says of its output from then on, and of other outputs the log
--- says what it said
+-- a line that counts is added to a log: it becomes the entry of its output, and the entries of other outputs do not
+-- change
 pub record IsAdded (line : LineModel) (old new : BuildLogModel) : Type 0 where
   pub version : new.version ≡ old.version
   pub lines : new.lines ≡ old.lines ++ line ∷ []
@@ -46,7 +46,7 @@ FewTabsChangeNothing = (text line : List ℕ) → IsEnded text → IsOneLine lin
 
 -- ---- lines as Ninja writes them
 
--- the fields of a line, with a tab between any two
+-- the fields of a line, separated by tabs
 abbrev pub tabbed : (start end time output hash : List ℕ) → List ℕ
 tabbed start end time output hash = start ++ 9 ∷ (end ++ 9 ∷ (time ++ 9 ∷ (output ++ 9 ∷ hash)))
 
@@ -54,7 +54,8 @@ tabbed start end time output hash = start ++ 9 ∷ (end ++ 9 ∷ (time ++ 9 ∷ 
 abbrev pub written_line : (start end time : ℕ) (output : List ℕ) (hash : ℕ) → List ℕ
 written_line start end time output hash = tabbed (decimal start) (decimal end) (decimal time) output (digits 16 false hash)
 
--- numbers of the types that a log has, an output without a tab, and a line that fits into what Ninja reads at once
+-- numbers of the types that a log has, an output without a tab, and a line that fits into the buffer that Ninja
+-- reads at once
 pub record IsWritten (start end time : ℕ) (output : List ℕ) (hash : ℕ) : Type 0 where
   pub start_fits : start < 2 ^ 31
   pub end_fits : end < 2 ^ 31

@@ -5,7 +5,7 @@ pub mod Murmur
 pub mod Rapid
 pub mod CommandHashes
 pub mod Faults
--- what follows from them
+-- the consequences of the definitions
 pub mod Laws
 -- how the code does that
 pub mod Inside

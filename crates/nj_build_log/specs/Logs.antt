@@ -20,7 +20,7 @@ is_line_feed byte = byte == 10
 abbrev pub is_tab : ℕ → Bool
 is_tab byte = byte == 9
 
--- a text, cut at its line feeds; what comes after the last one is no line
+-- a text, cut at its line feeds; the text after the last line feed is not a line
 abbrev pub lines_of : List ℕ → List (List ℕ)
 lines_of text = let pieces = slice_split is_line_feed text in take (length pieces - 1) pieces
 
@@ -28,17 +28,17 @@ lines_of text = let pieces = slice_split is_line_feed text in take (length piece
 abbrev pub buffer_size : ℕ
 buffer_size = 262144
 
--- Ninja passes over a buffer in which no line ends, so of a longer line only what is left after whole buffers counts.
+-- Ninja ignores a buffer in which no line ends, so only the rest of a longer line after whole buffers counts.
 abbrev pub counted_part : (line : List ℕ) → List ℕ
 counted_part line = drop (buffer_size * (length line / buffer_size)) line
 
--- a text, cut at its tabs, the first so many of them
+-- a text, cut at the given number of its first tabs
 abbrev pub fields_of : (cuts : ℕ) → List ℕ → List (List ℕ)
 fields_of zero text = text ∷ []
 fields_of (suc cuts) text =
     if list_any is_tab text then before_first is_tab text ∷ fields_of cuts (after_first is_tab text) else text ∷ []
 
--- a line that counts: an output, and what the log says of it
+-- a line that counts: an output, and its entry
 pub record LineModel : Type 0 where
   pub output : List ℕ
   pub entry : Entry
@@ -47,7 +47,8 @@ pub record LineModel : Type 0 where
 abbrev pub line_model : LoggedLine → LineModel
 line_model line = record { output = line.output.now; entry = line.entry }
 
--- the fields are the start, the end, the time, the output and the hash; fewer of them do not count
+-- the fields are the start, the end, the time, the output and the hash; a line with fewer fields does not
+-- count
 abbrev pub line_in : (fields : List (List ℕ)) → Option LineModel
 line_in (start ∷ end ∷ time ∷ output ∷ hash ∷ []) = Some (record {
   output = output;
@@ -55,7 +56,7 @@ line_in (start ∷ end ∷ time ∷ output ∷ hash ∷ []) = Some (record {
 })
 line_in fields = None
 
--- what comes after a fifth tab is of the hash
+-- further tabs belong to the hash
 abbrev pub line_of : (line : List ℕ) → Option LineModel
 line_of line = line_in (fields_of 4 (counted_part line))
 
@@ -73,17 +74,17 @@ opening = codes "# ninja log v"
 abbrev pub is_decimal_digit : ℕ → Bool
 is_decimal_digit byte = nat_le 48 byte && nat_le byte 57
 
--- one digit or more, and nothing else
+-- one or more digits, and nothing else
 abbrev pub is_number : List ℕ → Bool
 is_number text = not (length text == 0) && list_all is_decimal_digit text
 
--- the number that a first line gives, or the greatest of 64 bits if it is greater than that
+-- the number that a first line states, or the greatest number of 64 bits if it is greater than that
 abbrev pub version_number : (line : List ℕ) → Option ℕ
 version_number line =
     let digits = drop (length opening) line in
     if starts_with nat_eq line opening && is_number digits then Some (min (leading_value 10 digits) (2 ^ 64 - 1)) else None
 
--- the versions whose lines these are
+-- the versions whose lines are known
 abbrev pub known_version : (number : ℕ) → Option LogVersion
 known_version number = if number == 5 then Some Five else (if number == 6 then Some Six else (if number == 7 then Some Seven else None))
 
@@ -94,7 +95,7 @@ pub record BuildLogModel : Type 0 where
   pub version : Option LogVersion
   pub lines : List LineModel
 
--- a log with a first line that gives this number
+-- a log whose first line states the given number
 abbrev pub log_of_version : Option ℕ → List LineModel → Result BuildLogModel BuildLogFault
 log_of_version None lines = Err NoBuildLog
 log_of_version (Some number) lines =
@@ -103,7 +104,7 @@ log_of_version (Some number) lines =
       | None ↦ Err (OtherVersion number)
     ]
 
--- what a text says, or why it says nothing. The first line counts even without its line feed.
+-- the log that a text holds, or why it does not hold a log. The first line counts even without its line feed.
 abbrev pub build_log_of : (text : List ℕ) → Result BuildLogModel BuildLogFault
 build_log_of [] = Ok (record { version = None; lines = [] })
 build_log_of (byte ∷ more) =

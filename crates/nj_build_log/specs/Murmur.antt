@@ -1,11 +1,11 @@
--- MurmurHash64A over lists of bytes, with the seed that Ninja gives it: the hash of commands up to Ninja 1.12.
+-- MurmurHash64A over lists of bytes, with the seed that Ninja uses: the hash of commands up to Ninja 1.12.
 use Rattle.std.specs.Prelude.{ℕ, zero, suc, ◌+◌, ◌*◌, ◌/◌, ◌%◌, ◌^◌, List, [], ◌∷◌, length, drop, slice_range, bit_xor}
 
 -- the seed
 abbrev pub murmur_seed : ℕ
 murmur_seed = 0xDECAFBADDECAFBAD
 
--- the number by which all is multiplied
+-- the multiplier of the hash
 abbrev pub multiplier : ℕ
 multiplier = 0xC6A4A7935BD1E995
 
@@ -14,7 +14,7 @@ abbrev pub number_of : List ℕ → ℕ
 number_of [] = 0
 number_of (byte ∷ bytes) = byte + 256 * number_of bytes
 
--- the number that so many bytes from a place on write
+-- the number that the given count of bytes from a place on writes
 abbrev pub word : List ℕ → (place count : ℕ) → ℕ
 word bytes place count = number_of (slice_range bytes place (place + count))
 
@@ -30,12 +30,12 @@ folded n = bit_xor n (n / 2 ^ 47)
 abbrev pub with_block : (hash block : ℕ) → ℕ
 with_block hash block = multiplied (bit_xor hash (multiplied (folded (multiplied block))))
 
--- the hash of so many blocks at the front
+-- the hash of the given number of blocks at the front
 abbrev pub with_blocks : List ℕ → (blocks : ℕ) → ℕ
 with_blocks bytes zero = bit_xor murmur_seed (multiplied (length bytes))
 with_blocks bytes (suc n) = with_block (with_blocks bytes n) (word bytes (8 * n) 8)
 
--- the hash with the fewer than eight bytes at the end
+-- the hash with the rest, fewer than eight bytes at the end
 abbrev pub with_rest : (hash : ℕ) → (rest : List ℕ) → ℕ
 with_rest hash [] = hash
 with_rest hash (byte ∷ rest) = multiplied (bit_xor hash (number_of (byte ∷ rest)))

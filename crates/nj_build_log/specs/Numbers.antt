@@ -4,7 +4,7 @@ use Rattle.std.specs.Char.{is_digit}
 use Rattle.std.specs.Int.{w32, int_wrap}
 use Rattle.std.specs.Str.Parse.{digits_value, starts_with_minus, without_leading_sign}
 
--- a blank: a space, or one of tab, line feed, vertical tab, form feed and carriage return
+-- a blank: a space, tab, line feed, vertical tab, form feed or carriage return
 abbrev pub is_blank : ℕ → Bool
 is_blank byte = byte == 32 || (nat_le 9 byte && nat_le byte 13)
 
@@ -13,11 +13,11 @@ abbrev pub without_blanks : List ℕ → List ℕ
 without_blanks [] = []
 without_blanks (byte ∷ text) = if is_blank byte then without_blanks text else byte ∷ text
 
--- the number that the digits at the front of a text write in a base; 0 if there are none
+-- the number that the digits at the front of a text write in a base; 0 without digits
 abbrev pub leading_value : (base : ℕ) → List ℕ → ℕ
 leading_value base text = digits_value base (take_while (λ byte. is_digit byte base) text)
 
--- `strtoll`: a sign and digits; a number that does not fit into 64 bits is the nearest that does
+-- `strtoll`: a sign and digits; a number that does not fit into 64 bits becomes the nearest number that does
 abbrev pub long_of : List ℕ → ℤ
 long_of text =
     let number = without_blanks text in
@@ -36,8 +36,8 @@ has_prefix text = slice_index text 0 == 48 && (slice_index text 1 == 120 || slic
 abbrev pub without_prefix : List ℕ → List ℕ
 without_prefix text = if has_prefix text then drop 2 text else text
 
--- `strtoull`: a sign, `0x` and digits; a number that does not fit into 64 bits is the greatest that does, and one with
--- a minus is what is missing to 2 ^ 64
+-- `strtoull`: a sign, `0x` and digits; a number that does not fit into 64 bits becomes the greatest that does, and a
+-- number with a minus is subtracted from 2 ^ 64
 abbrev pub hash_of : List ℕ → ℕ
 hash_of text =
     let number = without_blanks text in

@@ -35,7 +35,7 @@ mix a b = bit_xor (low_half a b) (high_half a b)
 abbrev pub shifted : (n bits : ℕ) → ℕ
 shifted n bits = (n * 2 ^ bits) % 2 ^ 64
 
--- the state before bytes whose number is this one, in 64 bits
+-- the state before the given number of bytes, in 64 bits
 abbrev pub started : (count : ℕ) → ℕ
 started count = bit_xor rapid_seed (bit_xor (mix (bit_xor rapid_seed secret_0) secret_1) count)
 
@@ -45,7 +45,7 @@ mixed_in bytes place secret state = mix (bit_xor (word bytes place 8) secret) (b
 
 -- ---- blocks of 48 bytes
 
--- a block from a place on, mixed in: a state for each sixteen bytes of it
+-- a block from a place on, mixed in: a state for each sixteen bytes of the block
 abbrev pub with_states : List ℕ → (place : ℕ) → BlockStates → BlockStates
 with_states bytes place states = record {
   front = mixed_in bytes place secret_0 states.front;
@@ -53,7 +53,7 @@ with_states bytes place states = record {
   back = mixed_in bytes (place + 32) secret_2 states.back;
 }
 
--- the states after so many blocks at the front
+-- the states after the given number of blocks at the front
 abbrev pub states_after : List ℕ → (state blocks : ℕ) → BlockStates
 states_after bytes state zero = record { front = state; middle = state; back = state }
 states_after bytes state (suc n) = with_states bytes (48 * n) (states_after bytes state n)
@@ -64,7 +64,8 @@ joined states = bit_xor states.front (bit_xor states.middle states.back)
 
 -- ---- the bytes after the blocks
 
--- the state with the bytes that are left from a place on: of more than 16 the first sixteen, of more than 32 the next sixteen too
+-- the state with the remaining bytes from a place on: the first 16 if there are more than 16, and the next 16 too if there are
+-- more than 32
 abbrev pub with_left : List ℕ → (place state : ℕ) → ℕ
 with_left bytes place state =
     let once = mixed_in bytes place secret_2 (bit_xor state secret_1) in
@@ -79,7 +80,7 @@ of_three bytes =
     let count = length bytes in
     bit_or (bit_or (shifted (slice_index bytes 0) 56) (shifted (slice_index bytes (count / 2)) 32)) (slice_index bytes (count - 1))
 
--- four bytes from one place on, and four from another
+-- four bytes from one place on, and four bytes from another place on
 abbrev pub of_fours : List ℕ → (place other : ℕ) → ℕ
 of_fours bytes place other = bit_or (shifted (word bytes place 4) 32) (word bytes other 4)
 
@@ -101,7 +102,7 @@ ends bytes =
     let count = length bytes in
     if nat_le count 16 then short_ends bytes else (word bytes (count - 16) 8, word bytes (count - 8) 8)
 
--- ---- all of it
+-- ---- the whole hash
 
 -- the state before the ends
 abbrev pub state_of : List ℕ → ℕ

@@ -14,7 +14,7 @@ use nj_names::HashKeys;
 use std::alloc::Global;
 use std::marker::Model;
 
-/// The contents of a build log: what the commands of earlier builds made, and when.
+/// The contents of a build log: the outputs that the commands of earlier builds made, and when.
 #[derive(Drop)]
 pub struct BuildLog {
     version: Option<LogVersion>,
@@ -30,18 +30,18 @@ impl Model for BuildLog {
 }
 
 impl BuildLog {
-    /// Reads a build log of version 5, 6 or 7, as Ninja 1.11, 1.12 and 1.13 write it. An empty one
+    /// Reads a build log of version 5, 6 or 7, as Ninja 1.11, 1.12 and 1.13 write it. An empty log
     /// has no lines.
     ///
-    /// A line counts if it has its line feed and at least four tabs; others are passed over, as by
-    /// Ninja. Numbers are read as C reads them, so what is no number is 0.
+    /// A line counts if it ends with a line feed and has at least four tabs; other lines are
+    /// ignored, as in Ninja. Numbers are read as C reads them, so a field that is not a number is
+    /// 0.
     ///
-    /// Outputs are hashed by keys that everyone knows. For an untrusted log take
-    /// [`BuildLog::read_with_keys`].
+    /// Outputs are hashed with fixed keys. For an untrusted log use [`BuildLog::read_with_keys`].
     ///
     /// # Errors
     ///
-    /// [`BuildLogFault::NoBuildLog`] if the first line is not that of a build log,
+    /// [`BuildLogFault::NoBuildLog`] if the first line is not the first line of a build log,
     /// [`BuildLogFault::OtherVersion`] if it has another version, and
     /// [`BuildLogFault::OutOfMemory`].
     pub fn read(alloc: Global, bytes: &[u8]) -> Result<BuildLog, BuildLogFault>
@@ -52,12 +52,12 @@ impl BuildLog {
         BuildLog::read_with_keys(alloc, HashKeys::default(), bytes)
     }
 
-    /// The same, with outputs that are hashed by these keys: with keys that were drawn nobody can
-    /// choose many outputs that collide.
+    /// Reads a build log like [`BuildLog::read`], but hashes outputs with the given keys: with
+    /// random keys, nobody can choose many outputs that collide.
     ///
     /// # Errors
     ///
-    /// Those of [`BuildLog::read`].
+    /// The errors of [`BuildLog::read`].
     pub fn read_with_keys(
         alloc: Global,
         keys: HashKeys,
@@ -84,8 +84,8 @@ impl BuildLog {
         self.version
     }
 
-    /// What the last line of this output says; `None` if it has no line. The path must be as the
-    /// log has it.
+    /// Returns the entry of the last line of the given output, or `None` if it has no line. The
+    /// path must be spelled as in the log.
     pub fn entry(&self, output: &[u8]) -> Option<Entry>
         ensures { result ≡ entry_of self.now.lines output.now }
     {
@@ -114,7 +114,7 @@ impl BuildLog {
         self.table.count()
     }
 
-    /// The line at this index, of those that count.
+    /// The line at the given index among the lines that count.
     pub fn line(&self, index: usize) -> LoggedLine<'_>
         requires { index < length self.now.lines }
         ensures { slice_get self.now.lines index ≡ Some (line_model result) }

@@ -12,7 +12,7 @@ use std::fmt;
 pub enum BuildLogFault {
     /// The first line is not `# ninja log v` and a number.
     NoBuildLog,
-    /// A build log of this version, and not of version 5, 6 or 7.
+    /// A build log of the given version, which is not 5, 6 or 7.
     OtherVersion(u64),
     /// An allocation failed.
     OutOfMemory,

@@ -1,15 +1,15 @@
-//! The text whose hash a build log has.
+//! The text whose hash a build log stores.
 
 ghost use Rattle.std.specs.Prelude.{◌≡◌, ◌<◌, ◌≤◌, ◌+◌, ◌^◌, length, slice_index};
 ghost use Rattle.nj_build_log.specs.Cited.{hashed_text, word};
 
 use std::marker::Model;
 
-/// What stands between a command and the contents of its response file.
+/// The separator between a command and the contents of its response file.
 const SEPARATOR: &[u8; 9] = b";rspfile=";
 
-/// A command and the contents of its response file, as one text that is not copied together. Places
-/// in it have 128 bits, since two texts may have more bytes than 64 bits can count.
+/// A command and the contents of its response file, as one text, without copying. Places in it have
+/// 128 bits, since the length of two texts may exceed 64 bits.
 #[derive(Drop)]
 pub(crate) struct HashedText<'a> {
     command: &'a [u8],

@@ -8,8 +8,8 @@ use crate::log_version::LogVersion;
 use crate::murmur64::murmur;
 use crate::rapidhash::rapid;
 
-/// The hash by which a build log of this version knows a command, with the contents of its response
-/// file, which are empty if there is none. Both texts are those after expansion.
+/// Returns the hash that a build log of the given version has for a command and the contents of its
+/// response file, which are empty without a response file. Both texts are expanded.
 pub fn command_hash(version: LogVersion, command: &[u8], rspfile_content: &[u8]) -> u64
     ensures { result ≡ command_hash version command.now rspfile_content.now }
 {

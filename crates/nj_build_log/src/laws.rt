@@ -2,8 +2,8 @@
 
 ghost use Rattle.nj_build_log.specs.Cited.{LastLineCounts, UnendedLineChangesNothing, FewTabsChangeNothing, WrittenLinesAreRead};
 
-/// The last line of an output counts: a line that is put after a log is what the log says of its
-/// output from then on, and leaves what it says of others.
+/// The last line of an output counts: a line that is appended to a log replaces the entry of its
+/// output, and does not change the entries of other outputs.
 pub fn last_line_counts()
     ensures { LastLineCounts }
 {}

@@ -1,9 +1,9 @@
-//! The build log, `.ninja_log`: what the commands of earlier builds made, and when.
+//! The build log, `.ninja_log`: the outputs that the commands of earlier builds made, and when.
 //!
-//! A log begins with the line `# ninja log v5`, or another version. Then Ninja appends a line for each
-//! output of a command that it runs: the start and the end of the command in milliseconds, the time
-//! of the output in nanoseconds, the output, and the hash of the command, with tabs between them. Of
-//! several lines of an output the last one counts.
+//! A log begins with the line `# ninja log v5`, or with another version. Then Ninja appends a line
+//! for each output of a command that it runs: the start and the end of the command in milliseconds,
+//! the time of the output in nanoseconds, the output, and the hash of the command, with tabs
+//! between them. If an output has several lines, the last line counts.
 #![tactic(auto)]
 
 mod build_log;

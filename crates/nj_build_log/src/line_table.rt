@@ -14,7 +14,7 @@ use std::marker::Model;
 pub(crate) struct LineTable {
     outputs: Names,
     lines: Vec<HeldLine>,
-    // for each output that of its last line
+    // for each output, the entry of its last line
     entries: Vec<Entry>,
 }
 
@@ -93,7 +93,7 @@ impl LineTable {
         self.lines.as_slice().len()
     }
 
-    /// The line at this index.
+    /// The line at the given index.
     pub(crate) fn line(&self, index: usize) -> LoggedLine<'_>
         requires { index < length self.now }
         ensures { slice_get self.now index ≡ Some (line_model result) }
@@ -105,7 +105,7 @@ impl LineTable {
         }
     }
 
-    /// What the last line of this output says; `None` if it has no line.
+    /// Returns the entry of the last line of the given output, or `None` if it has no line.
     pub(crate) fn entry(&self, output: &[u8]) -> Option<Entry>
         ensures { result ≡ entry_of self.now output.now }
     {

@@ -10,7 +10,7 @@ use memchr::memchr;
 /// How many bytes Ninja reads at once.
 const BUFFER_SIZE: usize = 256 << 10;
 
-/// The first line and the bytes after its line feed; `None` if there is no line feed.
+/// Returns the first line and the bytes after its line feed, or `None` without a line feed.
 pub(crate) fn split_line(text: &[u8]) -> Option<(&[u8], &[u8])>
     ensures { MatchOption result (lines_of text.now ≡ [])
         (λ p. (lines_of text.now ≡ p.0.now ∷ lines_of p.1.now)
@@ -19,7 +19,7 @@ pub(crate) fn split_line(text: &[u8]) -> Option<(&[u8], &[u8])>
     split_at_first(b'\n', text)
 }
 
-/// The first line, and the bytes after its line feed, which it may lack.
+/// The first line, with or without a line feed, and the bytes after it.
 pub(crate) fn split_first_line(text: &[u8]) -> (&[u8], &[u8])
     ensures line { result.0.now ≡ before_first is_line_feed text.now }
     ensures after { result.1.now ≡ after_first is_line_feed text.now }
@@ -30,7 +30,7 @@ pub(crate) fn split_first_line(text: &[u8]) -> (&[u8], &[u8])
     }
 }
 
-/// What a line says; `None` if it has fewer than four tabs.
+/// Returns the contents of a line, or `None` if it has fewer than four tabs.
 pub(crate) fn read_line(line: &[u8]) -> Option<LoggedLine<'_>>
     ensures { option_map line_model result ≡ line_of line.now }
 {
@@ -47,14 +47,15 @@ pub(crate) fn read_line(line: &[u8]) -> Option<LoggedLine<'_>>
     Some(LoggedLine { output, entry })
 }
 
-// What is left of a line after whole buffers.
+// The rest of a line after whole buffers.
 fn counted_part(line: &[u8]) -> &[u8]
     ensures { result.now ≡ counted_part line.now }
 {
     &line[line.len() / BUFFER_SIZE * BUFFER_SIZE..]
 }
 
-// The text before the first byte of this value, and that after it; `None` if there is none.
+// Returns the text before and the text after the first byte with the given value, or `None` if the
+// value does not occur.
 fn split_at_first(value: u8, text: &[u8]) -> Option<(&[u8], &[u8])>
     ensures { option_map (λ p. (p.0.now, p.1.now)) result
         ≡ split_at_first (λ byte. byte == value) text.now }

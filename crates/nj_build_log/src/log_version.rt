@@ -1,6 +1,6 @@
 //! Versions of build logs.
 
-/// The version of a build log, by which its hashes differ.
+/// The version of a build log, which determines how commands are hashed.
 #[derive(Clone, Copy, Debug, PartialEq, Eq)]
 pub enum LogVersion {
     /// Version 5, of Ninja up to 1.11: hashes by MurmurHash64A.

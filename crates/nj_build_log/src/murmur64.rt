@@ -1,4 +1,4 @@
-//! MurmurHash64A, with the seed that Ninja gives it.
+//! MurmurHash64A, with the seed that Ninja uses.
 
 ghost use Rattle.std.specs.Prelude.{◌≡◌, ◌<◌, ◌≤◌, ◌/◌, ◌+◌, ◌*◌, ◌^◌, length, drop};
 ghost use Rattle.nj_build_log.specs.Cited.{multiplied, folded, murmur_of, with_block, with_blocks, with_rest};
@@ -24,7 +24,7 @@ pub(crate) fn murmur(text: &HashedText<'_>) -> u64
     folded(multiplied(folded(hash)))
 }
 
-// The hash of so many blocks of eight bytes at the front.
+// The hash of the given number of blocks of eight bytes at the front.
 fn after_blocks(text: &HashedText<'_>, blocks: u128) -> u64
     requires bounded { length text.now < 2 ^ 65 }
     requires within { 8 * blocks ≤ length text.now }
@@ -43,7 +43,7 @@ fn with_block(hash: u64, block: u64) -> u64
     multiplied(hash ^ multiplied(folded(multiplied(block))))
 }
 
-// The hash with so many bytes from a place to the end, fewer than eight.
+// The hash with the last `count` bytes, from a place to the end, fewer than eight.
 fn with_rest(text: &HashedText<'_>, hash: u64, place: u128, count: usize) -> u64
     requires bounded { length text.now < 2 ^ 65 }
     requires few { count < 8 }

@@ -81,8 +81,8 @@ fn without_prefix(number: &[u8]) -> &[u8]
     }
 }
 
-/// The number that the digits at the front of a text write in this base, or the first that does not
-/// fit into 64 bits if it is greater than that.
+/// The number that the digits at the front of a text write in the given base, or the first number
+/// that does not fit into 64 bits if it is greater than that.
 pub(crate) fn leading_value(base: u32, text: &[u8]) -> u128
     requires lower { 2 ≤ base }
     requires upper { base ≤ 36 }
@@ -98,8 +98,8 @@ pub(crate) fn leading_value(base: u32, text: &[u8]) -> u128
     value
 }
 
-// The number with one more digit at its end, or the first one that does not fit if it is greater
-// than that.
+// The number with one more digit at its end, or the first number that does not fit into 64 bits if
+// it is greater than that.
 fn with_digit(value: u128, base: u32, digit: u32) -> u128
     ensures { result ≡ min (value * base + digit) (2 ^ 64) }
 {

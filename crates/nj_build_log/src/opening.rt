@@ -11,7 +11,7 @@ use crate::numbers::leading_value;
 /// The first line, up to its number.
 const OPENING: &[u8] = b"# ninja log v";
 
-/// The version of a log, `None` if it is empty, and the lines after the first one.
+/// Returns the version of a log, or `None` if the log is empty, and the lines after the first.
 pub(crate) fn split_version(bytes: &[u8]) -> Result<(Option<LogVersion>, &[u8]), BuildLogFault>
     ensures log { IfOk result (λ p. build_log_of bytes.now
         ≡ Ok (record { version = p.0; lines = logged_lines p.1.now })) }
@@ -30,7 +30,7 @@ pub(crate) fn split_version(bytes: &[u8]) -> Result<(Option<LogVersion>, &[u8]),
     }
 }
 
-// The number of the version that a first line gives.
+// The number of the version that a first line states.
 fn version_number(line: &[u8]) -> Option<u64>
     ensures { result ≡ version_number line.now }
 {

@@ -6,12 +6,12 @@ ghost use Rattle.nj_build_log.specs.Cited.{YieldsFirstRef, item_count};
 use nj_names::Names;
 use std::marker::Model;
 
-/// The outputs of a build log that are left, in the order of their first lines: the value of
+/// The remaining outputs of a build log, in the order of their first lines: the value of
 /// [`BuildLog::outputs`](crate::BuildLog::outputs).
 #[derive(Clone, Drop)]
 pub struct Outputs<'a> {
     outputs: &'a Names,
-    // the number of the next one
+    // the number of the next output
     next: usize,
 }
 
@@ -26,7 +26,7 @@ impl<'a> Model for Outputs<'a> {
 }
 
 impl<'a> Outputs<'a> {
-    /// All of them.
+    /// All outputs.
     pub(crate) fn new(outputs: &'a Names) -> Outputs<'a>
         ensures { result ≡ outputs.entry.now }
     {

@@ -49,7 +49,7 @@ fn started(count: u64) -> u64
     SEED ^ (mix(SEED ^ SECRET[0], SECRET[1]) ^ count)
 }
 
-// The states of so many blocks of 48 bytes at the front.
+// The states after the given number of blocks of 48 bytes at the front.
 fn after_blocks(text: &HashedText<'_>, state: u64, blocks: u128) -> BlockStates
     requires bounded { length text.now < 2 ^ 65 }
     requires within { 48 * blocks ≤ length text.now }
@@ -84,7 +84,7 @@ fn joined(states: BlockStates) -> u64
     states.front ^ (states.middle ^ states.back)
 }
 
-// The state with the bytes that are left behind a place.
+// The state with the remaining bytes after a place.
 fn with_left(text: &HashedText<'_>, place: u128, state: u64) -> u64
     requires bounded { length text.now < 2 ^ 65 }
     requires within { place ≤ length text.now }
@@ -124,7 +124,7 @@ fn ends(text: &HashedText<'_>) -> (u64, u64)
     (text.word_at(size - 16), text.word_at(size - 8))
 }
 
-// The same of at most sixteen bytes.
+// Two numbers of the bytes at the ends, of at most sixteen bytes.
 fn short_ends(text: &HashedText<'_>) -> (u64, u64)
     requires { length text.now ≤ 16 }
     ensures { result ≡ short_ends text.now }
@@ -154,7 +154,7 @@ fn of_three(text: &HashedText<'_>) -> u64
         | u64::from(text.byte_at(size - 1))
 }
 
-// A number of the four bytes from one place on, and of four from another.
+// A number of the four bytes from one place on, and of the four bytes from another place on.
 fn of_fours(text: &HashedText<'_>, place: u128, other: u128) -> u64
     requires bounded { length text.now < 2 ^ 65 }
     requires place { place + 4 ≤ length text.now }

@@ -49,7 +49,7 @@ are-globs (pattern ∷ patterns) [] all = absurd all
 are-globs (pattern ∷ patterns) (glob ∷ globs) all =
     All-cons IsGlob pattern patterns (glob, all.0) (are-globs patterns globs all.1)
 
--- the first pattern that writes no glob, unless memory ran out
+-- the first pattern that is not a glob, unless memory ran out
 module _ {A : Type 0} (bytes : A → List ℕ) (patterns : List A) (globs : List (List GlobPart)) (i : ℕ) (x : A)
     (below : i < length patterns) (is : x ≡ get_or patterns i x)
     (all : AllZip (λ pattern glob. ArePartsOf (bytes pattern) glob) (take i patterns) globs) where

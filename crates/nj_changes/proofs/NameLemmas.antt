@@ -16,7 +16,7 @@ or-none false = refl
 same-bytes : (xs ys : List ℕ) → bytes_eq xs ys ≡ true → xs ≡ ys
 same-bytes xs ys is = (bytes_eq-Decides xs ys).0 is
 
--- a name is there after one more, if it was or is the same
+-- a name is in the list after one more, if it was or is the same
 among-named : (names : List (List ℕ)) (name path : List ℕ)
     → is_among (with_name names name) path ≡ is_among (names ++ name ∷ []) path
 among-named names name path = by (is_among names name) refl

@@ -4,7 +4,8 @@ use Rattle.std.specs.List.{filter, slice_split}
 use Rattle.std.specs.Str.Lines.{strip_carriage_return}
 use Rattle.nj_text.specs.Calls.{is_empty}
 
--- the pieces of a text that each end in this byte, without the byte and without empty ones; the last may lack the byte
+-- the pieces of a text that each end in the given byte, without the byte and without empty pieces; the last may lack
+-- the byte
 abbrev pub ended_by : (end : ℕ) → (text : List ℕ) → List (List ℕ)
 ended_by end text = filter (λ piece. not (is_empty piece)) (slice_split (λ byte. byte == end) text)
 

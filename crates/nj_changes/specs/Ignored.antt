@@ -10,7 +10,7 @@ use Rattle.nj_changes.specs.declared.ignored.PatternFault.TheVariants as refusal
 
 -- ---- the globs of patterns
 
--- these are the globs that the patterns write, one each
+-- the globs are those that the patterns write, one each
 abbrev pub AreGlobsOf : (patterns : List (List ℕ)) → (globs : List (List GlobPart)) → Type 0
 AreGlobsOf patterns globs = AllZip ArePartsOf patterns globs
 
@@ -18,7 +18,7 @@ AreGlobsOf patterns globs = AllZip ArePartsOf patterns globs
 abbrev pub IsGlob : (pattern : List ℕ) → Type 0
 IsGlob pattern = (parts : List GlobPart) × ArePartsOf pattern parts
 
--- the first of these patterns that writes none, and why
+-- the first of the given patterns that is not a glob, and why
 pub record IsFirstWrong (patterns : List (List ℕ)) (pattern : List ℕ) (fault : GlobFault) : Type 0 where
   pub index : ℕ
   pub at : slice_get patterns index ≡ Some pattern

@@ -6,6 +6,6 @@ use Rattle.nj_names.specs.NameTables.{is_among}
 abbrev pub SameNames : (names others : List (List ℕ)) → Type 0
 SameNames names others = (name : List ℕ) → is_among names name ≡ is_among others name
 
--- new names are the old ones and more
+-- the new names are the old names and more
 abbrev pub HasMore : (old more new : List (List ℕ)) → Type 0
 HasMore old more new = SameNames new (old ++ more)

@@ -9,8 +9,9 @@ use std::alloc::{AllocError, Global};
 
 // ---- full paths
 
-/// The full path of a path: absolute by the path of the working directory, if that is not empty, and
-/// clean. Paths with one full path are one file. That of the empty path is empty.
+/// The full path of a path: absolute by the path of the working directory, if that is not empty,
+/// and clean. Paths with the same full path are the same file. The full path of the empty path is
+/// empty.
 pub fn full_path(alloc: Global, folder: &[u8], path: &[u8]) -> Result<Vec<u8>, AllocError>
     ensures { IfOk result (λ full. full.items ≡ full_path folder.now path.now) }
 {
@@ -62,8 +63,8 @@ fn clean(alloc: Global, path: &[u8]) -> Result<Vec<u8>, AllocError>
 
 // ---- changed paths
 
-/// The full paths at which a changed path may be: in each of these directories; without any, where it
-/// says.
+/// Returns the full paths at which a changed path may be: in each of the given directories; without
+/// directories, at the path itself.
 pub fn sought(
     alloc: Global,
     folder: &[u8],
@@ -93,7 +94,7 @@ fn full_path_in(alloc: Global, folder: &[u8], dir: &str, path: &[u8]) -> Result<
     full_path(alloc, folder, &below)
 }
 
-/// A table of the full paths at which changed paths may be, with these keys.
+/// Returns a table of the full paths at which changed paths may be, hashed by the given keys.
 pub fn all_sought(
     alloc: Global,
     keys: HashKeys,
@@ -113,7 +114,7 @@ pub fn all_sought(
 
 // ---- tables of paths
 
-/// Adds these paths to a table.
+/// Adds the given paths to a table.
 pub fn add_all(names: &mut Names, paths: &[Vec<u8>]) -> Result<(), AllocError>
     ensures { OnOk result (HasMore names.old (map (λ path. path.items) paths.now) names.new) }
 {
@@ -123,7 +124,7 @@ pub fn add_all(names: &mut Names, paths: &[Vec<u8>]) -> Result<(), AllocError>
     Ok(())
 }
 
-/// Whether one of these paths is in a table.
+/// Whether one of the given paths is in a table.
 pub fn has_one(names: &Names, paths: &[Vec<u8>]) -> bool
     ensures { result ≡ has_one names.now (map (λ path. path.items) paths.now) }
 {

@@ -5,8 +5,8 @@ ghost use Rattle.nj_changes.specs.Cited.{filter, is_empty, ended_by, lines_of, s
 
 use std::alloc::{AllocError, Global};
 
-/// The lines of a text that are not empty, without their ends, LF or CR LF; the last one may lack its
-/// end.
+/// Returns the lines of a text that are not empty, without their ends, LF or CR LF; the last line
+/// may lack its end.
 pub fn lines_of(alloc: Global, text: &[u8]) -> Result<Vec<&[u8]>, AllocError>
     ensures { IfOk result (λ lines. map (λ line. line.now) lines.items ≡ lines_of text.now) }
 {
@@ -20,15 +20,15 @@ pub fn lines_of(alloc: Global, text: &[u8]) -> Result<Vec<&[u8]>, AllocError>
     Ok(lines)
 }
 
-/// The paths in a text that each end in a zero byte, without it and without empty ones; the last one
-/// may lack it.
+/// Returns the paths in a text that each end in a zero byte, without that byte and without empty
+/// paths; the last path may lack the byte.
 pub fn zero_ended(alloc: Global, text: &[u8]) -> Result<Vec<&[u8]>, AllocError>
     ensures { IfOk result (λ paths. map (λ path. path.now) paths.items ≡ zero_ended text.now) }
 {
     ended_by(alloc, text, 0)
 }
 
-// The pieces of a text that each end in this byte, without it and without empty ones.
+// The pieces of a text that each end in the given byte, without the byte and without empty pieces.
 fn ended_by(alloc: Global, text: &[u8], end: u8) -> Result<Vec<&[u8]>, AllocError>
     ensures { IfOk result (λ pieces.
         map (λ piece. piece.now) pieces.items ≡ ended_by end text.now) }

@@ -9,17 +9,17 @@ use std::alloc::{AllocError, AllocFailed, Global};
 /// Why patterns have no globs.
 #[derive(Clone, Copy, Debug, PartialEq, Eq)]
 pub enum PatternFault<'p> {
-    /// This pattern writes none, for this reason. It is not that memory ran out.
+    /// This pattern is not a glob, for this reason, which is never lack of memory.
     Wrong(&'p str, GlobFault),
     /// An allocation failed.
     OutOfMemory,
 }
 
-/// The globs that these patterns write.
+/// Returns the globs that the given patterns write.
 ///
 /// # Errors
 ///
-/// `Wrong` with the first pattern that writes none, or `OutOfMemory` if an allocation failed.
+/// `Wrong` with the first pattern that is not a glob, or `OutOfMemory` if an allocation failed.
 pub fn read_globs(alloc: Global, patterns: &[String]) -> Result<Vec<Glob>, PatternFault<'_>>
     ensures globs { IfOk result (λ globs. AreGlobsOf (map string_bytes patterns.now) globs.items) }
     ensures wrong { IfErr result (IsPatternFault (map string_bytes patterns.now)) }
@@ -34,7 +34,8 @@ pub fn read_globs(alloc: Global, patterns: &[String]) -> Result<Vec<Glob>, Patte
     Ok(globs)
 }
 
-// Why patterns have no globs, where this one is the first that has none, unless memory ran out.
+// Why patterns have no globs, if the given pattern is the first that is not a glob, unless memory
+// ran out.
 fn fault_of(pattern: &str, fault: GlobFault) -> PatternFault<'_>
     ensures { (patterns : List (List ℕ))
         → (fault ≢ GlobFault.OutOfMemory → IsFirstWrong patterns pattern.entry.now fault)
@@ -46,8 +47,8 @@ fn fault_of(pattern: &str, fault: GlobFault) -> PatternFault<'_>
     }
 }
 
-/// The paths that none of these globs matches, in their order. The globs are borrowed mutably only for
-/// their buffers.
+/// Returns the paths that none of the given globs matches, in their order. The globs are borrowed
+/// mutably only for their buffers.
 pub fn without_ignored<'p>(
     alloc: Global,
     globs: &mut [Glob],
@@ -66,7 +67,7 @@ pub fn without_ignored<'p>(
     Ok(left)
 }
 
-// Whether one of these globs matches a path.
+// Whether one of the given globs matches a path.
 fn matches_one(globs: &mut [Glob], path: &[u8]) -> bool
     ensures one { IsTrue result ↔ MatchesOne globs.old path.now }
     ensures same { globs.new ≡ globs.old }

@@ -38,7 +38,7 @@ same-bytes xs ys is = (bytes_eq-Decides xs ys).0 is
 none-in : (n : ℕ) → Contains [] n → ⊥
 none-in n has = absurd (omega (arith, has.1))
 
--- a test that answers is one of them
+-- a test that answers is one of the tests
 pub answers-below : (rows : List (List (List ℕ))) (name : List ℕ) (n : ℕ) → answers rows name n ≡ true
     → n < length rows
 answers-below rows name n is = elim (cases_lt n (length rows)) [
@@ -179,7 +179,7 @@ adds-next names more name number first old new is adds at = record {
     ]
     by other n false apart has = before other n has
 
--- nothing came under no name
+-- without names nothing is added
 pub adds-none : (number : ℕ) (numbers : NumbersModel) → AddsNumber [] number numbers numbers
 adds-none number numbers = record {
   kept = λ name n has. has;
@@ -252,7 +252,7 @@ all-next rows names number old new is all adds name n = (to, back)
           (adds.added name (sym (last same) ∙ so))
     ]
 
--- what all tests answer to, where none were found yet
+-- the answers of all tests, if none was found yet
 pub all-answers : (rows : List (List (List ℕ))) (numbers : NumbersModel) → HasAll rows numbers
     → AreAnswers rows numbers []
 all-answers rows numbers all = record {

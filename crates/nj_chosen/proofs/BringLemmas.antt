@@ -1,4 +1,4 @@
--- How the tests are found that others bring.
+-- How the tests that others bring are found.
 use Rattle.std.proofs.Common.{◌≡◌, ◌<◌, ◌≤◌, ◌+◌, ◌||◌, ◌⊎◌, ◌↔◌, inl, inr, ℕ, Bool, true, false, List, []}
 use Rattle.std.proofs.Common.{◌∷◌}
 use Rattle.std.proofs.Common.{◌++◌, map, length, get_or, refl, sym, ap, subst, ◌∙◌, arith, Some}
@@ -31,7 +31,7 @@ got-test : (tests : List TestModel) (n : ℕ) (test : TestModel) → slice_get t
     → test_at tests n ≡ test
 got-test tests n test got = get_or_from_slice_get tests n test _ got
 
--- the same of the code
+-- the same for the code
 pub model-at : (tests : List Test) (n : ℕ) (d : Test) → n < length tests → d ≡ get_or tests n d
     → test_model d ≡ test_at (map test_model tests) n
 model-at tests n d below is = ap test_model is ∙ sym (get_or-map test_model tests n d _ below)
@@ -47,7 +47,7 @@ rows-below rows n (name ∷ names) one =
     elim (or-cases (answers rows name n) (list_any (λ m. answers rows m n) names) one)
     [ inl is ↦ answers-below rows name n is | inr rest ↦ rows-below rows n names rest ]
 
--- a test answers to one of some names
+-- a test answers to one of the given names
 module _ (f : TestModel → List (List ℕ)) (tests : List TestModel) (names : List (List ℕ)) (n : ℕ) where
   one-below : AnswersOne (map f tests) names n → n < length tests
   one-below one = subst (λ m. n < m) (length-map tests f) (rows-below (map f tests) n names one)

@@ -91,7 +91,7 @@ some-at reasons i reason below at =
     by None = refl
     by (Some r) = refl
 
--- a test with a reason is one of them
+-- a test with a reason is one of the tests
 reason-below : (reasons : List (Option Why)) (n : ℕ) → HasReason reasons n → n < length reasons
 reason-below reasons n has = elim (cases_lt n (length reasons)) [
   | inl below ↦ below

@@ -61,7 +61,7 @@ below-rest (b ∷ folder) (byte ∷ path) is = by (nat_eq byte b) refl is (below
     by true same rest go = ap (λ u. u && is_below folder path) (flip-eq b byte ∙ same) ∙ go rest
     by false same rest go = absurd (cc)
 
--- and one that does not is not
+-- and a path that does not is not below it
 pub below-apart : (folder path : List ℕ) → pointwise nat_eq (take (length folder) path) folder ≡ false
     → is_below folder path ≡ false
 below-apart [] path differs = absurd (cc)

@@ -12,7 +12,7 @@ or-none : (b : Bool) → (b || false) ≡ b
 or-none true = refl
 or-none false = refl
 
--- a name is there after one more, if it was or is the same
+-- a name is in the table after another is added, if it was before or is the same
 pub among-named : (names : List (List ℕ)) (name path : List ℕ)
     → is_among (with_name names name) path ≡ is_among (names ++ name ∷ []) path
 among-named names name path = by (is_among names name) refl

@@ -81,7 +81,7 @@ row-set (n ∷ names) (q ∷ rows) (suc place) row other same below distinct =
         (bytes_eq-Decides n (get_or names place [])).1 (sym one ∙ two) in
         absurd (cc)
 
--- nothing is beside a name that is not there
+-- a missing name has nothing beside it
 pub row-none : (names : List (List ℕ)) (rows : List (List ℕ)) (name : List ℕ)
     → list_any (bytes_eq name) names ≡ false → row_beside names rows name ≡ []
 row-none [] rows name none = refl

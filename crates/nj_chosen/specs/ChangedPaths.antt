@@ -3,7 +3,7 @@ use Rattle.std.specs.Prelude.{ℕ, List, map}
 use Rattle.nj_chosen.specs.declared.tables.ChangedPaths.{ChangedPaths as PathsOfCode}
 use Rattle.nj_chosen.specs.Reasons.{BuildChange}
 
--- the change with these paths, in this build directory
+-- the change with the given paths, in the given build directory
 abbrev pub change_by : (build : List ℕ) → PathsOfCode → BuildChange
 change_by build p = record {
   build = build;

@@ -11,13 +11,13 @@ use Rattle.nj_chosen.specs.Chosen.{IsChosen, IsTestAffected}
 abbrev pub HasReason : (reasons : List (Option Why)) → (number : ℕ) → Type 0
 HasReason reasons number = is_some (slice_index_or reasons number None) ≡ true
 
--- the tests of a list that are chosen: the reason of each, the numbers of the affected ones, and those of the chosen ones
+-- the chosen tests of a list: the reason of each test, the numbers of the affected tests, and those of the chosen tests
 pub record ChosenModel : Type 0 where
   pub reasons : List (Option Why)
   pub affected : List ℕ
   pub chosen : List ℕ
 
--- why a test is chosen: for a reason of its own, since it follows an affected one, or since a chosen one needs it
+-- why a test is chosen: for a reason of its own, because it follows an affected test, or because a chosen test needs it
 pub data WhyChosen : Type 0 where
   Own : (why : Why) → WhyChosen
   Follows : WhyChosen
@@ -38,7 +38,7 @@ why_by None is_affected is_chosen = if is_affected then Some Follows else if is_
 abbrev pub why_chosen : ChosenModel → (number : ℕ) → Option WhyChosen
 why_chosen m number = why_by (slice_index_or m.reasons number None) (has m.affected number) (has m.chosen number)
 
--- These of some tests are chosen in a change.
+-- The chosen tests of a list in a change.
 pub record AreChosen (c : BuildChange) (skips_unnamed : Bool) (tests : List TestModel) (m : ChosenModel) : Type 0 where
   pub reasons : m.reasons ≡ map (reason_of c skips_unnamed) tests
   pub affected : (number : ℕ) → Contains m.affected number ↔ IsTestAffected tests (HasReason m.reasons) number

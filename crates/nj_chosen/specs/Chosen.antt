@@ -1,4 +1,4 @@
--- Which tests are chosen: those with a reason of their own, and those that fixtures and `DEPENDS` bring with them.
+-- Which tests are chosen: tests with a reason of their own, and tests that fixtures and `DEPENDS` bring with them.
 use Rattle.std.specs.Prelude.{◌≡◌, ℕ, Bool, true, ◌||◌, List, [], ◌∷◌, ◌++◌, slice_get, Some}
 use Rattle.std.specs.List.{list_any}
 use Rattle.nj_names.specs.NameTables.{is_among}
@@ -8,16 +8,17 @@ use Rattle.nj_chosen.specs.declared.brought.Way.TheVariants.{Later, Needed}
 
 -- ---- how a test brings others
 
--- A test calls others by fixtures and by names of tests, and those answer. `Later`: it calls by the fixtures that it sets up and by its
--- name; the tests that require such a fixture, or come after a test with the given name, answer. `Needed`: it calls by the fixtures that it
--- requires and the tests that it comes after; the tests that set up or clean up such a fixture, or have such a name, answer.
+-- A test calls others by fixtures and by names of tests, and the called tests answer. `Later`: it calls by the fixtures that it sets up and
+-- by its name; the tests that require one of the fixtures, or come after a test with the given name, answer. `Needed`: it calls by the
+-- fixtures that it requires and the tests that it comes after; the tests that set up or clean up one of the fixtures, or have one of the
+-- names, answer.
 
 -- the fixtures by which a test calls
 abbrev pub called_fixtures : Way → TestModel → List (List ℕ)
 called_fixtures Later test = test.set_up_fixtures
 called_fixtures Needed test = test.required_fixtures
 
--- the names of tests by which it calls
+-- the names of tests by which a test calls
 abbrev pub called_tests : Way → TestModel → List (List ℕ)
 called_tests Later test = test.name ∷ []
 called_tests Needed test = test.predecessors
@@ -27,7 +28,7 @@ abbrev pub answered_fixtures : Way → TestModel → List (List ℕ)
 answered_fixtures Later test = test.required_fixtures
 answered_fixtures Needed test = test.set_up_fixtures ++ test.cleaned_fixtures
 
--- the names to which it answers
+-- the names to which a test answers
 abbrev pub answered_tests : Way → TestModel → List (List ℕ)
 answered_tests Later test = test.predecessors
 answered_tests Needed test = test.name ∷ []
@@ -40,7 +41,7 @@ brings way test other =
 
 -- ---- all that they bring
 
--- Some tests come first, and bring others, which bring others.
+-- The first tests, the tests that they bring, and so on.
 pub data IsBrought (way : Way) (tests : List TestModel) (IsFirst : ℕ → Type 0) : (number : ℕ) → Type 0 where
   by_itself : {number : ℕ} → IsFirst number → IsBrought way tests IsFirst number
   by_other : {number other : ℕ} {test caller : TestModel} → IsBrought way tests IsFirst other
@@ -51,6 +52,6 @@ pub data IsBrought (way : Way) (tests : List TestModel) (IsFirst : ℕ → Type 
 abbrev pub IsTestAffected : List TestModel → (HasReason : ℕ → Type 0) → (number : ℕ) → Type 0
 IsTestAffected tests HasReason = IsBrought Later tests HasReason
 
--- A test is chosen if it is affected, or a chosen test needs it, so that this runs as in a run of all tests.
+-- A test is chosen if it is affected, or if a chosen test needs it to run as in a run of all tests.
 abbrev pub IsChosen : List TestModel → (HasReason : ℕ → Type 0) → (number : ℕ) → Type 0
 IsChosen tests HasReason = IsBrought Needed tests (IsTestAffected tests HasReason)

@@ -6,11 +6,11 @@ use Rattle.std.specs.List.{list_any, starts_with}
 abbrev pub is_below : (folder path : List ℕ) → Bool
 is_below folder path = starts_with nat_eq path (folder ++ 47 ∷ [])
 
--- a path is that of a directory, or of one above it
+-- a path is a given directory, or is above it
 abbrev pub is_at_or_above : (path folder : List ℕ) → Bool
 is_at_or_above path folder = bytes_eq path folder || is_below path folder
 
--- A path is a directory that tells something: it is not the build or a source directory, nor one above them, which have everything
--- below them.
+-- A path is a telling directory: neither the build directory nor a source directory, nor above one of them. Those have everything below
+-- them.
 abbrev pub is_telling : (roots : List (List ℕ)) → (path : List ℕ) → Bool
 is_telling roots path = not (list_any (is_at_or_above path) roots)

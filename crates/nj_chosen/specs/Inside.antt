@@ -1,4 +1,4 @@
--- How the code meets the definitions beside this directory. No contract of a public call needs these.
+-- How the code meets the definitions beside this directory. Contracts of public calls do not need these definitions.
 pub mod Tables
 pub mod Folders
 pub mod Numbers

@@ -17,20 +17,20 @@ pub record IsUnlinked (c : BuildChange) (path : List ℕ) : Type 0 where
   pub no_directory : has_below c.roots c.noticed path ≡ false
   pub needs_none : is_among c.needing path ≡ false
 
--- No word of a test without a reason names a path that has to do with the change.
+-- If a test has no reason, none of its words names a path that has to do with the change.
 abbrev pub OthersNameNothing : Type 0
 OthersNameNothing = (c : BuildChange) (skips_unnamed : Bool) (test : TestModel) (path : List ℕ)
     → reason_of c skips_unnamed test ≡ None → Contains (names_of_test c.build test) path → IsUnlinked c path
 
 -- ---- fixtures and order
 
--- with each test that is one of these, those are that it brings
+-- a set has, with each test, the tests that it brings
 abbrev pub IsClosed : Way → List TestModel → (is_one : ℕ → Bool) → Type 0
 IsClosed way tests is_one = (number other : ℕ) (test caller : TestModel) → is_one other ≡ true
     → slice_get tests other ≡ Some caller → slice_get tests number ≡ Some test → brings way caller test ≡ true
     → is_one number ≡ true
 
--- No smaller sets of tests have all tests with a reason, and with each test those that it brings.
+-- The affected and the chosen tests are the smallest sets that have all tests with a reason and, with each test, the tests that it brings.
 abbrev pub ChosenAreLeast : Type 0
 ChosenAreLeast = (tests : List TestModel) (has_reason affected chosen : ℕ → Bool)
     → ((n : ℕ) → has_reason n ≡ true → affected n ≡ true) → IsClosed Later tests affected

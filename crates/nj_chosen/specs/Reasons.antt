@@ -36,7 +36,7 @@ pub record PathKinds : Type 0 where
   pub has_outputs : (folder : List ℕ) → Bool
   pub has_noticed : (folder : List ℕ) → Bool
 
--- a directory that tells something has one of these paths below it
+-- a telling directory has one of the given paths below it
 abbrev pub has_below : (roots paths : List (List ℕ)) → (folder : List ℕ) → Bool
 has_below roots paths folder = is_telling roots folder && list_any (is_below folder) paths
 
@@ -53,7 +53,7 @@ kinds_of c = record {
 
 -- ---- reasons
 
--- Why a test is chosen by itself: a word of it names this path, which has this link to the change; or too little is known of it.
+-- Why a test is chosen by itself: one of its words names this path, which has this link to the change; or too little is known of the test.
 pub data Why : Type 0 where
   Named : (link : Link) → (path : List ℕ) → Why
   UnknownCommand : Why
@@ -65,7 +65,7 @@ why_of (given.Named link path) = Named link path.items
 why_of given.UnknownCommand = UnknownCommand
 why_of given.Unnamed = Unnamed
 
--- the link of a path to a change: the first of these
+-- the link of a path to a change: the first that applies
 abbrev pub link_of : PathKinds → (path : List ℕ) → Option Link
 link_of kinds path =
     if kinds.is_affected path then Some AffectedOutput
@@ -73,21 +73,21 @@ link_of kinds path =
     else if kinds.has_noticed path then Some Directory
     else if kinds.needs_affected path then Some NeedsAffected else None
 
--- a path that is named, if it has a link
+-- a named path as a reason, if it has a link
 abbrev pub named : (path : List ℕ) → Option Link → Option Why
 named path None = None
 named path (Some link) = Some (Named link path)
 
--- the reason of the first of these paths that has one
+-- the reason of the first of the given paths that has a link
 abbrev pub first_named : PathKinds → (paths : List (List ℕ)) → Option Why
 first_named kinds [] = None
 first_named kinds (path ∷ paths) = option_or (named path (link_of kinds path)) (first_named kinds paths)
 
--- a path is that of an output, or of a directory with one
+-- a path is an output, or a directory with an output
 abbrev pub is_of_outputs : PathKinds → (path : List ℕ) → Bool
 is_of_outputs kinds path = kinds.is_output path || kinds.has_outputs path
 
--- why a test with these names is chosen though none of them has a link: it always runs
+-- why a test is chosen although none of its names has a link: it always runs
 abbrev pub without_link : PathKinds → TestModel → (names : List (List ℕ)) → Option Why
 without_link kinds test names =
     if is_unknown test then Some UnknownCommand

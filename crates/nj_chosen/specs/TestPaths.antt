@@ -8,11 +8,11 @@ use Rattle.nj_tests.specs.Words.{names_of}
 abbrev pub words_of_test : TestModel → List (List ℕ)
 words_of_test test = unwrap_or test.command [] ++ test.texts
 
--- The full paths that the words of a test may name. Two spellings of a path are one.
+-- The full paths that the words of a test may name. Spellings of the same path are not distinguished.
 abbrev pub names_of_test : (build : List ℕ) → TestModel → List (List ℕ)
 names_of_test build test = flat_map (names_of build test.folder) (words_of_test test)
 
--- ---- tests of which not enough is known
+-- ---- tests of which too little is known
 
 -- a text has U+FFFD, which CTest writes for bytes that are not UTF-8: they are lost
 abbrev pub has_lost_bytes : (text : List ℕ) → Bool

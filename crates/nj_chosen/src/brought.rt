@@ -15,9 +15,10 @@ use std::slice;
 /// How a test brings others.
 #[derive(Clone, Copy)]
 pub(crate) enum Way {
-    /// Those that come after it: they require a fixture that it sets up, or name it as a predecessor.
+    /// The tests that come after it: they require a fixture that it sets up, or name it as a
+    /// predecessor.
     Later,
-    /// Those that it needs: they set up or clean up a fixture that it requires, or are its
+    /// The tests that it needs: they set up or clean up a fixture that it requires, or are its
     /// predecessors.
     Needed,
 }
@@ -29,7 +30,7 @@ pub(crate) struct Answers {
     pub(crate) tests: NumbersByName,
 }
 
-/// The tests that these tests bring, which bring others, with these among them.
+/// Returns the given tests and all tests that they bring, directly or through others.
 ///
 /// Takes time in proportion to the tests and their names.
 pub(crate) fn brought(
@@ -56,7 +57,7 @@ pub(crate) fn brought(
     Ok(found)
 }
 
-/// The number at a place in the order in which numbers were found.
+/// Returns the number at a place in the order in which numbers were found.
 fn number_at(found: &NumberSet, place: usize) -> usize
     requires { place < length found.now.numbers }
     ensures number { result ≡ slice_index found.now.numbers place }
@@ -65,7 +66,7 @@ fn number_at(found: &NumberSet, place: usize) -> usize
     found.numbers()[place]
 }
 
-/// Adds these numbers.
+/// Adds the given numbers.
 fn add_all(found: &mut NumberSet, numbers: &[usize]) -> Result<(), AllocError>
     requires { All (λ n. n < found.old.limit) numbers.now }
     ensures { OnOk result (FindsMore (Contains numbers.now) found.old found.new) }
@@ -76,7 +77,7 @@ fn add_all(found: &mut NumberSet, numbers: &[usize]) -> Result<(), AllocError>
     Ok(())
 }
 
-/// Adds the tests that a test brings, and removes them where they were.
+/// Moves the tests that a test brings from the answers to the tests found.
 fn add_brought(
     alloc: Global,
     way: Way,
@@ -100,7 +101,7 @@ fn add_brought(
     Ok(())
 }
 
-/// The fixtures by which a test calls.
+/// Returns the fixtures by which a test calls.
 fn called_fixtures(way: Way, test: &Test) -> &[String]
     ensures { map string_bytes result.now ≡ called_fixtures way (test_model test.now) }
 {
@@ -110,7 +111,7 @@ fn called_fixtures(way: Way, test: &Test) -> &[String]
     }
 }
 
-/// The names of tests by which it calls.
+/// Returns the names of tests by which a test calls.
 fn called_tests(way: Way, test: &Test) -> &[String]
     ensures { map string_bytes result.now ≡ called_tests way (test_model test.now) }
 {
@@ -120,7 +121,7 @@ fn called_tests(way: Way, test: &Test) -> &[String]
     }
 }
 
-/// Adds the numbers under each of these names, and removes them there.
+/// Moves the numbers under each of the given names to the numbers found.
 fn take_each(
     alloc: Global,
     numbers: &mut NumbersByName,
@@ -143,7 +144,7 @@ fn take_each(
     Ok(())
 }
 
-/// Adds the numbers under a name, and removes them there.
+/// Moves the numbers under a name to the numbers found.
 fn take_all(
     alloc: Global,
     numbers: &mut NumbersByName,
@@ -159,7 +160,7 @@ fn take_all(
     add_all(found, taken.as_slice())
 }
 
-/// These tests, by the names to which they answer.
+/// Returns the given tests by the names to which they answer.
 fn answers_of(
     alloc: Global,
     keys: HashKeys,
@@ -232,7 +233,7 @@ fn add_needed_fixtures(
     Ok(())
 }
 
-/// Adds a number under these names.
+/// Adds a number under each of the given names.
 fn add_under(
     alloc: Global,
     numbers: &mut NumbersByName,

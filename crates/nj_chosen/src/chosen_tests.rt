@@ -24,8 +24,8 @@ pub enum Choice<'c> {
     Own(&'c Reason),
     /// It requires a fixture that an affected test sets up, or comes after an affected test.
     Follows,
-    /// A chosen test needs it: it sets up or cleans up a fixture that this requires, or comes before
-    /// this.
+    /// A chosen test needs it: it sets up or cleans up a fixture that the chosen test requires, or
+    /// comes before the chosen test.
     Needed,
 }
 
@@ -57,14 +57,14 @@ impl Model for ChosenTests {
 impl ChosenTests {
     ghost use Rattle.nj_chosen.specs.Choices.{choice_model, why_chosen};
 
-    /// How many tests the list has.
+    /// Returns the number of tests in the list.
     pub fn count(&self) -> usize
         ensures { result ≡ length self.now.reasons }
     {
         self.reasons.len()
     }
 
-    /// Why the test with the given number is chosen; `None` if it is not.
+    /// Returns why the test with the given number is chosen, or `None` if it is not.
     pub fn choice(&self, number: usize) -> Option<Choice<'_>>
         requires { number < length self.now.reasons }
         ensures { option_map choice_model result ≡ why_chosen self.now number }
@@ -82,10 +82,10 @@ impl ChosenTests {
     }
 }
 
-/// The tests of a list that a change of files reaches: those with a reason of their own, those that
-/// follow them, and those that these need to run. Tests of which too little is known have a reason,
-/// unless they are skipped. The absolute path of the build directory is `build`; the tables of paths
-/// that are made have these keys.
+/// Returns the tests of a list that a change of files reaches: tests with a reason of their own,
+/// tests that follow them, and tests that any of them needs to run. Tests of which too little is
+/// known have a reason, unless they are skipped. `build` is the absolute path of the build
+/// directory. The tables of paths that are made have the given keys.
 ///
 /// Takes time in proportion to the paths of the change, and to the tests with their words and names.
 /// Fails only if an allocation fails.
@@ -104,7 +104,7 @@ pub fn choose(
     chosen_by(alloc, keys, &tables, build, skips_unnamed, tests)
 }
 
-/// The tests of a list that are chosen, by the tables of a change.
+/// Returns the chosen tests of a list, given the tables of a change.
 fn chosen_by(
     alloc: Global,
     keys: HashKeys,
@@ -127,7 +127,7 @@ fn chosen_by(
     })
 }
 
-/// Why each of these tests has a reason of its own, by the tables of a change.
+/// Returns for each of the given tests its own reason, if any, by the tables of a change.
 fn reasons_of(
     alloc: Global,
     tables: &PathTables,
@@ -146,7 +146,7 @@ fn reasons_of(
     Ok(reasons)
 }
 
-/// The numbers of the tests with a reason.
+/// Returns the numbers of the tests with a reason.
 fn with_reason(alloc: Global, reasons: &[Option<Reason>]) -> Result<Vec<usize>, AllocError>
     ensures numbers { IfOk result (λ numbers. (n : ℕ) → Contains numbers.items n
         ↔ HasReason (map (λ reason. option_map why_of reason) reasons.now) n) }
@@ -159,7 +159,7 @@ fn with_reason(alloc: Global, reasons: &[Option<Reason>]) -> Result<Vec<usize>, 
     Ok(numbers)
 }
 
-/// Appends a number if this is so.
+/// Appends a number if `is_so`.
 fn push_if(numbers: &mut Vec<usize>, number: usize, is_so: bool) -> Result<(), AllocError>
     ensures { OnOk result (numbers.new.items
         ≡ numbers.old.items ++ (if is_so then number ∷ [] else [])) }

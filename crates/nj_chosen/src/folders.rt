@@ -6,7 +6,7 @@ ghost use Rattle.nj_chosen.specs.Cited.{HasMore, folders_of, AreFoldersOf};
 use nj_names::{HashKeys, Names};
 use std::alloc::{AllocError, Global};
 
-/// A table of the directories above these paths, with these keys.
+/// Returns a table of the directories above the given paths, with the given keys.
 pub(crate) fn folders_above(
     alloc: Global,
     keys: HashKeys,
@@ -31,7 +31,7 @@ fn add_folders(folders: &mut Names, path: &[u8]) -> Result<(), AllocError>
     Ok(())
 }
 
-/// Adds what comes before an index of a path, if a slash is there.
+/// Adds the part of a path before an index, if a slash is at the index.
 fn add_folder(folders: &mut Names, path: &[u8], index: usize) -> Result<(), AllocError>
     requires { index < length path.now }
     ensures { OnOk result (HasMore folders.old

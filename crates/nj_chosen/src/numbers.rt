@@ -12,7 +12,7 @@ use std::mem;
 #[derive(Drop)]
 pub(crate) struct NumbersByName {
     names: Names,
-    // of each name the numbers under it
+    // the numbers under each name
     rows: Vec<Vec<usize>>,
 }
 
@@ -30,7 +30,7 @@ impl Model for NumbersByName {
 impl NumbersByName {
     ghost use Rattle.nj_chosen.specs.Inside.Numbers.{numbers_at};
 
-    /// No numbers. It allocates nothing.
+    /// Returns an empty table, without allocating.
     pub(crate) fn new(alloc: Global, keys: HashKeys) -> NumbersByName
         ensures { (name : List ℕ) → numbers_at result name ≡ [] }
     {

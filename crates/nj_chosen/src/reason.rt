@@ -7,19 +7,19 @@ pub enum Link {
     AffectedOutput,
     /// It is a changed file.
     ChangedFile,
-    /// It is a directory with such an output or file below it.
+    /// It is a directory with an affected output or a changed file below it.
     Directory,
-    /// It is an output that needs an affected one, or a changed file, if only for its order.
+    /// It is an output that needs an affected output or a changed file, if only for its order.
     NeedsAffected,
 }
 
 /// Why a test is chosen by itself.
 #[derive(Drop)]
 pub enum Reason {
-    /// A word of it names this full path.
+    /// One of its words names this full path.
     Named(Link, Vec<u8>),
     /// Its command is not known.
     UnknownCommand,
-    /// No word of it names an output, or a directory with one.
+    /// None of its words names an output, or a directory with an output.
     Unnamed,
 }

@@ -31,14 +31,14 @@ pub struct ChangedPaths {
 #[derive(Drop)]
 pub(crate) struct PathTables {
     pub(crate) paths: ChangedPaths,
-    /// The directories above what edges with a command make.
+    /// The directories above the outputs of edges with a command.
     pub(crate) made_folders: Names,
-    /// The directories above what counts there.
+    /// The directories above the noticed paths.
     pub(crate) noticed_folders: Names,
 }
 
 impl PathTables {
-    /// The tables of a change.
+    /// Returns the tables of a change.
     pub(crate) fn new(
         alloc: Global,
         keys: HashKeys,
@@ -56,7 +56,7 @@ impl PathTables {
         })
     }
 
-    /// The link of a path to the change.
+    /// Returns the link of a path to the change, if any.
     pub(crate) fn link_of(&self, path: &[u8]) -> Option<Link>
         ensures { result ≡ link_of (kinds_in self.now) path.now }
     {
@@ -75,7 +75,7 @@ impl PathTables {
         None
     }
 
-    /// Whether a path is that of an output, or of a directory with one.
+    /// Whether a path is an output, or a directory with an output.
     pub(crate) fn is_of_outputs(&self, path: &[u8]) -> bool
         ensures { result ≡ is_of_outputs (kinds_in self.now) path.now }
     {
@@ -89,7 +89,7 @@ fn has(names: &Names, path: &[u8]) -> bool
     names.number(path).is_some()
 }
 
-/// Whether a path is a directory in a table, and not one of these or above one.
+/// Whether a path is a directory in a table, and neither a root nor a directory above a root.
 fn has_folder(folders: &Names, roots: &[Vec<u8>], path: &[u8]) -> bool
     ensures { result ≡ (is_telling (map (λ root. root.items) roots.now) path.now
         && is_among folders.now path.now) }
@@ -97,14 +97,14 @@ fn has_folder(folders: &Names, roots: &[Vec<u8>], path: &[u8]) -> bool
     is_telling(roots, path) && has(folders, path)
 }
 
-/// Whether a path is none of these directories, nor above one.
+/// Whether a path is neither a root nor a directory above a root.
 fn is_telling(roots: &[Vec<u8>], path: &[u8]) -> bool
     ensures { result ≡ is_telling (map (λ root. root.items) roots.now) path.now }
 {
     !roots.iter().any(|root| is_at_or_above(path, root))
 }
 
-/// Whether a path is that of a directory, or of one above it.
+/// Whether a path is a given directory, or is above it.
 fn is_at_or_above(path: &[u8], folder: &[u8]) -> bool
     ensures { result ≡ is_at_or_above path.now folder.now }
 {

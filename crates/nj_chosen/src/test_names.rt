@@ -6,7 +6,7 @@ ghost use Rattle.nj_chosen.specs.Cited.{flat_map, list_any, test_model, names_of
 use nj_tests::{Test, names_of};
 use std::alloc::{AllocError, Global};
 
-/// The full paths that the words of a test may name, where the build directory is this one.
+/// Returns the full paths that the words of a test may name, given the build directory.
 pub(crate) fn names_of_test(
     alloc: Global,
     build: &[u8],
@@ -34,7 +34,7 @@ fn bytes_of(text: &Option<String>) -> Option<&[u8]>
     }
 }
 
-/// Appends the paths that these words may name.
+/// Appends the paths that the given words may name.
 fn push_names(
     alloc: Global,
     build: &[u8],
@@ -54,7 +54,7 @@ fn push_names(
     Ok(())
 }
 
-/// Whether it is not known what a test runs: it has no command, or bytes of its texts are lost.
+/// Whether it is unknown what a test runs: it has no command, or bytes of its texts are lost.
 pub(crate) fn is_unknown(test: &Test) -> bool
     ensures { result ≡ is_unknown (test_model test.now) }
 {
@@ -66,7 +66,7 @@ pub(crate) fn is_unknown(test: &Test) -> bool
     }
 }
 
-/// Whether one of these texts has lost bytes.
+/// Whether any of the given texts has lost bytes.
 fn have_lost_bytes(texts: &[String]) -> bool
     ensures { result ≡ list_any has_lost_bytes (map string_bytes texts.now) }
 {

@@ -9,8 +9,8 @@ use crate::test_names::{is_unknown, names_of_test};
 use nj_tests::Test;
 use std::alloc::{AllocError, Global};
 
-/// Why a test is chosen by itself, if it is. Tests of which too little is known always run, unless
-/// they are skipped.
+/// Returns why a test is chosen by itself, if it is. Tests of which too little is known always run,
+/// unless they are skipped.
 pub(crate) fn reason_of(
     alloc: Global,
     tables: &PathTables,
@@ -31,7 +31,7 @@ pub(crate) fn reason_of(
     Ok(without_link(tables, test, &names))
 }
 
-/// The reason of the first of these paths that has one.
+/// Returns the reason of the first of the given paths that has a link, if any.
 fn first_named(
     alloc: Global,
     tables: &PathTables,
@@ -49,7 +49,7 @@ fn first_named(
     Ok(None)
 }
 
-/// Why a test with these names is chosen though none of them has a link.
+/// Returns why a test is chosen although none of its names has a link.
 fn without_link(tables: &PathTables, test: &Test, names: &[Vec<u8>]) -> Option<Reason>
     ensures { option_map why_of result ≡ without_link (kinds_in tables.now)
         (test_model test.now) (map (λ name. name.items) names.now) }
@@ -63,7 +63,7 @@ fn without_link(tables: &PathTables, test: &Test, names: &[Vec<u8>]) -> Option<R
     Some(Reason::Unnamed)
 }
 
-/// Whether one of these paths is that of an output, or of a directory with one.
+/// Whether any of the given paths is an output, or a directory with an output.
 fn has_outputs(tables: &PathTables, names: &[Vec<u8>]) -> bool
     ensures { result ≡ list_any (is_of_outputs (kinds_in tables.now))
         (map (λ name. name.items) names.now) }

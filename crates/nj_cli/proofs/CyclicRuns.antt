@@ -1,5 +1,6 @@
--- Where an edge of the statements of the main file and of all that it includes needs itself, no
--- other file is read: nothing is joined, and there is no fault but that of loading.
+-- Where an edge of the statements of the main file and of all that it includes needs itself, no other file is
+-- read:
+-- nothing is joined, and the only fault is that of loading.
 use Rattle.std.proofs.Common.{◌≡◌, inl, inr, ℕ, true, Err, List, sym, ap, subst, ◌∙◌}
 use Rattle.nj_scope.specs.Readings.{Reading}
 use Rattle.nj_scope.specs.Sources.{SourceState}
@@ -15,7 +16,7 @@ use Rattle.nj_cli.specs.Targets.{edges_by_path, NoEdgeNeedsItself}
 module _ (main : List ℕ) (before after : SourceState) (files : List Reading) (stated : List ReadStatement)
     (read : main_read files main ≡ record { entries = stated; end = Whole })
     (cyclic : ¬ NoEdgeNeedsItself (edges_by_path stated)) where
-  -- the statements read first are these: further files make no difference
+  -- the statements read first are the given ones: further files make no difference
   stated-are : (more : ReadsMore main before after files) → more.stated ≡ stated
   stated-are more =
       let whole = subst (λ (r : ReadingModel). IsLacking r.end files) (sym more.whole.read) tt in

@@ -42,7 +42,7 @@ use Rattle.nj_cli.specs.Targets.{edges_by_path, NoEdgeNeedsItself, targets_of}
 
 -- ---- the targets and the mark of a run that is not refused
 
--- how a run ends that is not refused
+-- how a run that is not refused ends
 abbrev Goes : Ending → Type 0
 Goes finished = Unit {0}
 Goes (stopped mark) = Unit {0}
@@ -143,7 +143,7 @@ writes-the_needed entries words validations none ends_so =
 
 -- ---- pages
 
--- the targets of the arguments are these alone
+-- the targets of the arguments are the given targets alone
 same-targets : (entries : List ReadStatement) (words : List (List ℕ)) (validations : Bool)
     (targets others : List (List ℕ)) → targets_of entries validations words ≡ Ok targets
     → targets_of entries validations words ≡ Ok others → others ≡ targets

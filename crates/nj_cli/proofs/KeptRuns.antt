@@ -1,5 +1,6 @@
--- Of a run that was answered its graph is kept: where it was not refused, nothing or the graph of other edges
--- does not keep the contract.
+-- The graph of a run that was answered is kept: if the run was not refused, keeping nothing or the graph of
+-- other edges
+-- violates the contract.
 use Rattle.std.proofs.Common.{◌≡◌, inl, inr, Some, None, List}
 use Rattle.nj_scope.specs.Readings.{Reading}
 use Rattle.nj_graph.specs.Graph.{edges_of}

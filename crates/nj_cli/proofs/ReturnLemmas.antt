@@ -55,7 +55,7 @@ use Rattle.nj_cli.specs.Answers.{stopped, faulty, PageEnds, asked_targets, EndsF
 use Rattle.nj_cli.specs.Inside.RunSteps.{with_validations, for_targets, EndsOr, Finishes, out_of_range}
 use Rattle.nj_cli.specs.Inside.RunSteps.{ReturnsFor}
 
--- the targets of a run, by those that its arguments name
+-- the targets of a run, by the targets that its arguments name
 abbrev targets_from : List ReadStatement → (validations : Bool) → Result (List (List ℕ)) GraphFault
     → Result (List (List ℕ)) GraphFault
 targets_from entries validations named =
@@ -108,7 +108,7 @@ module _ (entries : List ReadStatement) (g : GraphModel) (is : IsGraphOf g entri
       ∙ ap (λ (es : List EdgePaths). targets_or (defaults_in_force g.built.defaults (edges_of g)) es words)
       (sym edges-are) ∙ named)
 
-  -- an argument that names no target
+  -- an argument that does not name a target
   pub targets-refused : (validations : Bool) (words : List (List ℕ)) (f : GraphFault)
       → (f ≡ no_memory) ⊎ (targets_of_graph words ≡ Err f)
       → (f ≡ no_memory) ⊎ (targets_of entries validations words ≡ Err f)
@@ -323,7 +323,7 @@ module _ (entries : List ReadStatement) (g : GraphModel) (is : IsGraphOf g entri
           ends-so ending ends = subst (λ (ts : Result (List (List ℕ)) GraphFault). EndsOr
               (PageEnds entries validations take start) ts ending) (sym named) ends
 
-          -- the mark leads to no edge
+          -- the mark does not lead to an edge
           commands-out_of_range : (s : SinkState)
               → is_valid (makers_of g.built.graph) (row_of g.built.graph numbers) start ≡ false
               → ReturnsFor entries (commands words validations take start) s s (Err error.MarkOutOfRange)
@@ -378,7 +378,7 @@ module _ (entries : List ReadStatement) (g : GraphModel) (is : IsGraphOf g entri
                 (subst (λ (h : EdgeGraph). IsMarkAfter (makers_of h) (count_of h) (row_of h w.targets) w.mark
                 edges mark) begins.graph after)))
 
-            -- the rest was written, or so much as may be
+            -- the rest was written, up to the limit
             pub commands-answered : (old new : SinkState) (mark : Option (List ℕ))
                 → Takes old new (command_lines entries (written take w.left)) → StopsAt w take mark
                 → ReturnsFor entries (commands words validations take start) old new (Ok mark)

@@ -197,7 +197,7 @@ from_0_ends : ends_so (commands d false None (0 ∷ [])) finished
 unfolding on_entries
 from_0_ends = (refl, refl)
 
--- the second place of `a`, which an earlier one makes already
+-- the second place of `a`, whose command the first place writes already
 from_0_1_0 : outputs (commands d false (Some 1) (0 ∷ 1 ∷ 0 ∷ [])) (codes "mk b2\n")
 unfolding on_entries
 from_0_1_0 = refl
@@ -246,7 +246,7 @@ five_from_0_0_ends : ends_so (commands d false (Some 5) (0 ∷ 0 ∷ [])) finish
 unfolding on_entries
 five_from_0_0_ends = (refl, refl)
 
--- the first run; the second, and one without a limit, from the text that the first wrote after `mark `
+-- the first run; the second run, and a run without a limit, from the text that the first wrote after `mark `
 from_start : IsRun d false (Some 2) None (commands d false (Some 2) [])
 from_start = ([], refl, refl)
 

@@ -37,7 +37,7 @@ module _ (entries : List ReadStatement) (action : ActionModel) (old new : Around
       → Reported old.error new.error (line text) → RunEnds entries action old new Fault
   reported-fault text ends took known = reported (faulty text) ends took (known, refl)
 
-  -- there was no memory for the line of a fault
+  -- out of memory for the line of a fault
   late : Takes old.output new.output (output_of entries action)
       → Reported old.error new.error (line out_of_memory) → RunEnds entries action old new Fault
   late took known = memory_fails (
@@ -86,7 +86,7 @@ module _ (entries : List ReadStatement) (action : ActionModel) (old new : Around
   Answers-from status (Err error.OutOfMemory) outcomes concludes =
       subst (RunEnds entries action old new) (sym concludes.1) (memory_fails outcomes concludes.0)
 
--- all files were read, and this is the graph of their statements: it is kept
+-- all files were read, and the graph of their statements is kept
 pub Keeps-answered : (request : RequestModel) (files : List Reading) (old new : Around) (loaded : LoadedModel)
     (entries : List ReadStatement) (status : Status)
     → IsRead old.source new.source [] files

@@ -24,7 +24,7 @@ use Rattle.nj_cli.specs.Targets.{edges_by_path, targets_of}
 
 -- ---- the rest to write
 
--- each step of a mark leads to an edge, starting from these targets; the mark of the start has no steps
+-- each step of a mark leads to an edge, starting from the given targets; the mark of the start has no steps
 abbrev pub leads : List ReadStatement → (targets : List (List ℕ)) → (mark : List ℕ) → Bool
 leads entries targets mark = is_valid (makers_of_inputs (edges_by_path entries)) (row_of_paths (edges_by_path entries) targets) mark
 
@@ -34,7 +34,7 @@ commands_left entries targets mark =
     rest (makers_of_inputs (edges_by_path entries)) (length (edges_by_path entries)) (is_phony_in (edges_by_path entries))
     (row_of_paths (edges_by_path entries) targets) mark
 
--- the mark after these edges, in a run that began at the mark `begun`
+-- the mark after the given edges, in a run that began at the mark `begun`
 abbrev pub IsMarkOf : List ReadStatement → (targets : List (List ℕ)) → (begun : List ℕ) → (edges : List ℕ) → (mark : List ℕ) → Type 0
 IsMarkOf entries targets begun edges mark =
     IsMarkAfter (makers_of_inputs (edges_by_path entries)) (length (edges_by_path entries)) (row_of_paths (edges_by_path entries) targets)
@@ -42,7 +42,7 @@ IsMarkOf entries targets begun edges mark =
 
 -- ---- the output
 
--- the targets of an action, or the files of `query`, by its arguments; the other tools take none
+-- the targets of an action, or the files of `query`, by its arguments; the other tools take no arguments
 abbrev pub asked_targets : List ReadStatement → ActionModel → Result (List (List ℕ)) GraphFault
 asked_targets entries (commands words validations take start) = targets_of entries validations words
 asked_targets entries (single_commands words) = targets_of entries false words
@@ -50,8 +50,8 @@ asked_targets entries (ask.inputs words validations style) = targets_of entries 
 asked_targets entries (ask.query words) = targets_named (edges_by_path entries) words
 asked_targets entries other = Ok []
 
--- The output for targets. `commands` writes the commands that are left at a mark, up to a limit, or none if the mark leads to no edge;
--- `compdb` the objects before a fault.
+-- The output for targets. `commands` writes the commands that are left at a mark, up to a limit, or nothing if the mark
+-- does not lead to an edge; `compdb` the objects before a fault.
 abbrev pub output_for : List ReadStatement → ActionModel → (targets : List (List ℕ)) → List ℕ
 output_for entries (commands words validations take start) targets =
     if leads entries targets start then command_lines entries (written take (commands_left entries targets start)) else []
@@ -68,14 +68,14 @@ output_of entries action = option_map_or (output_for entries action) (result_ok 
 
 -- ---- how it ends
 
--- All was written; or the run stopped at the mark of this text, and more is left; or this text reports the fault.
+-- All was written; or the run stopped at the mark of the given text, and more is left; or the given text reports the fault.
 pub data Ending : Type 0 where
   finished : Ending
   stopped : (mark : List ℕ) → Ending
   faulty : (text : List ℕ) → Ending
 
--- Nothing is left after the written commands; or the run stops at the mark after them, as written; or the mark from which it began leads
--- to no edge.
+-- Nothing is left after the written commands; or the run stops at the mark after them, as written; or the mark from
+-- which it began does not lead to an edge.
 abbrev pub PageEnds : List ReadStatement → (validations : Bool) → (take : Option ℕ) → (start : List ℕ) → (targets : List (List ℕ))
     → Ending → Type 0
 PageEnds entries validations take start targets finished =

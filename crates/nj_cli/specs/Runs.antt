@@ -33,7 +33,7 @@ pub record Around : Type 0 where
 abbrev pub around : (source : SourceState) → (output error : SinkState) → Around
 around source output error = record { source = source; output = output; error = error }
 
--- the line that says that memory lacked
+-- the line that reports out of memory
 abbrev pub out_of_memory : List ℕ
 out_of_memory = fault_line no_memory
 
@@ -51,8 +51,8 @@ pub data RunEnds (entries : List ReadStatement) (action : ActionModel) (old new 
 
 -- ---- by its files
 
--- The main file and all that it includes were read: these statements, without a fault, and without an edge that needs itself by a
--- chain. Only then, up to the end, more files were read.
+-- The main file and all that it includes were read: they yield the given statements, without a fault, and without an
+-- edge that needs itself by a chain. Only then, up to the end, more files were read.
 pub record ReadsMore (main : List ℕ) (before after : SourceState) (files : List Reading) : Type 0 where
   pub between : SourceState
   pub read : List Reading
@@ -62,23 +62,23 @@ pub record ReadsMore (main : List ℕ) (before after : SourceState) (files : Lis
   pub acyclic : NoEdgeNeedsItself (edges_by_path stated)
   pub adds : IsRead between after read files
 
--- The statements of the files: those in the main file and in all that it includes; with `--dyndep`, where no edge of these needs itself,
--- joined with the discoveries of dyndep files.
+-- The statements of the files: those in the main file and in all that it includes; with `--dyndep`, if no edge of them
+-- needs itself, joined with the discoveries of dyndep files.
 abbrev pub AreStatements : (main : List ℕ) → (dyndep : Bool) → (before after : SourceState) → List Reading → List ReadStatement → Type 0
 AreStatements main false before after files entries = IsWhole before after files (main_reached main) entries
 AreStatements main true before after files entries =
     (more : ReadsMore main before after files) × IsWhole more.between after files (joined_after more.read more.stated) entries
 
--- This is the fault of the files: the one that ended the reading of the main file and all that it includes, or a cycle of their
--- edges; with `--dyndep` also one that ended the joining after it.
+-- The fault of the files: the fault that ended the reading of the main file and all that it includes, or a cycle of
+-- their edges; with `--dyndep` also a fault that ended the joining after it.
 abbrev pub HaveFault : (main : List ℕ) → (dyndep : Bool) → (before after : SourceState) → List Reading → GraphFault → Type 0
 HaveFault main false before after files fault = LoadingFails before after files (main_reached main) fault
 HaveFault main true before after files fault =
     LoadingFails before after files (main_reached main) fault
     ⊎ ((more : ReadsMore main before after files) × LoadingFails more.between after files (joined_after more.read more.stated) fault)
 
--- No graph can be made of the files: a statement has a fault, or an edge lies on a cycle, or the source failed, or an allocation did.
--- Nothing is output. The fault is reported, or out of memory if there was no memory for its line.
+-- The files do not form a graph: a statement has a fault, or an edge lies on a cycle, or the source or an allocation
+-- failed. Nothing is output. The fault is reported, or out of memory if its line could not be allocated.
 pub record IsRefused (request : RequestModel) (files : List Reading) (old new : Around) (status : Status) : Type 0 where
   pub fault : GraphFault
   pub reading : HaveFault request.file request.dyndep old.source new.source files fault
@@ -95,7 +95,7 @@ pub record IsAnswered (request : RequestModel) (files : List Reading) (old new :
 
 -- ---- the run
 
--- A run of this request: these files were read, each path once, and by them the request was refused or answered.
+-- A run of the given request: the given files were read, each path once, and by them the request was refused or answered.
 abbrev pub RunsAs : RequestModel → (old new : Around) → Status → Type 0
 RunsAs request old new status =
     (files : List Reading) × IsRead old.source new.source [] files
@@ -119,8 +119,8 @@ RunsWords words old new status =
 
 -- ---- the files and the graph that a run keeps
 
--- A run of this request, and the files and the graph that are kept: where it was answered, the files that were read and the graph
--- of their statements; nothing where it was refused.
+-- A run of the given request, and the files and the graph that are kept: if the run was answered, the files that were
+-- read and the graph of their statements; nothing if it was refused.
 abbrev pub RunsAsAndKeeps : RequestModel → (old new : Around) → Status → Option LoadedModel → Type 0
 RunsAsAndKeeps request old new status kept =
     (files : List Reading) × IsRead old.source new.source [] files
@@ -128,7 +128,7 @@ RunsAsAndKeeps request old new status kept =
     ⊎ ((answered : IsAnswered request files old new status)
     × IsSomeAnd kept (λ loaded. (loaded.files ≡ files) × IsGraphOf loaded.graph answered.entries)))
 
--- nothing is kept where the arguments are not a valid request
+-- nothing is kept if the arguments are not a valid request
 abbrev pub RunsAndKeepsWith : Result RequestModel UsageFault → (old new : Around) → Status → Option LoadedModel → Type 0
 RunsAndKeepsWith (Ok request) old new status kept = RunsAsAndKeeps request old new status kept
 RunsAndKeepsWith (Err fault) old new status kept = EndsAtOnce (line (usage.fault_line fault)) old new × (status ≡ Usage) × (kept ≡ None)

@@ -19,7 +19,8 @@ edges_by_path entries = paths_of_edges (edges_read entries)
 abbrev pub NoEdgeNeedsItself : List EdgePaths → Type 0
 NoEdgeNeedsItself edges = IsAcyclic (makers_of_inputs edges) (length edges)
 
--- the targets of a run with these arguments; with `--validations` the validations of the edges that they need come after them
+-- the targets of a run with the given arguments; with `--validations` the validations of the edges that the targets
+-- need come after them
 abbrev pub targets_of : List ReadStatement → (validations : Bool) → (words : List (List ℕ)) → Result (List (List ℕ)) GraphFault
 targets_of entries validations words = do
   targets ← targets_or (defaults_in_force (defaults_read entries) (edges_by_path entries)) (edges_by_path entries) words

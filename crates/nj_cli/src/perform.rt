@@ -14,7 +14,7 @@ use nj_tools::{
 };
 use std::alloc::Global;
 
-/// Writes the requested output. Returns the mark at which the run stopped, if it did before its
+/// Writes the requested output. Returns the mark at which the run stopped, if it stopped before its
 /// end.
 pub(crate) fn perform<O: Sink>(
     alloc: Global,
@@ -127,7 +127,7 @@ fn run_targets<O: Sink>(
     Ok(None)
 }
 
-// The edges that make files, with their inputs, and the outputs made from the files.
+// The edges that make files, with their inputs, and the outputs that are made from the files.
 fn run_query<O: Sink>(
     alloc: Global,
     graph: &Graph,

@@ -11,15 +11,15 @@ use nj_needs::Mark;
 use nj_tools::{Error, Sink, write_whole};
 use std::alloc::{AllocError, Global};
 
-/// The line of a run that lacked memory.
+/// The line of a run that ran out of memory.
 pub const OUT_OF_MEMORY: &[u8] = b"ninja-explain: out of memory\n";
 
 const UNREADABLE: &[u8] = b"ninja-explain: cannot read the arguments\n";
 
 const OUT_OF_RANGE: &[u8] = b"ninja-explain: mark out of range\n";
 
-/// Reports how a run ends by its outcome. The mark of a run that follows validations is reported as
-/// one of those.
+/// Reports how a run ends by its outcome. If the run follows validations, the reported mark says
+/// so.
 pub(crate) fn conclude<E: Sink>(
     alloc: Global,
     err: &mut E,
@@ -32,7 +32,7 @@ pub(crate) fn conclude<E: Sink>(
         Ok(None) => Status::Done,
         Ok(Some(mark)) => report_mark(alloc, err, validations, &mark),
         Err(Error::Graph(fault)) => report_fault(alloc, err, &fault),
-        // A run cleans no path that may be empty, and its mark was read before.
+        // A run never cleans a path that may be empty, and its mark was read before.
         Err(Error::EmptyPath | Error::BadMark | Error::MarkOutOfRange) => {
             report_line(err, OUT_OF_RANGE);
             Status::Fault
@@ -66,7 +66,7 @@ fn mark_line(alloc: Global, validations: bool, mark: &Mark) -> Result<Vec<u8>, A
     Ok(line)
 }
 
-/// Reports a fault, or out of memory if its line has to be made first and cannot be.
+/// Reports a fault, or out of memory if its line has to be made first and that fails.
 pub(crate) fn report_fault<E: Sink>(alloc: Global, err: &mut E, fault: &GraphFault) -> Status
     ensures line { ReportsLine (E.state err.old) (E.state err.new)
         (line (fault_line fault.now)) }
@@ -89,7 +89,7 @@ fn line_of_fault(alloc: Global, fault: &GraphFault) -> Result<Vec<u8>, AllocErro
 }
 
 /// Reports why arguments are not a valid request, or out of memory if its line has to be made first
-/// and cannot be.
+/// and that fails.
 pub(crate) fn report_misuse<E: Sink>(alloc: Global, err: &mut E, fault: &UsageFault) -> Status
     ensures { ReportsMisuse (E.state err.old) (E.state err.new) fault.now result }
 {

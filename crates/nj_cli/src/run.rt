@@ -12,16 +12,16 @@ use nj_scope::FileSource;
 use nj_tools::Sink;
 use std::alloc::Global;
 
-/// How a run ended, with its files and graph. These are freed where this is dropped, which takes
-/// time: a program that is about to exit may forget it instead.
+/// How a run ended, with its files and graph. The files and the graph are freed when the value is
+/// dropped, which takes time: a program that is about to exit may forget it instead.
 #[derive(Drop)]
 pub struct Ended {
     pub status: Status,
     pub loaded: Option<Loaded>,
 }
 
-/// Runs the program with these arguments, without its own name. If they are not a valid request,
-/// that is reported on standard error, and no file is read.
+/// Runs the program with the given arguments, without its own name. Arguments that are not a valid
+/// request are reported on standard error, and no file is read.
 pub fn run_words<S: FileSource, O: Sink, E: Sink>(
     alloc: Global,
     source: &mut S,
@@ -36,8 +36,8 @@ pub fn run_words<S: FileSource, O: Sink, E: Sink>(
     status_of(run_words_and_keep(alloc, source, words, out, err))
 }
 
-/// The same as [`run_words`], but it also returns the loaded files: where the run was answered, the
-/// files that were read and the graph of their statements; else nothing.
+/// The same as [`run_words`], but it also returns the loaded files: if the run was answered, the
+/// files that were read and the graph of their statements; otherwise `None`.
 pub fn run_words_and_keep<S: FileSource, O: Sink, E: Sink>(
     alloc: Global,
     source: &mut S,
@@ -80,8 +80,8 @@ pub fn run_read_words<S: FileSource, O: Sink, E: Sink>(
 }
 
 /// Carries out a request: reads the main file and all that it includes, joins discoveries of dyndep
-/// files if that is requested, and writes the requested output. A fault, or the mark at which the
-/// run was stopped, is a line on standard error.
+/// files if requested, and writes the requested output. A fault, or the mark at which the run was
+/// stopped, is reported as a line on standard error.
 pub fn run_tool<S: FileSource, O: Sink, E: Sink>(
     alloc: Global,
     source: &mut S,
@@ -96,7 +96,8 @@ pub fn run_tool<S: FileSource, O: Sink, E: Sink>(
     status_of(run_tool_and_keep(alloc, source, request, out, err))
 }
 
-// The status alone. The files and the graph are freed here, which no other function has to prove.
+// Returns the status alone. The files and the graph are freed here, so that no other function has
+// to prove that.
 fn status_of(ended: Ended) -> Status
     ensures { result ≡ ended.status }
 {

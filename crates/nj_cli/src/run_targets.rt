@@ -7,13 +7,13 @@ use nj_graph::{FileNo, Graph, GraphFault};
 use nj_needs::grow_targets;
 use std::alloc::Global;
 
-/// The files of a run's targets: those that arguments name, in their order, or the defaults in
-/// force if there are no arguments. With `validations`, the validations of the edges that they need
-/// come after them.
+/// The files of a run's targets: the files that the arguments name, in their order, or the defaults
+/// in force if there are no arguments. With `validations`, the validations of the edges that the
+/// targets need come after them.
 ///
 /// # Errors
 ///
-/// The fault of the first argument that names none; or an allocation failed.
+/// The fault of the first argument that does not name a target; or an allocation failed.
 pub(crate) fn targets_of(
     alloc: Global,
     graph: &Graph,

@@ -15,7 +15,7 @@ pub chain_map : (step other : ℕ → ℕ → Type 0) → ((e f : ℕ) → step 
 chain_map step other h e f (one s) = one (h e f s)
 chain_map step other h e f (more {g = g} s c) = more (h e g s) (chain_map step other h g f c)
 
--- a chain of no step too
+-- a chain, or no step at all
 abbrev pub Comes : (ℕ → ℕ → Type 0) → ℕ → ℕ → Type 0
 Comes step e f = (e ≡ f) ⊎ Chain step e f
 

@@ -1,5 +1,6 @@
--- Consequences of the order in which the walk finished the edges: ranks where no edge lies on a
--- cycle, and else the edges that lie on one.
+-- Consequences of the order in which the walk finished the edges: ranks if no edge lies on a cycle, otherwise
+-- the edges
+-- that lie on a cycle.
 use Rattle.std.proofs.lemmas.Grind.{common_steps}
 use Rattle.std.proofs.Common.{◌≡◌, ℕ, ◌<◌, ◌≤◌, ◌+◌, ◌-◌, Bool, Some, None, Option, List, [], ◌∷◌, length}
 use Rattle.std.proofs.Common.{take, drop, refl, sym, subst, ◌∙◌, ◌⊎◌, inl, inr, arith}
@@ -79,7 +80,7 @@ module _ (makers : ℕ → List (Option ℕ)) (count : ℕ) (order : List ℕ) (
         after = λ turn f lt needs. index_before order turn f (omega (arith, lt)) (falling turn f lt needs);
       }
 
-  -- ---- an edge that needs one at its place or after it
+  -- ---- an edge that needs an edge at its place or after it
 
   back : (i : ℕ) → i < length order → (a u v : ℕ) → a ≤ i → slice_index order a ≡ u
       → Reaches makers (slice_index order i) u → NeedsByChain makers u v → ¬ Contains (take i order) v
@@ -155,12 +156,12 @@ head_or_tail e edges x c = grind arith
 pub least_none : (makers : ℕ → List (Option ℕ)) → IsLeastOf makers [] None
 least_none makers e c = absurd (omega (arith, c.1))
 
--- an edge that lies on no cycle
+-- an edge that does not lie on a cycle
 pub least_past : (makers : ℕ → List (Option ℕ)) (edges : List ℕ) (e : ℕ) (least : Option ℕ)
     → ¬ IsOnCycle makers e → IsLeastOf makers edges least → IsLeastOf makers (e ∷ edges) least
 least_past makers edges e least not_on h = grind arith
 
--- one that lies on a cycle
+-- an edge that lies on a cycle
 pub least_more : (makers : ℕ → List (Option ℕ)) (edges : List ℕ) (e l : ℕ) (least : Option ℕ)
     → IsOnCycle makers e → MatchOption least (l ≡ e) (λ other. l ≡ min other e) → IsLeastOf makers edges least
     → IsLeastOf makers (e ∷ edges) (Some l)

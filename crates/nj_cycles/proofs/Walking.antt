@@ -84,7 +84,7 @@ module _ (makers : ℕ → List (Option ℕ)) (count : ℕ) (stages : List Stage
         | inr q ↦ old i f (subst (λ k. i < k) q.1 below) made
       ]
 
-  -- an unseen edge that each open one needs is opened
+  -- an unseen edge that each open edge needs is opened
   pub opens : (m : ℕ) → m < count → stage_of stages m ≡ Unseen
       → ((i : ℕ) → i < length path → NeedsByChain makers (slice_index path i) m)
       → Sound makers count (set stages m Open) next (path ++ m ∷ []) order meets
@@ -185,7 +185,7 @@ module _ (makers : ℕ → List (Option ℕ)) (count : ℕ) (stages : List Stage
   not_below i h same = s.path_once i (length below) h at_top
       (at_left below e i h ∙ same ∙ sym (at_end below e))
 
-  -- an open edge reaches the last one
+  -- an open edge reaches the last open edge
   open_reaches : (f : ℕ) → stage_of stages f ≡ Open → Reaches makers f e
   open_reaches f h =
       let k = index_of (below ++ e ∷ []) f (s.open_in_path f h) in

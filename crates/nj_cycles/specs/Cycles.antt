@@ -19,7 +19,7 @@ NeedsByChain makers = Chain (Needs makers)
 abbrev pub IsOnCycle : (makers : ℕ → List (Option ℕ)) → ℕ → Type 0
 IsOnCycle makers e = NeedsByChain makers e e
 
--- only edges below this number have inputs, and only these make any
+-- only edges below the given number have inputs or make inputs
 abbrev pub AreEdges : (makers : ℕ → List (Option ℕ)) → (edge_count : ℕ) → Type 0
 AreEdges makers edge_count = (e f : ℕ) → Needs makers e f → (e < edge_count) × (f < edge_count)
 
@@ -27,7 +27,7 @@ AreEdges makers edge_count = (e f : ℕ) → Needs makers e f → (e < edge_coun
 abbrev pub FallsAlongNeeds : (makers : ℕ → List (Option ℕ)) → (rank : ℕ → ℕ) → Type 0
 FallsAlongNeeds makers rank = (e f : ℕ) → Needs makers e f → rank f < rank e
 
--- it is below the number of edges: no chain is longer than that. Edges need only edges
+-- A rank that falls along every need is below the number of edges: no chain is longer than that. Edges need only edges.
 pub record IsRank (makers : ℕ → List (Option ℕ)) (edge_count : ℕ) (rank : ℕ → ℕ) : Type 0 where
   pub falls : FallsAlongNeeds makers rank
   pub bounded : (e : ℕ) → e < edge_count → rank e < edge_count
@@ -37,7 +37,7 @@ pub record IsRank (makers : ℕ → List (Option ℕ)) (edge_count : ℕ) (rank 
 abbrev pub IsAcyclic : (makers : ℕ → List (Option ℕ)) → (edge_count : ℕ) → Type 0
 IsAcyclic makers edge_count = (rank : ℕ → ℕ) × IsRank makers edge_count rank
 
--- e is the edge of the smallest number that lies on a cycle
+-- e is the edge with the smallest number that lies on a cycle
 abbrev pub IsLeastOnCycle : (makers : ℕ → List (Option ℕ)) → ℕ → Type 0
 IsLeastOnCycle makers e = IsOnCycle makers e × ((f : ℕ) → f < e → ¬ IsOnCycle makers f)
 
@@ -51,7 +51,7 @@ abbrev pub FallingRanksLeaveNoCycle : Type 0
 FallingRanksLeaveNoCycle =
     (makers : ℕ → List (Option ℕ)) (rank : ℕ → ℕ) → FallsAlongNeeds makers rank → (e : ℕ) → ¬ IsOnCycle makers e
 
--- an order of all edges, without duplicates, in which each comes after those that it needs
+-- an order of all edges, without duplicates, in which each edge comes after the edges that it needs
 pub record AreAfterNeeds (makers : ℕ → List (Option ℕ)) (edge_count : ℕ) (order : List ℕ) : Type 0 where
   pub all : (e : ℕ) → e < edge_count → Contains order e
   pub within : (turn : ℕ) → turn < length order → slice_index order turn < edge_count

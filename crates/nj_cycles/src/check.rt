@@ -8,10 +8,10 @@ use crate::on_cycle::least_on_cycle;
 use crate::reversed::users_of_edges;
 use std::alloc::{AllocError, Global};
 
-/// The edge of the smallest number that lies on a dependency cycle itself, and `None` if the graph
-/// has no cycle; an edge that only leads into a cycle does not count. Takes time in proportion to
-/// the edges and their inputs, whatever the graph, and memory for each edge; only where there is a
-/// cycle it also takes memory for each input. Fails only if it runs out of memory.
+/// Returns the edge with the smallest number that itself lies on a dependency cycle, or `None` if
+/// the graph has no cycle; an edge that only leads into a cycle does not count. Takes time in
+/// proportion to the edges and their inputs, whatever the graph, and memory for each edge; if there
+/// is a cycle, also memory for each input. Fails only if it runs out of memory.
 pub fn first_on_cycle<I: EdgeInputs>(alloc: Global, inputs: &I) -> Result<Option<usize>, AllocError>
     ensures { IfOk result (λ first.
         IsFirstOnCycle (I.makers inputs.now) (I.count inputs.now) first) }
@@ -24,9 +24,9 @@ pub fn first_on_cycle<I: EdgeInputs>(alloc: Global, inputs: &I) -> Result<Option
     least_on_cycle(alloc, inputs, &users, &finished.order)
 }
 
-/// All edges of a graph without dependency cycles, without duplicates, each after those that it
-/// needs. Takes time in proportion to the edges and their inputs, and memory for each edge. Fails
-/// only if it runs out of memory.
+/// Returns all edges of a graph without dependency cycles, without duplicates, each after the edges
+/// that it needs. Takes time in proportion to the edges and their inputs, and memory for each edge.
+/// Fails only if it runs out of memory.
 pub fn makers_first<I: EdgeInputs>(alloc: Global, inputs: &I) -> Result<Vec<usize>, AllocError>
     requires { IsAcyclic (I.makers inputs.now) (I.count inputs.now) }
     ensures { IfOk result (λ order.
@@ -36,7 +36,7 @@ pub fn makers_first<I: EdgeInputs>(alloc: Global, inputs: &I) -> Result<Vec<usiz
     Ok(finished.order)
 }
 
-/// The purpose of a rank: where one falls along every need, no edge needs itself by a chain.
+/// The purpose of a rank: where a rank falls along every need, no edge needs itself by a chain.
 pub fn acyclic_law()
     ensures { FallingRanksLeaveNoCycle }
 {}

@@ -128,7 +128,7 @@ impl Walk {
         }
     }
 
-    /// Finishes an unseen edge, and before it all unseen ones that it needs.
+    /// Finishes an unseen edge, and before it all unseen edges that it needs.
     fn visit<I: EdgeInputs>(&mut self, inputs: &I, edge: usize) -> Result<(), AllocError>
         requires edges { AreEdges (I.makers inputs.now) (I.count inputs.now) }
         requires sound { WalkIsSound (I.makers inputs.now) (I.count inputs.now) self.old }

@@ -1,4 +1,4 @@
-//! The cycle check of a build graph: the first edge that lies on a dependency cycle, if one does.
+//! The cycle check of a build graph: the first edge that lies on a dependency cycle, if any.
 #![tactic(auto)]
 
 mod check;

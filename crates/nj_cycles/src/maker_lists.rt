@@ -2,17 +2,17 @@
 ghost use Rattle.std.specs.Prelude.{◌≡◌, ℕ, ◌+◌, ◌<◌, ◌^◌, List, Option, IfSome, slice_get};
 
 /// The inputs of the edges of a build graph, and the edges that make them. Edges are numbered from
-/// 0. All kinds of inputs count alike; validations are no inputs.
+/// 0. All kinds of inputs count alike; validations are not inputs.
 pub trait EdgeInputs {
     ghost use Rattle.nj_cycles.specs.Cycles.{AreEdges};
 
-    // For each edge the makers of its inputs, in their order; a source has none.
+    // For each edge the makers of its inputs, in their order; a source has no maker.
     ghost makers: { Self → ℕ → List (Option ℕ) };
 
     // How many edges there are.
     ghost count: { Self → ℕ };
 
-    /// The number of edges. No others have inputs, and no others make any.
+    /// The number of edges. No other edge has inputs or makes any.
     fn edge_count(&self) -> usize
         ensures count { result ≡ count self.now }
         ensures known { AreEdges (makers self.now) (count self.now) };

@@ -41,7 +41,7 @@ impl Marks {
         Ok(())
     }
 
-    /// Marks each of these edges.
+    /// Marks each of the given edges.
     fn mark_all(&mut self, edges: &[usize]) -> Result<(), AllocError>
         requires { All (λ e. e < vec_len self.old.flags) edges.now }
         ensures more { OnOk result (MarksMore (Contains edges.now) self.old self.new) }
@@ -54,8 +54,8 @@ impl Marks {
         Ok(())
     }
 
-    /// Marks each edge that needs this one by a chain. The edges that need a marked one are marked
-    /// already, so that each edge's users are looked at once.
+    /// Marks each edge that needs the given edge by a chain. The edges that need a marked edge are
+    /// marked already, so that each edge's users are looked at once.
     fn mark_needing(&mut self, users: &[Vec<usize>], edge: usize) -> Result<(), AllocError>
         requires len { vec_len self.old.flags ≡ length users.now }
         requires known { (m e : ℕ) → Contains (users_of users.now m) e → e < length users.now }
@@ -76,7 +76,7 @@ impl Marks {
     }
 }
 
-/// The smaller of an edge and the least one so far.
+/// The smaller of an edge and the least edge so far.
 fn lesser(least: Option<usize>, edge: usize) -> usize
     ensures { MatchOption least (result ≡ edge) (λ other. result ≡ min other edge) }
 {
@@ -86,9 +86,9 @@ fn lesser(least: Option<usize>, edge: usize) -> usize
     }
 }
 
-/// The edge of the smallest number that lies on a cycle, if one does, from the order in which the
-/// walk finished the edges. From the end of that order on, all that need an edge are marked, and
-/// the edge lies on a cycle exactly if it then is marked itself.
+/// Returns the edge with the smallest number that lies on a cycle, or `None`, from the order in
+/// which the walk finished the edges. From the end of that order on, all edges that need an edge
+/// are marked, and the edge lies on a cycle exactly if it is then marked itself.
 pub(crate) fn least_on_cycle<I: EdgeInputs>(
     alloc: Global,
     inputs: &I,

@@ -52,7 +52,7 @@ fn add_edge<I: EdgeInputs>(
     Ok(())
 }
 
-/// Adds a user to an input's maker; a source has none.
+/// Adds a user to an input's maker; a source has no maker.
 fn add_user(
     users: &mut Vec<Vec<usize>>,
     maker: Option<usize>,

@@ -32,7 +32,7 @@ escapes : depfile_of (codes "a" ++ 92 ∷ codes " b.o: c" ++ 92 ∷ codes "#d e"
 unfolding pieces_after named
 escapes = refl
 
--- three backslashes and a space are one and a space; two are two, and the name ends
+-- three backslashes and a space are one backslash and a space; two are two, and the name ends
 backslashes_before_space : depfile_of (codes "a: b" ++ 92 ∷ 92 ∷ 92 ∷ codes " c d" ++ 92 ∷ 92 ∷ codes " e")
     ≡ Ok (named (codes "a" ∷ []) ((codes "b" ++ 92 ∷ codes " c") ∷ (codes "d" ++ 92 ∷ 92 ∷ []) ∷ codes "e" ∷
     []))
@@ -57,18 +57,18 @@ several_rules : depfile_of (codes "a b: c" ++ 10 ∷ codes "b: d c" ++ 10 ∷ []
 unfolding pieces_after named
 several_rules = refl
 
--- an input that is a target without inputs, as `gcc -MP` has it
+-- an input that is a target without inputs, as `gcc -MP` writes it
 phony_targets : depfile_of (codes "a: b c" ++ 10 ∷ codes "b:" ++ 10 ∷ codes "c:" ++ 10 ∷ [])
     ≡ Ok (named (codes "a" ∷ []) (codes "b" ∷ codes "c" ∷ []))
 unfolding pieces_after named
 phony_targets = refl
 
--- but with inputs that are new it is a fault
+-- but with new inputs it is a fault
 input_with_inputs : depfile_of (codes "a: b" ++ 10 ∷ codes "b: c" ++ 10 ∷ []) ≡ Err InputHasInputs
 unfolding pieces_after
 input_with_inputs = refl
 
--- and with inputs that are known it is none
+-- and with known inputs it is not a fault
 input_with_known_inputs : depfile_of (codes "a: b c" ++ 10 ∷ codes "b: c" ++ 10 ∷ [])
     ≡ Ok (named (codes "a" ∷ []) (codes "b" ∷ codes "c" ∷ []))
 unfolding pieces_after named
@@ -78,7 +78,7 @@ no_colon : depfile_of (codes "a b") ≡ Err NoColon
 unfolding pieces_after
 no_colon = refl
 
--- a colon alone is no target
+-- a colon alone is not a target
 a_colon_alone : depfile_of (codes ": a") ≡ Ok (named [] (codes "a" ∷ []))
 unfolding pieces_after named
 a_colon_alone = refl

@@ -55,7 +55,7 @@ words-append line (word ∷ words) other =
     (λ after. words-append after words other)
     ∙ sym (then-then (word_read line word) (λ after. words_read after words) (λ last. words_read last other))
 
--- the words of the first line come after others
+-- the words of the first line come after other words
 lines-onto : (line : LineModel) (words : List (List ℕ)) (lines : List (List (List ℕ)))
     → then_read (lines_read line (onto_first words lines)) told
     ≡ then_read (words_read line words) (λ after. then_read (lines_read after lines) told)
@@ -136,7 +136,7 @@ right-read named poisoned colon (word ∷ words) =
     (or-or colon (ends_in_colon word) (list_any ends_in_colon words)))
     (name_in word)
   where
-    -- the words after this one
+    -- the words after the current one
     After : Type 0
     After = (p : Bool) (inputs : List (List ℕ))
         → words_read (right_line (with_inputs named inputs) p (colon || ends_in_colon word)) words
@@ -193,7 +193,7 @@ right-is-left : (named : DepfileModel) (poisoned colon : Bool) (names : List (Li
     → right_by named poisoned colon names ≡ left_by named poisoned colon true [] names
 right-is-left named poisoned colon names = grind arith
 
--- what is named after a target, and whether one was an input
+-- what is named after a target, and whether a target was an input
 abbrev named_after : (known : Bool) → DepfileModel → (name : List ℕ) → DepfileModel
 named_after known named name = if known then named else record
     { targets = with_name named.targets name; inputs = named.inputs }
@@ -249,7 +249,7 @@ left-read named poisoned colon (word ∷ words) =
     (names_in (right_of words))) (or-or colon false (list_any ends_in_colon words)))
     (ends_in_colon word)
   where
-    -- the words after this one
+    -- the words after the current one
     After : Type 0
     After = (now : DepfileModel) (p : Bool) → words_read (left_line now p (colon || false)) words
         ≡ left_by now p (colon || list_any ends_in_colon words) (list_any ends_in_colon words)
@@ -295,7 +295,7 @@ lines-read named colon (words ∷ lines) =
     (or-or colon (list_any ends_in_colon words) (has_colon lines)))
     (with_line named words)
   where
-    -- the lines after this one
+    -- the lines after the current one
     After : Type 0
     After = (now : DepfileModel) → lines_read (line_start now (colon || list_any ends_in_colon words)) lines
         ≡ then_read (with_lines now lines) (λ after. Ok

@@ -41,11 +41,11 @@ ends_in_colon word = slice_index word (length word - 1) == 58
 abbrev pub name_in : List ℕ → List ℕ
 name_in word = if ends_in_colon word then take (length word - 1) word else word
 
--- the names that words have; a colon alone has none
+-- the names in the given words; a colon alone has no name
 abbrev pub names_in : List (List ℕ) → List (List ℕ)
 names_in words = flat_map (λ word. word_of (name_in word)) words
 
--- the words of a line up to the first that ends in a colon: these are targets, and the others inputs
+-- the words of a line up to the first that ends in a colon: they are targets, and the other words inputs
 abbrev pub left_of : List (List ℕ) → List (List ℕ)
 left_of [] = []
 left_of (word ∷ words) = if ends_in_colon word then word ∷ [] else word ∷ left_of words
@@ -54,7 +54,7 @@ left_of (word ∷ words) = if ends_in_colon word then word ∷ [] else word ∷ 
 abbrev pub right_of : List (List ℕ) → List (List ℕ)
 right_of words = drop (length (left_of words)) words
 
--- a name is no input yet
+-- a name is not an input yet
 abbrev pub is_no_input : DepfileModel → (name : List ℕ) → Bool
 is_no_input named name = not (is_among named.inputs name)
 
@@ -83,7 +83,7 @@ has_colon lines = list_any (list_any ends_in_colon) lines
 abbrev pub nothing_named : DepfileModel
 nothing_named = record { targets = []; inputs = [] }
 
--- what a depfile with these lines names
+-- what a depfile with the given lines names
 abbrev pub named_in_lines : (lines : List (List (List ℕ))) → Result DepfileModel DepfileFault
 named_in_lines lines =
     elim (with_lines nothing_named lines) [
@@ -91,6 +91,6 @@ named_in_lines lines =
       | Err fault ↦ Err fault
     ]
 
--- what a depfile with this text names
+-- what a depfile with the given text names
 abbrev pub depfile_of : (text : List ℕ) → Result DepfileModel DepfileFault
 depfile_of text = named_in_lines (words_from [] (pieces text))

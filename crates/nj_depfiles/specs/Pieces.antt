@@ -12,7 +12,7 @@ pub data Piece : Type 0 where
   -- the end of a line, and of a name
   LineEnd : Piece
 
--- a byte that stands for itself: of a letter of any alphabet, a digit, or one of these signs; the last four since Ninja 1.13
+-- a byte that stands for itself: of a letter of any alphabet, a digit, or one of the signs; the last four since Ninja 1.13
 abbrev pub stands_for_itself : ℕ → Bool
 stands_for_itself byte =
     is_letter byte || is_digit byte || nat_lt 127 byte
@@ -22,17 +22,17 @@ stands_for_itself byte =
 abbrev pub ends_targets : ℕ → Bool
 ends_targets byte = byte == 32 || byte == 9 || byte == 10 || byte == 13 || byte == 0
 
--- the byte at a place; past the end stands a zero byte
+-- the byte at a place, or a zero byte past the end
 abbrev pub byte_at : List ℕ → (place : ℕ) → ℕ
 byte_at text place = slice_index text place
 
--- how many bytes the end of a line has that stands at this place; 0 if none does
+-- the length of the line end at the given place, or 0
 abbrev pub line_end_at : List ℕ → (place : ℕ) → ℕ
 line_end_at text place =
     if byte_at text place == 10 then 1
     else (if byte_at text place == 13 && byte_at text (place + 1) == 10 then 2 else 0)
 
--- how many backslashes a text begins with, and how many bytes that stand for themselves
+-- the number of backslashes with which a text begins
 abbrev pub backslashes : List ℕ → ℕ
 backslashes text = prefix_len (λ byte. byte == 92) text
 
@@ -49,14 +49,14 @@ abbrev pub after_backslashes : (count : ℕ) → List ℕ → Cut
 after_backslashes count text =
     let next = byte_at text count in
     if next == 32 then
-    -- if their count is even they stay, and the name ends; otherwise half of the others and a space are of the name
+    -- if their count is even they stay, and the name ends; otherwise half of the others and a space belong to the name
     (if count % 2 == 1 then (NameBytes (slice_range text ((count + 1) / 2) (count + 1)), count + 1)
     else (NameBytes (take count text), count))
     else (if next == 35 || (next == 58 && not (ends_targets (byte_at text (count + 1)))) then
-    -- the last one is an escape
+    -- the last backslash is an escape
     (NameBytes (slice_range text 1 (count + 1)), count + 1)
     else (if next == 10 || next == 13 || next == 0 then
-    -- one alone is dropped, and joins two lines
+    -- a single backslash is dropped, and joins two lines
     (if count == 1 then (NameEnd, 1 + line_end_at text 1) else (NameBytes (take count text), count))
     else (NameBytes (take (count + 1) text), count + 1)))
 
@@ -70,7 +70,7 @@ sign_piece text =
     if is_dollar text then (NameBytes (take 1 text), 2)
     else (if line_end_at text 0 == 0 then (NameEnd, 1) else (LineEnd, line_end_at text 0))
 
--- the piece of a text that begins with no backslash
+-- the piece of a text that does not begin with a backslash
 abbrev pub plain_piece : List ℕ → Cut
 plain_piece text = if literals text == 0 then sign_piece text else (NameBytes (take (literals text) text), literals text)
 

@@ -30,11 +30,11 @@ impl Depfile {
     /// Reads a depfile, a rule of Make, as Ninja 1.13 reads it ("C/C++ header dependencies" in the
     /// Ninja manual).
     ///
-    /// A word that ends in a colon is the last target of its line, and those after it are inputs. A
-    /// backslash keeps a space, `#` or `:` in a name, and joins a line with the next one; `$$` is
-    /// `$`.
+    /// A word that ends in a colon is the last target of its line, and the words after it are
+    /// inputs. A backslash keeps a space, `#` or `:` in a name, and joins a line with the next one;
+    /// `$$` is `$`.
     ///
-    /// Names are hashed by keys that everyone knows. For an untrusted file take
+    /// Names are hashed by fixed keys, which everyone knows. For an untrusted file use
     /// [`Depfile::read_with_keys`].
     ///
     /// # Errors
@@ -50,7 +50,7 @@ impl Depfile {
         Depfile::read_with_keys(alloc, HashKeys::default(), text)
     }
 
-    /// The same, with names that are hashed by these keys: with keys that were drawn nobody can
+    /// The same, with names that are hashed by the given keys: if the keys were drawn, nobody can
     /// choose many names that collide.
     ///
     /// # Errors

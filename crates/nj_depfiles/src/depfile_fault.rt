@@ -12,7 +12,7 @@ use std::fmt;
 pub enum DepfileFault {
     /// No word ends in a colon.
     NoColon,
-    /// A name that was an input is a target, whose line has inputs that are new.
+    /// A target that was an input has new inputs on its line.
     InputHasInputs,
     /// An allocation failed.
     OutOfMemory,

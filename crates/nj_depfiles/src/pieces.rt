@@ -14,7 +14,7 @@ pub(crate) enum Piece<'a> {
     LineEnd,
 }
 
-/// The first piece of a text, and the text after it; `None` at its end.
+/// Returns the first piece of a text, and the text after it, or `None` at the end of the text.
 pub(crate) fn next_piece(text: &[u8]) -> Option<(Piece<'_>, &[u8])>
     ensures { MatchOption result (text.now ≡ []) (λ next.
         (pieces text.now ≡ piece_of next.0 ∷ pieces next.1.now)
@@ -39,7 +39,7 @@ fn first_piece(text: &[u8]) -> (Piece<'_>, usize)
     }
 }
 
-// The piece of a text that begins with no backslash.
+// The piece of a text that does not begin with a backslash.
 fn plain_piece(text: &[u8]) -> (Piece<'_>, usize)
     requires { 0 < length text.now }
     ensures { IsCutAs text.now (plain_piece text.now) result }
@@ -92,7 +92,7 @@ fn after_backslashes(text: &[u8], count: usize) -> (Piece<'_>, usize)
     }
 }
 
-// How many bytes the end of a line has that stands at this place; 0 if none does.
+// Returns the length of the line end at the given place, or 0.
 fn line_end_at(text: &[u8], place: usize) -> usize
     requires { place ≤ length text.now }
     ensures size { result ≡ line_end_at text.now place }
@@ -105,7 +105,7 @@ fn line_end_at(text: &[u8], place: usize) -> usize
     }
 }
 
-// The byte at a place; past the end stands a zero byte.
+// The byte at a place, or a zero byte past the end.
 fn byte_at(text: &[u8], place: usize) -> u8
     ensures { result ≡ byte_at text.now place }
 {
@@ -130,7 +130,7 @@ fn backslashes(text: &[u8]) -> usize
     count
 }
 
-// How many bytes that stand for themselves a text begins with.
+// How many bytes at the front of a text stand for themselves.
 fn literals(text: &[u8]) -> usize
     ensures count { result ≡ literals text.now }
     ensures within { result ≤ length text.now }
@@ -157,7 +157,7 @@ fn stands_for_itself(byte: u8) -> bool
     )
 }
 
-// Whether a colon before this byte ends the targets.
+// Whether a colon before the given byte ends the targets.
 fn ends_targets(byte: u8) -> bool
     ensures { result ≡ ends_targets byte }
 {

@@ -16,7 +16,7 @@ pub(crate) struct Reading {
     named: Depfile,
     // The bytes of the word so far.
     word: Vec<u8>,
-    // Whether a word of the line ended in a colon: what comes after it are inputs.
+    // Whether a word of the line ended in a colon: the words after it are inputs.
     is_right: bool,
     // Whether a target of the line was an input: the line has no new input then.
     is_poisoned: bool,
@@ -41,7 +41,7 @@ impl Model for Reading {
 }
 
 impl Reading {
-    /// Nothing is read yet. Names are hashed by these keys. It allocates nothing.
+    /// Nothing is read yet. Names are hashed by the given keys. Allocates nothing.
     pub(crate) fn new(alloc: Global, keys: HashKeys) -> Reading
         ensures { result ≡ at_start }
     {
@@ -101,7 +101,7 @@ impl Reading {
         Ok(())
     }
 
-    // Adds the name of the word so far, if it has one.
+    // Adds the name of the word so far, if any.
     fn add_name(&mut self) -> Result<(), DepfileFault>
         ensures { GoesOn (then_read (with_name_read self.old.line (name_in self.old.word))
             (λ line. Ok (record self.old { line = line }))) self.new result }

@@ -109,7 +109,7 @@ only_zeros = refl
 zero_inside : path_in (97 ∷ 0 ∷ 98 ∷ 0 ∷ []) ≡ 97 ∷ 0 ∷ 98 ∷ []
 zero_inside = refl
 
--- the last record of an output counts, at the place of its first one
+-- the last record of an output wins, at the place of its first one
 later_record : outputs_of (dependencies 3 1 0 (5 ∷ []) ∷ dependencies 4 2 0 [] ∷ dependencies 3 6 0 (7 ∷ []) ∷
     [])
     ≡ record { output = 3; time = 6; inputs = 7 ∷ [] } ∷ record { output = 4; time = 2; inputs = [] } ∷ []

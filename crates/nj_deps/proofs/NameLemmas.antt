@@ -5,7 +5,7 @@ use Rattle.std.proofs.Common.{refl, arith}
 use Rattle.std.specs.List.{list_any}
 use Rattle.nj_names.specs.NameTables.{with_name}
 
--- a name that was there leaves the names unchanged
+-- a name that was known leaves the names unchanged
 known-name : (names : List (List ℕ)) (name : List ℕ) (b : Bool) → list_any (bytes_eq name) names ≡ b
     → length (cond b names (names ++ name ∷ [])) ≡ length names → list_any (bytes_eq name) names ≡ true
 known-name names name b is same = grind (arith, common_steps)

@@ -61,7 +61,7 @@ logged-set inputs (o ∷ outputs) h = grind (arith, nat_eq o.output h.output, lo
 later-zero : (place : ℕ) → later_place place ≡ 0 → place ≡ 0
 later-zero place e = grind arith
 
--- an output that is new comes last
+-- a new output comes last
 pub set-new : (outputs : List HeldOutput) (h : HeldOutput) → place_of outputs h.output ≡ 0
     → with_held outputs h ≡ outputs ++ h ∷ []
 set-new [] h none = refl
@@ -253,7 +253,7 @@ pub place-is : (outputs : List HeldOutput) (places : List ℕ) (n place : ℕ) �
     → ArePlaces outputs places → place ≡ slice_index_or places n place → place ≡ place_of outputs n
 place-is outputs places n place below are at = at ∙ get_or-same places n place 0 below ∙ are n below
 
--- no output has a number that is not of a path
+-- no output has a number that is not a path's
 pub unknown-output : (count n : ℕ) (outputs : List OutputModel) → AllByRecursion (IsOfPaths count) outputs
     → count ≤ n → output_of outputs n ≡ None
 unknown-output count n [] known past = refl

@@ -66,7 +66,7 @@ dependencies_record paths output time bytes content (dependencies o l h ns) few 
       inputs_known = fits.inputs_known;
     }
 
--- content that is no list of three numbers and more
+-- content that is not a list of at least three numbers
 pub no_dependencies : (paths : List (List ℕ)) (content : List ℕ) (r : LogRecord)
     → (length content % 4 ≢ 0) ⊎ (length content < 12) → IsContent (2 ^ 31) content r → Counts paths r → ⊥
 no_dependencies paths content (path p c) odd is counts = let kind = is.kind in omega arith
@@ -207,7 +207,7 @@ pub log-read : (bytes body rest : List ℕ) (table : TableModel) (size : ℕ) (w
     → IsLogOf bytes (record { paths = table.paths; outputs = table.outputs; size = size; is_whole = whole })
 log-read bytes body rest table size whole line read ends sizes is_whole = grind arith
 
--- the rest is no longer than the log
+-- the rest is at most as long as the log
 pub rest-within : (bytes body rest : List ℕ) (table : TableModel) → bytes ≡ opening 4 ++ body
     → IsRead body rest table → length rest ≤ length bytes
 rest-within bytes body rest table line read = grind (arith, common_steps)

@@ -9,7 +9,7 @@ use Rattle.nj_deps.specs.LogRecords.{word, words}
 use Rattle.nj_deps.specs.Logs.{first_line, opening}
 use Rattle.nj_deps.specs.Inside.RecordsRead.{AppendsNumbers}
 
--- two lists that are joined are known by how long the first one is
+-- two lists that are joined are determined by the length of the first list
 pub apart : {A : Type 0} (a b x y : List A) → length a ≡ length b → a ++ x ≡ b ++ y → (a ≡ b) × (x ≡ y)
 apart [] [] x y l e = (refl, e)
 apart [] (q ∷ b) x y l e = absurd (omega arith)
@@ -21,7 +21,7 @@ apart (p ∷ a) (q ∷ b) x y l e =
     let fronts : a ≡ b = rest.0 in
     (cc, rest.1)
 
--- or the second one
+-- or by the length of the second list
 pub apart_last : {A : Type 0} (a b x y : List A) → length x ≡ length y → a ++ x ≡ b ++ y → (a ≡ b) × (x ≡ y)
 apart_last a b x y l e =
     let all = ap length e in

@@ -7,7 +7,7 @@ use Rattle.nj_deps.specs.Logs.{LogModel, OutputModel, IsLogOf, IsLogFault, outpu
 use Rattle.nj_deps.specs.declared.log_fault.DepsLogFault.{DepsLogFault}
 use Rattle.nj_deps.specs.declared.log_fault.DepsLogFault.TheVariants.{OutOfMemory}
 
--- bytes are cut into records that count and a rest in one way, so they say one thing
+-- bytes are cut into records that count and a rest in one way, so they have one meaning
 abbrev pub BytesSayOneThing : Type 0
 BytesSayOneThing = (bytes : List ℕ) (one other : LogModel)
     → IsLogOf bytes one → IsLogOf bytes other → one ≡ other
@@ -24,13 +24,13 @@ said_of number (dependencies output low high inputs) =
     if nat_eq output number
     then Some (record { output = output; time = low + 2 ^ 32 * high; inputs = inputs }) else None
 
--- of the records of an output the last one counts
+-- of the records of an output the last one wins
 abbrev pub LastRecordCounts : Type 0
 LastRecordCounts = (records : List LogRecord) (number : ℕ)
     → output_of (outputs_of records) number
     ≡ (let said = filter_map (said_of number) records in slice_get said (length said - 1))
 
--- no output is there twice
+-- no output is repeated
 abbrev pub EachOutputOnce : Type 0
 EachOutputOnce = (records : List LogRecord)
     → IsDistinct nat_eq (map (λ o. o.output) (outputs_of records))

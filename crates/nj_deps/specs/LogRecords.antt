@@ -53,13 +53,13 @@ is_never_named byte = nat_eq byte 10 || nat_eq byte 0
 abbrev pub MayBeNamed : List ℕ → Type 0
 MayBeNamed bytes = (bytes ≢ []) × (list_any is_never_named bytes ≡ false)
 
--- the number of a path is how many came before it; a manifest may name it, and it is none of them
+-- the number of a path is the number of paths before it; a manifest may name the path, and no earlier path equals it
 pub record IsNext (paths : List (List ℕ)) (path : List ℕ) (complement : ℕ) : Type 0 where
   pub number : complement + length paths + 1 ≡ 2 ^ 32
   pub may_be_named : MayBeNamed path
   pub is_new : list_any (bytes_eq path) paths ≡ false
 
--- all numbers but those of the time are of paths
+-- all numbers but those of the time are numbers of paths
 pub record AreKnown (paths : List (List ℕ)) (output low high : ℕ) (inputs : List ℕ) : Type 0 where
   pub output_known : output < length paths
   pub low_fits : low < 2 ^ 32
@@ -71,7 +71,7 @@ abbrev pub Fits : (paths : List (List ℕ)) → LogRecord → Type 0
 Fits paths (path padded complement) = IsNext paths (path_in padded) complement
 Fits paths (dependencies output low high inputs) = AreKnown paths output low high inputs
 
--- a record that counts after those that named these paths
+-- a record that counts after the records that named the given paths
 pub record Counts (paths : List (List ℕ)) (r : LogRecord) : Type 0 where
   pub size : length (content_of r) ≤ 524287
   pub fits : Fits paths r

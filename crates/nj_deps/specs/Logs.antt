@@ -16,7 +16,7 @@ pub record OutputModel : Type 0 where
   pub time : ℕ
   pub inputs : List ℕ
 
--- all its numbers are below this count of paths
+-- all its numbers are below the given count of paths
 pub record IsOfPaths (count : ℕ) (o : OutputModel) : Type 0 where
   pub output : o.output < count
   pub inputs : AllByRecursion (λ number. number < count) o.inputs
@@ -30,7 +30,7 @@ abbrev pub output_model : LoggedOutput → OutputModel
 output_model logged =
     record { output = logged.output.0; time = logged.time; inputs = numbers_of logged.inputs.now }
 
--- the paths with the one that a record names
+-- the paths with the path that a record names, if any
 abbrev pub with_path : List (List ℕ) → LogRecord → List (List ℕ)
 with_path paths (path padded complement) = paths ++ path_in padded ∷ []
 with_path paths (dependencies output low high inputs) = paths
@@ -42,17 +42,17 @@ with_output (other ∷ outputs) logged =
     if nat_eq other.output logged.output
     then logged ∷ outputs else other ∷ with_output outputs logged
 
--- the outputs with the one of a record
+-- the outputs with the output of a record, if any
 abbrev pub with_dependencies : List OutputModel → LogRecord → List OutputModel
 with_dependencies outputs (path padded complement) = outputs
 with_dependencies outputs (dependencies output low high inputs) =
     with_output outputs (record { output = output; time = low + 2 ^ 32 * high; inputs = inputs })
 
--- the paths that these records name, in their order
+-- the paths that the given records name, in their order
 abbrev pub paths_of : List LogRecord → List (List ℕ)
 paths_of records = fold with_path [] records
 
--- the outputs of these records, each with its last record
+-- the outputs of the given records, each with its last record
 abbrev pub outputs_of : List LogRecord → List OutputModel
 outputs_of records = fold with_dependencies [] records
 
@@ -63,7 +63,7 @@ abbrev pub CountInTurn : (paths : List (List ℕ)) → List LogRecord → Type 0
 CountInTurn paths [] = Unit {0}
 CountInTurn paths (r ∷ records) = Counts paths r × CountInTurn (with_path paths r) records
 
--- no record that counts is at the front of these bytes
+-- no record that counts is at the front of the given bytes
 abbrev pub EndsBefore : (paths : List (List ℕ)) → (rest : List ℕ) → Type 0
 EndsBefore paths rest = (r : LogRecord) (more : List ℕ) → Counts paths r → rest ≢ bytes_of r ++ more
 
@@ -82,7 +82,7 @@ pub record LogModel : Type 0 where
   pub size : ℕ
   pub is_whole : Bool
 
--- Bytes are an opening, records that count, and a rest that begins with none. These records alone count.
+-- Bytes are an opening, records that count, and a rest that does not begin with a record that counts.
 pub record IsLogOf (bytes : List ℕ) (log : LogModel) : Type 0 where
   pub records : List LogRecord
   pub rest : List ℕ
@@ -94,7 +94,7 @@ pub record IsLogOf (bytes : List ℕ) (log : LogModel) : Type 0 where
   pub size : log.size + length rest ≡ length bytes
   pub is_whole : log.is_whole ≡ nat_eq (length rest) 0
 
--- Bytes are no deps log; or one of another version than 4; or memory ran out, whatever they are.
+-- Bytes are not a deps log; or a deps log of another version than 4; or memory ran out, whatever they are.
 abbrev pub IsLogFault : (bytes : List ℕ) → DepsLogFault → Type 0
 IsLogFault bytes NoDepsLog = (version : ℕ) (rest : List ℕ) → bytes ≢ opening version ++ rest
 IsLogFault bytes (OtherVersion version) =

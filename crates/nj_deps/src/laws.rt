@@ -2,7 +2,7 @@
 
 ghost use Rattle.nj_deps.specs.Cited.{BytesSayOneThing, EachOutputOnce, GoodLogsAreRead, LastRecordCounts};
 
-/// Bytes say one thing: they are cut into records that count and a rest in one way.
+/// Bytes have one meaning: they are cut into records that count and a rest in one way.
 pub fn bytes_say_one_thing()
     ensures { BytesSayOneThing }
 {}
@@ -17,7 +17,7 @@ pub fn each_output_once()
     ensures { EachOutputOnce }
 {}
 
-/// Of the records of an output the last one counts.
+/// Of the records of an output the last one wins.
 pub fn last_record_counts()
     ensures { LastRecordCounts }
 {}

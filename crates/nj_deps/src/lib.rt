@@ -13,8 +13,8 @@
 //!   time of that output in nanoseconds, and the numbers of the paths of its inputs.
 //!
 //! A path comes before the records that use its number. Of several records for one output the last
-//! counts, so a log only grows, until `ninja -t recompact` rewrites it. After the first line and
-//! the version, this is the log of an output `a` with the input `b` at the time 1:
+//! wins, so a log only grows, until `ninja -t recompact` rewrites it. After the first line and the
+//! version, this is the log of an output `a` with the input `b` at the time 1:
 //!
 //! ```text
 //! 08 00 00 00   61 00 00 00   ff ff ff ff                 the path `a`, number 0

@@ -6,7 +6,7 @@ ghost use Rattle.nj_deps.specs.Cited.{numbers_of, word, AppendsNumbers, BeginsWi
 use crate::path_no::PathNo;
 use std::alloc::AllocError;
 
-/// The number at the front, and the bytes after it; `None` if there are fewer than four bytes.
+/// Returns the number at the front, and the bytes after it, or `None` if there are fewer than four.
 #[inline(always)]
 pub(crate) fn split_number(bytes: &[u8]) -> Option<(u32, &[u8])>
     ensures { MatchOption result (length bytes.now < 4)
@@ -18,7 +18,7 @@ pub(crate) fn split_number(bytes: &[u8]) -> Option<(u32, &[u8])>
     }
 }
 
-/// The number at the end, and the bytes before it; `None` if there are fewer than four bytes.
+/// Returns the number at the end, and the bytes before it, or `None` if there are fewer than four.
 pub(crate) fn split_last_number(bytes: &[u8]) -> Option<(&[u8], u32)>
     ensures { MatchOption result (length bytes.now < 4)
         (λ p. (p.1 < 2 ^ 32) × (bytes.now ≡ p.0.now ++ word p.1)) }
@@ -29,7 +29,7 @@ pub(crate) fn split_last_number(bytes: &[u8]) -> Option<(&[u8], u32)>
     }
 }
 
-/// The number that these bytes are.
+/// The number that the given bytes are.
 #[inline(always)]
 fn number(bytes: &[u8; 4]) -> u32
     ensures bytes { bytes.now ≡ word result }
@@ -38,8 +38,8 @@ fn number(bytes: &[u8; 4]) -> u32
     u32::from_le_bytes(*bytes)
 }
 
-/// Appends the numbers that the bytes are. Returns whether all are below the count; if one is not,
-/// or if memory runs out, only some of them have been appended.
+/// Appends the numbers that the bytes are. Returns whether all are below the count; if a number is
+/// not, or if memory runs out, only some of them have been appended.
 pub(crate) fn push_numbers(
     numbers: &mut Vec<PathNo>,
     bytes: &[u8],

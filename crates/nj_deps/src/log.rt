@@ -42,16 +42,16 @@ impl DepsLog {
     /// manual).
     ///
     /// Reading ends before the first record that is cut off, empty, too large or wrong, and the
-    /// records before it count, as in Ninja. [`DepsLog::size`] is how far it went. Times are
-    /// compared with nothing: the record of an output counts even if the output is newer.
+    /// records before it count, as in Ninja. [`DepsLog::size`] is how far it went. Timestamps are
+    /// ignored: the record of an output counts even if the output is newer.
     ///
-    /// Names are hashed by keys that everyone knows. For an untrusted log take
+    /// Names are hashed by fixed keys, which everyone knows. For an untrusted log use
     /// [`DepsLog::read_with_keys`].
     ///
     /// # Errors
     ///
     /// [`DepsLogFault::NoDepsLog`] if the bytes do not begin as a deps log,
-    /// [`DepsLogFault::OtherVersion`] if they begin as one of another version, and
+    /// [`DepsLogFault::OtherVersion`] if they begin as a deps log of another version, and
     /// [`DepsLogFault::OutOfMemory`].
     pub fn read(alloc: Global, bytes: &[u8]) -> Result<DepsLog, DepsLogFault>
         ensures log { IfOk result (λ log. IsLogOf bytes.now log) }
@@ -60,7 +60,7 @@ impl DepsLog {
         DepsLog::read_with_keys(alloc, HashKeys::default(), bytes)
     }
 
-    /// The same, with names that are hashed by these keys: with keys that were drawn nobody can
+    /// The same, with names that are hashed by the given keys: if the keys were drawn, nobody can
     /// choose many paths that collide.
     ///
     /// # Errors
@@ -101,7 +101,7 @@ impl DepsLog {
         Paths::new(&self.table.paths)
     }
 
-    /// The path with the given number, as the log has it.
+    /// The path with the given number, as in the log.
     pub fn path(&self, number: PathNo) -> &[u8]
         requires { number.0 < length self.now.paths }
         ensures { slice_get self.now.paths number.0 ≡ Some result.now }
@@ -109,8 +109,8 @@ impl DepsLog {
         self.table.paths.name(number.0 as usize)
     }
 
-    /// The number of this path, which must be as the log has it; `None` if the log does not name
-    /// it.
+    /// Returns the number of the given path, spelled as in the log, or `None` if the log does not
+    /// name it.
     pub fn number(&self, path: &[u8]) -> Option<PathNo>
         ensures { option_map (λ n. n.0) result ≡ position (bytes_eq path.now) self.now.paths }
     {
@@ -134,7 +134,7 @@ impl DepsLog {
         self.table.output(index)
     }
 
-    /// The output with the path with the given number; `None` if the path is not of an output.
+    /// Returns the output whose path has the given number, or `None` if the path is not an output.
     #[tactic(auto, using(crate::proofs::OutputLemmas::paths_at))]
     pub fn output_of(&self, number: PathNo) -> Option<LoggedOutput<'_>>
         ensures output { option_map output_model result ≡ output_of self.now.outputs number.0 }
@@ -153,7 +153,7 @@ impl DepsLog {
         self.size
     }
 
-    /// Whether that is the whole log.
+    /// Whether the whole log was read.
     pub fn is_whole(&self) -> bool
         ensures { result ≡ self.now.is_whole }
     {

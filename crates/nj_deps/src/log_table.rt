@@ -30,7 +30,7 @@ impl Model for LogTable {
 }
 
 impl LogTable {
-    /// The table of no records. It allocates nothing.
+    /// An empty table. Allocates nothing.
     pub(crate) fn new(alloc: Global, keys: HashKeys) -> LogTable
         ensures { result ≡ record { paths = []; outputs = [] } }
     {
@@ -40,8 +40,8 @@ impl LogTable {
         }
     }
 
-    /// Adds the record at the front of the bytes, and returns the bytes after it; `None` if no
-    /// record that counts is there, which changes nothing.
+    /// Adds the record at the front of the bytes, and returns the bytes after it; `None`, and no
+    /// change, if no record that counts is there.
     pub(crate) fn read_record<'a>(
         &mut self,
         bytes: &'a [u8],
@@ -57,7 +57,8 @@ impl LogTable {
         if counts { Ok(Some(after)) } else { Ok(None) }
     }
 
-    /// Adds the path or output of a record of this content. Returns whether the record counts.
+    /// Adds the path or output of a record with the given content. Returns whether the record
+    /// counts.
     fn read_content(&mut self, head: u32, content: &[u8]) -> Result<bool, AllocError>
         requires { length content.now ≤ 524287 }
         ensures { IfOk result (λ counts. AddsAs head content.now self.old self.new counts) }
@@ -69,7 +70,7 @@ impl LogTable {
         }
     }
 
-    /// Adds the path of a record of this content. Returns whether the record counts.
+    /// Adds the path of a record with the given content. Returns whether the record counts.
     fn read_path(&mut self, content: &[u8]) -> Result<bool, AllocError>
         requires { length content.now ≤ 524287 }
         ensures { IfOk result (λ counts. Adds 0 content.now self.old self.new counts) }
@@ -102,8 +103,8 @@ impl LogTable {
         Ok(true)
     }
 
-    /// Adds the output of a record of this content. Returns whether the record counts. After a path
-    /// for which there was no memory it always fails.
+    /// Adds the output of a record with the given content. Returns whether the record counts. After
+    /// a path for which memory ran out it always fails.
     fn read_dependencies(&mut self, content: &[u8]) -> Result<bool, AllocError>
         requires { length content.now ≤ 524287 }
         ensures { IfOk result (λ counts. Adds (2 ^ 31) content.now self.old self.new counts) }
@@ -120,7 +121,7 @@ impl LogTable {
         }
     }
 
-    /// The number of this path; `None` if no record named it.
+    /// Returns the number of the given path, or `None` if no record named it.
     pub(crate) fn number(&self, path: &[u8]) -> Option<PathNo>
         ensures { option_map (λ n. n.0) result ≡ position (bytes_eq path.now) self.now.paths }
     {
@@ -128,7 +129,7 @@ impl LogTable {
         Some(PathNo(number as u32))
     }
 
-    /// The index of the output with the path with the given number; `None` if there is none.
+    /// Returns the index of the output whose path has the given number, or `None`.
     pub(crate) fn index_of(&self, number: PathNo) -> Option<usize>
         ensures { MatchOption result (output_of self.now.outputs number.0 ≡ None)
             (λ index. (index < length self.now.outputs)
@@ -162,7 +163,7 @@ fn split_dependencies(content: &[u8]) -> Option<(u32, u64, &[u8])>
     Some((output, (high as u64) * (1 << 32) + low as u64, inputs))
 }
 
-// Whether a manifest may name this path.
+// Whether a manifest may name the given path.
 fn may_be_named(path: &[u8]) -> bool
     ensures yes { result ≡ true → MayBeNamed path.now }
     ensures no { result ≡ false → ¬ MayBeNamed path.now }
@@ -177,7 +178,7 @@ fn has_unnamed_byte(path: &[u8]) -> bool
     path.iter().any(|byte| *byte == b'\n' || *byte == 0)
 }
 
-// Whether the next of so many paths has this complement.
+// Whether the path after the given number of paths has the given complement.
 fn is_next(complement: u32, count: usize) -> bool
     ensures yes { result ≡ true → complement + count + 1 ≡ 2 ^ 32 }
     ensures no { result ≡ false → complement + count + 1 ≢ 2 ^ 32 }

@@ -26,7 +26,7 @@ pub(crate) struct OutputTable {
     // the inputs of all outputs
     inputs: Vec<PathNo>,
     outputs: Vec<HeldOutput>,
-    // for each path the place of its output, counted from 1; 0 if it is none
+    // for each path the place of its output, counted from 1; 0 if the path is not an output
     places: Vec<u32>,
 }
 
@@ -56,7 +56,7 @@ pub(crate) struct HeldOutput {
 }
 
 impl OutputTable {
-    /// No outputs and no paths. It allocates nothing.
+    /// No outputs and no paths. Allocates nothing.
     pub(crate) fn new(alloc: Global) -> OutputTable
         ensures { result ≡ record { count = 0; outputs = [] } }
     {
@@ -77,7 +77,7 @@ impl OutputTable {
     }
 
     /// Keeps the dependencies of the output, in place of its earlier ones. Returns whether all
-    /// numbers are of paths; if not, it keeps nothing.
+    /// numbers are numbers of paths; if not, it keeps nothing.
     pub(crate) fn keep(&mut self, output: u32, time: u64, inputs: &[u8]) -> Result<bool, AllocError>
         requires words { length inputs.now % 4 ≡ 0 }
         requires count { self.old.count ≤ 2 ^ 32 }
@@ -131,7 +131,7 @@ impl OutputTable {
         }
     }
 
-    /// The index of the output with the path with the given number; `None` if there is none.
+    /// Returns the index of the output whose path has the given number, or `None`.
     pub(crate) fn index_of(&self, number: PathNo) -> Option<usize>
         requires { number.0 < self.now.count }
         ensures { MatchOption result (output_of self.now.outputs number.0 ≡ None)

@@ -11,7 +11,7 @@ use std::marker::Model;
 #[derive(Clone, Drop)]
 pub struct Paths<'a> {
     paths: &'a Names,
-    // the number of the next one
+    // the number of the next path
     next: usize,
 }
 

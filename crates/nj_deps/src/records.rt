@@ -5,7 +5,7 @@ ghost use Rattle.nj_deps.specs.Cited.{path_in, without_zero, opening, IsFramed, 
 
 use crate::little_endian::split_number;
 
-/// The bit by which records of dependencies differ from those of paths.
+/// The bit that distinguishes records of dependencies from records of paths.
 pub(crate) const DEPENDENCIES: u32 = 1 << 31;
 
 /// The largest content of a record.
@@ -13,7 +13,7 @@ const LARGEST: u32 = (1 << 19) - 1;
 
 const FIRST_LINE: &[u8] = b"# ninjadeps\n";
 
-/// The version and the bytes after it; `None` if the bytes do not begin as a deps log.
+/// Returns the version and the bytes after it, or `None` if the bytes do not begin as a deps log.
 pub(crate) fn split_opening(bytes: &[u8]) -> Option<(u32, &[u8])>
     ensures { MatchOption result
         ((version : ℕ) (rest : List ℕ) → bytes.now ≢ opening version ++ rest)
@@ -25,8 +25,8 @@ pub(crate) fn split_opening(bytes: &[u8]) -> Option<(u32, &[u8])>
     }
 }
 
-/// The first word of a record, its content, and the bytes after it; `None` if no content of a size
-/// that a record may have is there.
+/// Returns the first word of a record, its content, and the bytes after it, or `None` if the bytes
+/// do not begin with a record of a valid size.
 pub(crate) fn split_record(bytes: &[u8]) -> Option<(u32, &[u8], &[u8])>
     ensures { MatchOption result (IsUnframed bytes.now)
         (λ p. (p.0 < 2 ^ 32) × IsFramed bytes.now p.0 p.1.now p.2.now) }

@@ -41,7 +41,7 @@ no_file = refl
 empty_file : file [] ≡ unknown why.EmptyDepfile
 empty_file = refl
 
--- the first target is compared as a clean path, and before the others are
+-- the first target is compared as a clean path, before the other targets
 first_is_cleaned : file (codes "./a.o: a.h") ≡ record { verdict = Known; inputs = codes "a.h" ∷ [] }
 unfolding edge pieces_after clean_path_of without_leftmost_pair
 first_is_cleaned = refl
@@ -50,7 +50,7 @@ other_target : file (codes "b.o c.o: a.h") ≡ unknown why.OtherTarget
 unfolding edge pieces_after clean_path_of without_leftmost_pair
 other_target = refl
 
--- the others letter by letter
+-- the other targets letter by letter
 second_output : file (codes "a.o a.map: a.h") ≡ record { verdict = Known; inputs = codes "a.h" ∷ [] }
 unfolding edge pieces_after clean_path_of without_leftmost_pair
 second_output = refl

@@ -20,7 +20,7 @@ use Rattle.nj_discovered.specs.declared.verdict.DepfileError.TheVariants as erro
 use Rattle.nj_discovered.specs.declared.verdict.Verdict.{Verdict}
 use Rattle.nj_discovered.specs.declared.verdict.Verdict.TheVariants as verdict
 
--- What is known of the discovered inputs of an edge: whether they are known, and their clean paths; none if they are not.
+-- What is known of the discovered inputs of an edge: whether they are known, and if so their clean paths.
 pub record Discovery : Type 0 where
   pub verdict : Verdict
   pub inputs : List (List ℕ)
@@ -43,7 +43,8 @@ faulty fault = record { verdict = verdict.Faulty fault; inputs = [] }
 abbrev pub record_of : LogModel → (output : List ℕ) → Option OutputModel
 record_of log output = option_and_then (output_of log.outputs) (position (bytes_eq output) log.paths)
 
--- An output is newer than its record; one that is not there is not. In Ninja a record of 2^63 or more is from before 1970.
+-- Whether an output is newer than its record. A missing output has the time 0. In Ninja a record of 2^63 or more is
+-- from before 1970.
 abbrev pub is_newer : (time : Option ℕ) → (recorded : ℕ) → Bool
 is_newer time recorded = nat_lt recorded (unwrap_or time 0) || not (nat_lt recorded (2 ^ 63))
 
@@ -52,7 +53,7 @@ abbrev pub doubt_of : (recorded : ℕ) → TimeFound → Option Unknown
 doubt_of recorded NoAnswer = Some why.NoTime
 doubt_of recorded (Time time) = if is_newer time recorded then Some why.NewerOutput else None
 
--- these paths are known, unless there is a reason to doubt them
+-- the given paths are known, unless there is a reason to doubt them
 abbrev pub unless_doubted : (doubt : Option Unknown) → (paths : List (List ℕ)) → Discovery
 unless_doubted None paths = known paths
 unless_doubted (Some reason) paths = unknown reason
@@ -89,7 +90,7 @@ is_that (Some output) path = bytes_eq output path
 abbrev pub is_first_output : EdgePaths → (path : List ℕ) → Bool
 is_first_output edge path = is_that (first_output edge) path
 
--- The first target, as a clean path, is the first output of the edge; that is judged before the others are.
+-- The first target, as a clean path, is the first output of the edge; that is judged before the other targets.
 abbrev pub by_targets : EdgePaths → (targets inputs : List (List ℕ)) → Discovery
 by_targets edge [] inputs = faulty error.NoTarget
 by_targets edge (first ∷ others) inputs =
@@ -111,16 +112,16 @@ by_text edge (Text (Some (byte ∷ bytes))) = by_depfile edge (depfile_of (byte 
 
 -- ---- by both
 
--- what a source gave at the path of a depfile: what it declares there, if it declares anything; it may fail
+-- what a source returned at the path of a depfile: what it declares there, if it declares anything; it may fail
 abbrev pub IsTextOf : (before after : SourceState) → (depfile : List ℕ) → TextFound → Type 0
 IsTextOf before after depfile (Text bytes) = IsUtf8 depfile × IfSome (before.files depfile) (λ meant. bytes ≡ meant)
 IsTextOf before after depfile Unreadable = (¬ IsUtf8 depfile) ⊎ Rises before.failures after.failures
 
--- as the text says that is at the path of the depfile
+-- by the text at the path of the depfile
 abbrev pub IsByText : (before after : SourceState) → EdgePaths → (depfile : List ℕ) → Discovery → Type 0
 IsByText before after edge depfile found = (text : TextFound) × IsTextOf before after depfile text × (found ≡ by_text edge text)
 
--- What an edge discovers by its values of `deps` and `depfile`. With `deps` the log counts, and the depfile does not; with
+-- What an edge discovers by its values of `deps` and `depfile`. With `deps` the log is used, and the depfile is not; with
 -- neither, nothing is discovered, and that is known.
 pub data IsDiscovered (before after : SourceState) (times : DeclaredTimes) (log : LogModel) (edge : EdgePaths) (deps depfile : List ℕ)
     (found : Discovery) : Type 0 where

@@ -1,4 +1,4 @@
--- The times of files, as a source of them gives them.
+-- The times of files, as a source reports them.
 use Rattle.std.specs.Prelude.{◌≡◌, ℕ, Option, List, IfSome, Result, Ok, Err}
 use Rattle.std.specs.Str.{IsUtf8}
 use Rattle.nj_scope.specs.declared.source.SourceFault.{SourceFault}
@@ -16,7 +16,7 @@ AsksTime declared path (Ok time) = IfSome (declared path) (λ meant. meant ≡ T
 AsksTime declared path (Err Io) = IfSome (declared path) (λ meant. meant ≡ NoAnswer)
 AsksTime declared path (Err OutOfMemory) = Unit {0}
 
--- what a source answers at a path; a path that is not UTF-8 it is not asked for
+-- what a source answers at a path; it is not asked for a path that is not UTF-8
 pub data IsTimeOf (declared : DeclaredTimes) (path : List ℕ) (found : TimeFound) : Type 0 where
   asked : IsUtf8 path → IfSome (declared path) (λ meant. meant ≡ found) → IsTimeOf declared path found
   not_asked : ¬ IsUtf8 path → found ≡ NoAnswer → IsTimeOf declared path found

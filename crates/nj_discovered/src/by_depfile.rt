@@ -107,7 +107,7 @@ fn find_by_targets(
     Ok(Verdict::Known)
 }
 
-// The first target after the first one that is not an output of the edge.
+// The first target after the first one that is not an output of the edge, if any.
 fn stranger<'a>(graph: &EdgeGraph, edge: EdgeNo, named: &'a Depfile) -> Option<&'a [u8]>
     requires edge { edge.0 < length graph.now.edges }
     requires some { 0 < length named.now.targets }

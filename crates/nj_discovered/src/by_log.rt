@@ -81,14 +81,14 @@ fn doubt_of(recorded: u64, time: TimeFound) -> Option<Unknown>
     }
 }
 
-// Whether an output of this time is newer than its record.
+// Whether an output of the given time is newer than its record.
 fn is_newer(time: Option<u64>, recorded: u64) -> bool
     ensures { result ≡ is_newer time recorded }
 {
     recorded < time.unwrap_or(0) || recorded >= BEFORE_1970
 }
 
-// Appends the numbers of these paths of the log.
+// Appends the numbers of the given paths of the log.
 fn push_logged(
     numbers: &mut Vec<u32>,
     log_numbers: &[u32],

@@ -52,8 +52,8 @@ impl Discoveries {
         &self.edges[edge].verdict
     }
 
-    /// The discovered inputs of the edge with the given number, by the numbers of their paths; none
-    /// if they are not known.
+    /// The discovered inputs of the edge with the given number, by the numbers of their paths;
+    /// empty if they are not known.
     pub fn inputs(&self, edge: usize) -> &[u32]
         requires { edge < length self.now.edges }
         ensures inputs { result.now ≡ (found_at self.now edge).inputs }
@@ -63,7 +63,7 @@ impl Discoveries {
         &self.inputs.as_slice()[found.start..found.end]
     }
 
-    /// How many clean paths there are. Edges may have discovered none of some of them.
+    /// How many clean paths there are. Some may not have been discovered for any edge.
     pub fn path_count(&self) -> usize
         ensures { result ≡ length self.now.names }
     {

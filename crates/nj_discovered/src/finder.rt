@@ -15,8 +15,8 @@ use nj_scope::FileSource;
 use std::alloc::{AllocError, Global};
 use std::marker::Model;
 
-/// What was discovered for the first edges of a graph, and what it takes to find the same of the
-/// next ones.
+/// What was discovered for the first edges of a graph, and the means to find the same for the next
+/// edges.
 #[derive(Drop)]
 pub struct Finder<'a> {
     graph: &'a EdgeGraph,
@@ -45,7 +45,7 @@ impl<'a> Model for Finder<'a> {
 }
 
 impl<'a> Finder<'a> {
-    /// Before the first edge of a graph. Names are hashed by these keys.
+    /// The search before the first edge of a graph. Names are hashed by the given keys.
     pub fn new(
         alloc: Global,
         keys: HashKeys,
@@ -68,7 +68,7 @@ impl<'a> Finder<'a> {
         })
     }
 
-    /// Finds what this edge discovers, whose values of `deps` and `depfile` these are. The edges come
+    /// Finds what the given edge discovers, by its values of `deps` and `depfile`. The edges come
     /// in the order of their numbers.
     ///
     /// # Errors
@@ -124,7 +124,7 @@ impl<'a> Finder<'a> {
         })
     }
 
-    /// What was found.
+    /// Returns what was found.
     pub fn finish(self) -> Discoveries
         ensures { result ≡ self.entry.found }
     {

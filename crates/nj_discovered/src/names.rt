@@ -7,7 +7,7 @@ use nj_names::{Names, short_number};
 use nj_text::{TextFault, clean_into, is_clean};
 use std::alloc::AllocError;
 
-/// The clean path of a path that is not empty, in the buffer where it is another one.
+/// The clean path of a path that is not empty, in the buffer if it differs from the path.
 pub fn clean<'b>(buffer: &'b mut Vec<u8>, path: &'b [u8]) -> Result<&'b [u8], AllocError>
     ensures { IfOk result (λ clean. clean.now ≡ clean_path_of path.now) }
 {
@@ -22,7 +22,7 @@ pub fn clean<'b>(buffer: &'b mut Vec<u8>, path: &'b [u8]) -> Result<&'b [u8], Al
     }
 }
 
-/// Appends the number of the clean path of a path, which is added to the names unless it is there.
+/// Appends the number of the clean path of a path, which is added to the names unless they have it.
 pub fn add_clean(
     names: &mut Names,
     numbers: &mut Vec<u32>,

@@ -15,8 +15,8 @@ pub trait FileTimes {
     // The answers that the source declares.
     ghost times: { Self → List ℕ → Option TimeFound };
 
-    /// When the file at `path` was last changed, in nanoseconds since 1970; `None` if no file is
-    /// there. A time before 1970 counts as 0.
+    /// Returns when the file at `path` was last changed, in nanoseconds since 1970, or `None` if no
+    /// file is there. A time before 1970 is reported as 0.
     ///
     /// # Errors
     ///
@@ -30,11 +30,11 @@ pub trait FileTimes {
 pub enum TimeFound {
     /// In nanoseconds since 1970; `None` if there is no file.
     Time(Option<u64>),
-    /// The source has no answer for the path, as for one that is not UTF-8.
+    /// The source has no answer for the path, or the path is not UTF-8.
     NoAnswer,
 }
 
-/// The time of the file at a path; a path that is not UTF-8 is not asked for.
+/// The time of the file at a path; the source is not asked for a path that is not UTF-8.
 ///
 /// # Errors
 ///

@@ -10,7 +10,7 @@ use std::alloc::AllocError;
 /// Whether the inputs that builds discovered for an edge are known.
 #[derive(Drop)]
 pub enum Verdict {
-    /// They are known. An edge without `deps` and `depfile` has none.
+    /// They are known. An edge without `deps` and `depfile` has no discovered inputs.
     Known,
     /// They are not known, so that Ninja builds the edge again.
     Unknown(Unknown),
@@ -44,7 +44,7 @@ pub enum DepfileError {
     Depfile(DepfileFault),
     /// It has no target.
     NoTarget,
-    /// This target, which is not the first one, is not an output of the edge.
+    /// This target, which is not the first target, is not an output of the edge.
     NoSuchOutput(Name),
 }
 

@@ -9,7 +9,7 @@ pub record Disk : Type 0 where
   -- how often a read has failed; the count stays at 2 ^ 64 - 1
   pub failed : ℕ
 
--- its known state as a source: how often it failed, and nothing about its readings and files
+-- its known state as a source: how often it failed, but not its readings and files
 abbrev pub disk_state : Disk → SourceState
 disk_state disk = record { readings = None; failures = disk.failed; files = λ path. None }
 

@@ -14,10 +14,10 @@ use std::rt::Files;
 /// The greatest number of bytes that a file may have.
 const MOST_BYTES: usize = 1_073_741_824;
 
-/// The greatest number of reads that are made of a file: one for each byte, and one at the end.
+/// The greatest number of reads of a file: one for each byte, and one at the end.
 const MOST_READS: u32 = 1_073_741_825;
 
-/// The capacity that is made for a file beyond its stated size.
+/// The capacity that is reserved for a file beyond its stated size.
 const MORE_CAPACITY: usize = 16_384;
 
 /// How many bytes are read at most once the buffer is full: most files end there.
@@ -27,12 +27,12 @@ const BEYOND: usize = 64;
 /// when the read fills them.
 const PIECE: usize = 131_072;
 
-/// The files of the working directory. One name may mean standard input.
+/// The files of the working directory. One name may denote standard input.
 #[derive(Drop)]
 pub struct DiskFiles<R: Drop> {
     rt: R,
     input_name: Option<String>,
-    // Whether all other files than regular ones are refused.
+    // Whether all files but regular files are refused.
     regular_only: bool,
     keys: HashKeys,
     failed: u64,
@@ -53,7 +53,7 @@ impl<R: Drop> Model for DiskFiles<R> {
 impl<R: RandomSource + Drop> DiskFiles<R> {
     /// The files of the working directory. A file of the name `stdin_for` is read from standard
     /// input; the name is compared as it is written. The keys of hashes are drawn here, once for
-    /// the run. If the system has no random bytes, they are those that everyone knows.
+    /// the run. If the system has no random bytes, the fixed keys are used, which everyone knows.
     pub fn new(rt: R, alloc: Global, stdin_for: Option<&str>) -> Result<DiskFiles<R>, AllocError>
         ensures { IfOk result (λ disk. disk ≡
             record { input_name = option_copied stdin_for.entry; failed = 0 }) }
@@ -72,8 +72,8 @@ impl<R: RandomSource + Drop> DiskFiles<R> {
         })
     }
 
-    /// The regular files of the working directory. To read another one, as a directory or a pipe,
-    /// which could wait for ever, fails with `Io`.
+    /// The regular files of the working directory. Reading any other file fails with `Io`: a
+    /// directory, or a pipe, which could block for ever.
     pub fn of_regular_files(rt: R) -> DiskFiles<R>
         ensures { result ≡ record { input_name = None; failed = 0 } }
     {
@@ -88,7 +88,7 @@ impl<R: RandomSource + Drop> DiskFiles<R> {
     }
 }
 
-/// Keys that nobody else knows, if the system has random bytes to give.
+/// Keys that nobody else knows, if the system has random bytes.
 fn drawn_keys<R: RandomSource>(rt: &R) -> HashKeys {
     let mut drawn = [0; 8];
     match rt.fill_bytes(&mut drawn) {
@@ -98,7 +98,7 @@ fn drawn_keys<R: RandomSource>(rt: &R) -> HashKeys {
 }
 
 impl<R: Files + Input + Drop> DiskFiles<R> {
-    // The bytes of the file, or of standard input if its name means that.
+    // The bytes of the file, or of standard input if its name denotes that.
     fn outcome(&self, alloc: Global, path: &str) -> Result<Option<Vec<u8>>, SourceFault> {
         if self.is_input(path) {
             return Ok(Some(read_whole(alloc, &mut self.rt.reader(), 0)?));
@@ -114,8 +114,8 @@ impl<R: Files + Input + Drop> DiskFiles<R> {
         }
     }
 
-    // Refuses all but a regular file, if only those are to be read. Where nothing can be looked up,
-    // opening tells why.
+    // Refuses all but a regular file, if only regular files are to be read. If the look-up fails,
+    // opening the file reports why.
     fn check_type(&self, path: &str) -> Result<(), SourceFault> {
         if !self.regular_only {
             return Ok(());
@@ -127,7 +127,7 @@ impl<R: Files + Input + Drop> DiskFiles<R> {
         }
     }
 
-    // Whether it is the name that means standard input.
+    // Whether the path is the name that denotes standard input.
     fn is_input(&self, path: &str) -> bool
         ensures { IsTrue result ↔ (self.now.input_name ≡ Some path.now) }
     {
@@ -216,8 +216,8 @@ fn read_piece<R: Read>(
     read_at(reader, bytes.as_mut_slice(), filled)
 }
 
-/// Reads once when the buffer is full. It grows only if there is more to read, so that a
-/// file of its stated size takes just that many bytes.
+/// Reads once when the buffer is full. It grows only if there is more to read, so that a file of
+/// its stated size needs just that many bytes.
 fn read_beyond<R: Read>(reader: &mut R, bytes: &mut Vec<u8>) -> Result<usize, SourceFault>
     ensures front { OnOk result (take (vec_len bytes.old) bytes.new.items ≡ bytes.old.items) }
     ensures fits { IfOk result (λ count. vec_len bytes.old + count ≡ vec_len bytes.new) }

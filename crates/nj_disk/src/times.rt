@@ -50,8 +50,8 @@ impl<R: Files + Drop> FileTimes for DiskTimes<R> {
 }
 
 // The time of the last change. As in Ninja, all of the second 0 is one nanosecond after 1970 began,
-// so that it differs from no time; a time before that, which the system's library does not tell, is
-// 0.
+// so that it differs from no time; a time before that, which the system's library does not report,
+// is 0.
 fn time_in(metadata: &Metadata) -> u64 {
     let Ok(time) = metadata.modified() else {
         return 0;

@@ -64,7 +64,7 @@ first-new name (m ∷ names) absent = by (bytes_eq name m) refl (first-new name 
     by true same rest none = absurd (true≢false none)
     by false other rest none = (other, rest none)
 
--- a name at this index, where each is there once
+-- the name at an index, where names are not repeated
 pub first-distinct : (name : List ℕ) (names : List (List ℕ)) (n : ℕ) → IsDistinct bytes_eq names
     → slice_get names n ≡ Some name → IsFirstAt name names n
 first-distinct name [] n apart h = absurd (true≢false (sym (ap is_some h)))
@@ -137,7 +137,7 @@ value-first text names bounds name n edge many h =
 abbrev value_in : ℕ → Option Rows → Option (List ℕ)
 value_in e rows = option_and_then (lookup (λ n. nat_eq e n)) rows
 
--- a name without values binds nothing
+-- a name without values is not bound
 value-appended : (text : List ℕ) (names : List (List ℕ)) (bounds : All-bounds) (name : List ℕ) (e : ℕ)
     (x : List ℕ) → length bounds ≡ length names
     → value_of (values_by_name text (names ++ name ∷ []) (bounds ++ [] ∷ [])) e x
@@ -261,7 +261,7 @@ known-push : (count : ℕ) (numbers : List ℕ) (n : ℕ) → n < count
     → AllByRecursion (λ number. number < count) (numbers ++ n ∷ [])
 known-push count numbers n h known = grind (arith, common_steps)
 
--- ---- one name is bound
+-- ---- binding one name
 
 -- other values of one name
 value-bound : (old new : List (List ℕ × Rows)) (name : List ℕ) (rows : Rows) (edge : ℕ) (value : List ℕ)
@@ -300,7 +300,7 @@ later len last edge names bounds lists from held = grind (arith, all-later)
 
 -- ---- `pool` and `dyndep`
 
--- a block of this edge binds a name, and nothing else changes
+-- the block of an edge binds a name, and nothing else changes
 pub neither-after : (assigning edge : ℕ) (name : List ℕ) (old new : BlocksModel) → old.last ≤ edge
     → new.last ≡ edge
     → ((e : ℕ) (x : List ℕ) → (nat_eq e edge && bytes_eq x name) ≡ false

@@ -96,7 +96,7 @@ values_at text (b ∷ bounds) edge = by (nat_eq edge b.edge) (values_at text bou
     by true rest = refl
     by false rest = rest
 
--- the first is before each other
+-- the first bound is before every other bound
 before : (b : Bound) (bounds : List Bound) → AllByRecursion (λ c. b.edge < c.edge) bounds
     → (i : ℕ) (d : Bound) → i < length bounds → b.edge < (get_or bounds i d).edge
 before b bounds all i d h = All-from_recursion (λ c. b.edge < c.edge) bounds all i d h
@@ -146,7 +146,7 @@ pub partitioned : (bounds : List Bound) (edge : ℕ) → AreRising bounds
     → IsPartitionedBy (λ b. ltb b.edge edge) bounds
 partitioned bounds edge rising = grind (arith, rising-up_to)
 
--- where the edges from this one on begin
+-- where the edges from the given edge on begin
 abbrev pub IsPoint : List Bound → (edge i : ℕ) → Type 0
 IsPoint bounds edge i = IsPartitionPoint (λ b. ltb b.edge edge ≡ true) (λ b. ltb b.edge edge ≡ false) bounds i
 
@@ -175,7 +175,7 @@ searched-past bounds edge i d past point = sym (none-at bounds edge d
     (λ j within same. let below = ltb-true (get_or bounds j d).edge edge
     (point.0 j d (omega arith) (omega arith)) in omega (arith, below, same)))
 
--- ---- a bound more
+-- ---- one more bound
 
 pub part_of : (len last : ℕ) (bounds : List Bound) (edge : ℕ) (b : Bound)
     → AllByRecursion (IsPart len last) bounds → bound_of bounds edge ≡ Some b → IsPart len last b
@@ -210,7 +210,7 @@ with_bound-push (c ∷ d ∷ bounds) zero last b n is apart = absurd (omega arit
 with_bound-push (c ∷ d ∷ bounds) (suc i) last b n is apart =
     ap (λ xs. c ∷ xs) (with_bound-push (d ∷ bounds) i last b (omega arith) is apart)
 
--- it is the one of its edge, and the others stay
+-- it is the bound of its edge, and the other bounds stay
 bound_of-with : (bounds : List Bound) (len : ℕ) (b : Bound) → AreRising bounds
     → AllByRecursion (IsPart len b.edge) bounds → (e : ℕ)
     → bound_of (with_bound bounds b) e ≡ cond (nat_eq e b.edge) (Some b) (bound_of bounds e)
@@ -238,7 +238,7 @@ rising_with (c ∷ d ∷ bounds) len b rising parts = grind (
   rising_with (d ∷ bounds) len b rising.1 parts.1,
 )
 
--- ---- whether the last one is of an edge
+-- ---- whether the last bound belongs to an edge
 
 pub ends_at-nil : (bounds : List Bound) (edge : ℕ) → (0 < length bounds → ⊥) → ends_at bounds edge ≡ false
 ends_at-nil bounds edge h = grind (arith, common_steps)
@@ -251,7 +251,7 @@ ends_at-last (c ∷ []) (suc i) edge last n is = absurd (omega arith)
 ends_at-last (c ∷ d ∷ bounds) zero edge last n is = absurd (omega arith)
 ends_at-last (c ∷ d ∷ bounds) (suc i) edge last n is = ends_at-last (d ∷ bounds) i edge last (omega arith) is
 
--- no bound is of a later edge
+-- no bound belongs to a later edge
 pub ends-bound : (bounds : List Bound) (len edge : ℕ) → AreRising bounds
     → AllByRecursion (IsPart len edge) bounds → is_some (bound_of bounds edge) ≡ ends_at bounds edge
 ends-bound [] len edge rising parts = refl

@@ -1,4 +1,4 @@
--- The cycle that is computed is the one that is described.
+-- The computed cycle is the specified cycle.
 use Rattle.std.proofs.Common.{◌≡◌, ◌≢◌, ◌<◌, ◌≤◌, ◌⊎◌, inl, inr, ℕ, zero, suc, Bool, true, false, ◌||◌, cond}
 use Rattle.std.proofs.Common.{List, [], ◌∷◌, length, Option, Some, None, unwrap_or, bytes_eq, refl, sym, ap}
 use Rattle.std.proofs.Common.{subst, ◌∙◌, true≢false, arith, Ordering, Less, Equal, Greater}
@@ -105,7 +105,7 @@ no_shorter p q (k ∷ keys) wider = by (p k) (q k) (wider k) (no_shorter p q key
     by false true w le = omega arith
     by false false w le = le
 
--- a wider test passes no other keys, or more of them
+-- a wider test passes the same keys, or more keys
 same_or_longer : (p q : List ℕ → Bool) (keys : List (List ℕ)) → ((key : List ℕ) → p key ≡ true → q key ≡ true)
     → ((key : List ℕ) → is_among keys key ≡ true → q key ≡ true → p key ≡ true)
     ⊎ (length (filter p keys) < length (filter q keys))
@@ -296,7 +296,7 @@ not_less_own x h = let e = turned x x Less h in cc
 lesser_at : (x y : List ℕ) → (order x (lesser x y) ≢ Less) × (order y (lesser x y) ≢ Less)
 lesser_at x y = grind (arith, not_less_own, turned)
 
--- a name that is not below another is not below one that is no greater
+-- a name that is not below another is not below a name that is not greater
 pub no_less : (x y z : List ℕ) → order x y ≢ Less → order y z ≢ Less → order x z ≢ Less
 no_less x y z p q h = by (order z y) refl
   where

@@ -1,4 +1,4 @@
--- Lemmas on cycles of a rule's variables: a key lies on one where its number leads back to itself.
+-- Lemmas on cycles of a rule's variables: a key lies on a cycle if its number leads back to itself.
 use Rattle.std.proofs.lemmas.Grind.{common_steps}
 use Rattle.std.proofs.Common.{inl, inr, ◌≡◌, ◌≢◌, ◌<◌, ◌≤◌, ◌+◌, ℕ, zero, suc, Bool, true, false, not, ◌&&◌}
 use Rattle.std.proofs.Common.{if◌then◌else◌, List, [], ◌∷◌, ◌++◌, length, replicate, slice_get}
@@ -35,7 +35,7 @@ get_front xs b n below = grind (arith, common_steps)
 get_end : (xs : List Bool) (b : Bool) → get_or (xs ++ b ∷ []) (length xs) false ≡ b
 get_end xs b = grind (arith, common_steps)
 
--- the keys of numbers below i
+-- the keys with numbers below i
 pub record CountedBelow (block : List ℕ → Option (List ℕ)) (keys : List ReferringKeyModel) (i : ℕ)
     (counts : List Bool) : Type 0 where
   pub len : length counts ≡ i
@@ -51,7 +51,7 @@ pub all_counted : (block : List ℕ → Option (List ℕ)) (keys : List Referrin
     → AreCounted block keys held
 all_counted block keys i counts held so le e n below = grind arith
 
--- where nothing is bound each key counts
+-- if nothing is bound, every key counts
 pub unbound_counted : (keys : List ReferringKeyModel) (count : ℕ) (counts : List Bool)
     → counts ≡ replicate count true → count ≡ length keys → AreCounted unbound keys counts
 unbound_counted keys count counts is same n below = grind (arith, common_steps)
@@ -99,7 +99,7 @@ module _ (keys : List ReferringKeyModel) (counts : List Bool) where
       by true = refl
       by false = refl
 
-  -- a key that needs another counts, and its value refers to that one
+  -- a key that needs another counts, and its value refers to the other
   pub record IsNeed (key other : ℕ) : Type 0 where
     pub counted : slice_index_or counts key false ≡ true
     pub refers : slice_index_or (row_at keys key) other false ≡ true
@@ -250,9 +250,9 @@ module _ (block : List ℕ → Option (List ℕ)) (lines : List RuleLineModel) (
       → option_map (name_at keys) first ≡ variable_cycle_of block lines
   first_computed first is = is_computed block lines (option_map (name_at keys) first) (first_found first is)
 
--- ---- where nothing is bound
+-- ---- if nothing is bound
 
--- fewer keys count where a block binds some
+-- fewer keys count if a block binds some
 unbound_refers : (block : List ℕ → Option (List ℕ)) (lines : List RuleLineModel) (a b : List ℕ)
     → RefersTo block lines a b → RefersTo unbound lines a b
 unbound_refers block lines a b r = grind arith
@@ -272,7 +272,7 @@ never_cycle lines keys counts None are counted is none block =
     (unbound_reaches block lines key key on)))
 never_cycle lines keys counts (Some n) are counted is none block = absurd (true≢false none)
 
--- the references held of a rule tell the computed key
+-- the references held of a rule determine the computed key
 pub reported : (block : List ℕ → Option (List ℕ)) (lines : List RuleLineModel) (keys : List ReferringKeyModel)
     (counts : List Bool) (first : Option ℕ) → TellsCycles lines keys → AreCounted block keys counts
     → IsFirstOnCycle (makers_counted keys counts) (length keys) first

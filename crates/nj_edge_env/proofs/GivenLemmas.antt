@@ -1,4 +1,4 @@
--- The values of names: late strings, where no variable of a rule refers back to itself.
+-- The values of names: late strings, if no variable of a rule refers back to itself.
 use Rattle.std.proofs.Common.{◌≡◌, ℕ, zero, suc, ◌<◌, ◌≤◌, Bool, true, false, ◌||◌, if◌then◌else◌, List, []}
 use Rattle.std.proofs.Common.{◌∷◌, ◌++◌, length, Option, None, Some, unwrap_or, option_map, bytes_eq, refl}
 use Rattle.std.proofs.Common.{sym, ap, subst, ◌∙◌, true≢false, arith}
@@ -30,7 +30,7 @@ same_name x y h = (bytes_eq-Decides x y).0 h
 pub own_name : (x : List ℕ) → bytes_eq x x ≡ true
 own_name x = (bytes_eq-Decides x x).1 refl
 
--- a name of no paths has no text of paths
+-- a name that does not stand for paths has no text of paths
 no_paths : (a b c : Bool) (s t u : List ℕ) → (a || (b || (c || false))) ≡ false
     → (if a then Some s else (if b then Some t else (if c then Some u else None))) ≡ None
 no_paths a b c s t u h = grind arith
@@ -157,7 +157,7 @@ given_within quoting n (suc depth) name s = elim (way quoting n name) [
       (sym (once_file (late_in depth quoting n) quoting n name p q e)) (by_file p q e)
 ]
 
--- the lines of other keys than these
+-- the lines with keys other than the given keys
 pub unseen : (seen : List (List ℕ)) → List RuleLineModel → ℕ
 unseen seen [] = zero
 unseen seen (l ∷ lines) = if is_among seen l.key then unseen seen lines else suc (unseen seen lines)
@@ -280,7 +280,7 @@ settled block lines none (suc depth) seen name comes lt = λ other r.
     onward other r s true e h = subst (λ x. Reaches block lines x other) (sym (same_name s name e)) (one r)
     onward other r s false e h = reached_push block lines s name other (comes s h) r
 
--- without a cycle, no more lines come after one another than there are
+-- without a cycle, lines do not nest deeper than their number
 pub settled_all : (block : List ℕ → Option (List ℕ)) (lines : List RuleLineModel) → HasNoCycle block lines
     → (name : List ℕ) → Settles block lines (suc (length lines)) name
 settled_all block lines none name = settled block lines none (suc (length lines)) [] name
@@ -300,7 +300,7 @@ from_block : (quoting : Bool) (n : LateNames) (name value u : List ℕ) → name
     → n.block name ≡ Some value → Denotes quoting n name u → u ≡ value
 from_block quoting n name value u p h h1 = grind arith
 
--- the value of a name that is the rule's
+-- the value of a name that the rule gives
 from_rule : (quoting : Bool) (n : LateNames) (name u : List ℕ) (parts : List PartModel)
     → rule_value n.block n.lines name ≡ Some parts → Denotes quoting n name u
     → (value : List ℕ → List ℕ) × ((other : List ℕ) → refers parts other ≡ true
@@ -344,7 +344,7 @@ first_step : (block : List ℕ → Option (List ℕ)) (lines : List RuleLineMode
 first_step block lines key other (one r) = (other, r, inl refl)
 first_step block lines key other (more {g = next} r d) = (next, r, inr d)
 
--- the next on a cycle is on it too
+-- the next key on a cycle is on it too
 turned : (block : List ℕ → Option (List ℕ)) (lines : List RuleLineModel) (key : List ℕ)
     → IsOnCycle block lines key → (next : List ℕ) × RefersTo block lines key next × IsOnCycle block lines next
 turned block lines key c = grind (arith, first_step, reached_push)

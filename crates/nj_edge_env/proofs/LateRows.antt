@@ -67,7 +67,7 @@ on_cycle = more {g = codes "description"} (Name (codes "description") ∷ [], re
 broken : asked_text (edge (only (codes "description") (codes "x")) circle) (codes "command") ≡ codes "x"
 broken = refl
 
--- the lesser of both is named, whichever line comes first
+-- the lesser of the two is named, whichever line comes first
 least : variable_cycle_of nothing circle ≡ Some (codes "command")
 unfolding variable_cycle_of
 least = refl
@@ -96,8 +96,8 @@ aside : variable_cycle_of nothing (line (codes "command") (Text (codes "cc @") �
 unfolding variable_cycle_of
 aside = refl
 
--- command = $description, then command =, description = $command: the last line counts, and is empty, so it
--- is not given
+-- command = $description, then command =, description = $command: the last line counts and is empty, so it
+-- has no value
 not_given : variable_cycle_of nothing (line (codes "command") (Name (codes "description") ∷ []) ∷ line
     (codes "command") [] ∷ line (codes "description") (Name (codes "command") ∷ []) ∷ []) ≡ None
 unfolding variable_cycle_of

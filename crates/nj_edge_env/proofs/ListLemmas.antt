@@ -108,7 +108,7 @@ padded numbers (s ∷ []) (suc k) (suc i) h = none-more numbers (suc k) i
 padded numbers (s ∷ t ∷ starts) k zero h = refl
 padded numbers (s ∷ t ∷ starts) k (suc i) h = padded numbers (t ∷ starts) k i h.1
 
--- the list of an index, by where it starts and where the next one does
+-- the list of an index, by its start and the start of the next list
 pub list-between : (numbers starts : List ℕ) (i : ℕ) → AreStarts (length numbers) starts
     → list_at (lists_of numbers starts) i ≡ slice_range numbers (get_or starts i (length numbers))
     (get_or starts (suc i) (length numbers))
@@ -132,7 +132,7 @@ between-rises len (s ∷ []) (suc i) h = omega arith
 between-rises len (s ∷ t ∷ starts) zero h = h.0
 between-rises len (s ∷ t ∷ starts) (suc i) h = between-rises len (t ∷ starts) i h.1
 
--- ---- a number more
+-- ---- one more number
 
 pub pushed : (numbers starts : List ℕ) (n e i : ℕ) → AreStarts (length numbers) starts → length starts ≡ e + 1
     → list_at (lists_of (numbers ++ n ∷ []) starts) i

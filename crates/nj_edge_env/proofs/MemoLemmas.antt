@@ -117,7 +117,7 @@ set_at (z ∷ xs) (suc i) zero x y h = inr h
 set_at (z ∷ xs) (suc i) (suc j) x y h = grind (arith, set_at xs i j x y h)
 
 module _ (quoting : Bool) (e : LateEdge) (depth : ℕ) (old : List ℕ) where
-  -- ---- a name that no line of the rule binds, and one whose string is known
+  -- ---- a name that no line of the rule binds, and a name whose string is known
 
   none_settles : (name : List ℕ) → rule_value (bound_in e.blocks.now e.edge) e.rule.now.lines name ≡ None
       → (d : ℕ) → SettlesIn e (suc d) name

@@ -66,7 +66,7 @@ paths_turn files paths quoting separator i file path start before pushed after h
         ∙ sym (map_push (shown quoting) (map (path_at files) (take k ps)) (path_at files file))
         ∙ ap (map (shown quoting)) (sym (map_push (path_at files) (take k ps) file)))
 
--- ---- where an allocation failed
+-- ---- if an allocation failed
 
 pub on-err : {A E P : Type 0} (r : Result A E) → P → OnErr r P
 on-err r p = grind arith

@@ -44,13 +44,13 @@ one_more parts i part name here =
     ∙ ap (λ q. take i parts ++ q ∷ []) (get_or_from_slice_get parts i part part here) in
     ap (λ ps. refers ps name) t ∙ list_any-append (λ p. refers_in p name) (take i parts) (part ∷ [])
 
--- none refers to the name up to here
+-- no part up to here refers to the name
 pub none_refers : (parts : List PartModel) (i : ℕ) (part : PartModel) (name : List ℕ)
     → slice_get parts i ≡ Some part → refers (take i parts) name ≡ false → refers_in part name ≡ false
     → refers (take (i + 1) parts) name ≡ false
 none_refers parts i part name here before off = grind (arith, one_more)
 
--- one that refers to the name is enough
+-- one part that refers to the name is enough
 pub one_refers : (parts : List PartModel) (i : ℕ) (part : PartModel) (name : List ℕ)
     → slice_get parts i ≡ Some part → refers_in part name ≡ true → refers parts name ≡ true
 one_refers [] i part name here is = grind arith
@@ -59,7 +59,7 @@ one_refers (p ∷ parts) (suc i) part name here is = grind (arith, one_refers pa
 
 -- ---- keys in byte order
 
--- the keys of numbers below i are among these
+-- the keys with numbers below i are among the given keys
 abbrev pub KeysBelow : List RuleLineModel → (i : ℕ) → (names : List (Bor (List ℕ))) → Type 0
 KeysBelow lines i names = (n : ℕ) → n < i → Contains (map (λ name. name.now) names) (key_at lines n)
 
@@ -118,7 +118,7 @@ module _ (lines : List RuleLineModel) (slices : List (Bor (List ℕ))) (sorted :
     at : (n : ℕ) (slice : Bor (List ℕ)) → slice_get slices n ≡ Some slice → name n ≡ slice.now
     at n slice e = ap (λ o. unwrap_or o []) (slice_get-map text slices n ∙ ap (option_map text) e)
 
-    -- each name after another one
+    -- each name after another name
     next-by : (n : ℕ) (one other : Bor (List ℕ)) → n + 1 < length slices → slice_get slices n ≡ Some one
         → slice_get slices (n + 1) ≡ Some other → slice_cmp nat_cmp (name (n + 1)) (name n) ≢ Less
     next-by n one other below here there less =

@@ -2,8 +2,9 @@
 use Rattle.std.specs.Prelude.{ℕ, ◌==◌, Option, List, [], option_and_then, slice_index_or, bytes_eq}
 use Rattle.std.specs.Map.{lookup}
 
--- by name the edges whose blocks bind it, with the values; by edge the names that its block binds, without duplicates, in the
--- order of their first bindings, up to the last edge that binds one; and the last edge whose block got a binding, at first 0
+-- for each name, the edges whose blocks bind it, with the values; for each edge up to the last edge with a binding, the names
+-- that its block binds, without duplicates, in the order of their first bindings; and the last edge whose block got a
+-- binding, initially 0
 pub record BlocksModel : Type 0 where
   pub values : List (List ℕ × List (ℕ × List ℕ))
   pub names : List (List (List ℕ))

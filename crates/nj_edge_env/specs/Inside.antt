@@ -1,4 +1,5 @@
--- How the code meets the definitions beside this directory. No contract of a public call needs these.
+-- How the code meets the definitions beside this directory. Contracts of public calls do not need this
+-- directory.
 pub mod BlocksHeld
 pub mod CyclesHeld
 pub mod StringsHeld

@@ -6,7 +6,7 @@ use Rattle.nj_edge_env.specs.Blocks.{bound_in}
 use Rattle.nj_edge_env.specs.declared.late_edge.LateEdge.{LateEdge}
 use Rattle.nj_edge_env.specs.LateStrings.{LateNames}
 
--- the names that an edge gives values to
+-- the names to which an edge gives values
 abbrev pub late_names : LateEdge → (file : List ℕ → List ℕ) → LateNames
 late_names e file = record {
   inputs = map (path_at e.files.now) e.inputs.now;

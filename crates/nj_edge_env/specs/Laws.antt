@@ -6,12 +6,12 @@ use Rattle.nj_scope.specs.Rules.{RuleLineModel}
 use Rattle.nj_edge_env.specs.LateStrings.{LateNames, Denotes, late_text, names_paths, value_given, file_value}
 use Rattle.nj_edge_env.specs.VariableCycles.{IsOnCycle, HasNoCycle, IsCycleFound, variable_cycle_of}
 
--- Where no variable of the rule refers back to itself, each name has its late string.
+-- If no variable of the rule refers back to itself, each name has its late string.
 abbrev pub LateTextIsGiven : Type 0
 LateTextIsGiven = (quoting : Bool) (n : LateNames) (name : List ℕ) → HasNoCycle n.block n.lines
     → Denotes quoting n name (late_text quoting n name)
 
--- A name has one value at most.
+-- A name has at most one value.
 abbrev pub OneTextIsGiven : Type 0
 OneTextIsGiven = (quoting : Bool) (n : LateNames) (name text other : List ℕ) → Denotes quoting n name text → Denotes quoting n name other
     → text ≡ other
@@ -31,13 +31,13 @@ RuleWins = (quoting : Bool) (n : LateNames) (name : List ℕ) (parts : List Part
     → names_paths name ≡ false → n.block name ≡ None → value_given n.lines name ≡ Some parts
     → late_text quoting n name ≡ expanded (late_text quoting n) parts
 
--- Else the file's value counts.
+-- Otherwise the file's value counts.
 abbrev pub FileIsLast : Type 0
 FileIsLast = (quoting : Bool) (n : LateNames) (name : List ℕ) → names_paths name ≡ false → n.block name ≡ None
     → value_given n.lines name ≡ None
     → late_text quoting n name ≡ file_value n name
 
--- The key that is computed is the least one that refers back to itself, and there is none where none does.
+-- The computed key is the least key that refers back to itself; it is `None` if no key does.
 abbrev pub ComputedCycleIsFound : Type 0
 ComputedCycleIsFound = (block : List ℕ → Option (List ℕ)) (lines : List RuleLineModel)
     → IsCycleFound block lines (variable_cycle_of block lines)

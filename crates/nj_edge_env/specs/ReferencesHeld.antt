@@ -1,5 +1,5 @@
--- How it is held which keys of a rule refer to which: the keys in byte order, each with a row that tells for each key whether its value
--- refers to that one.
+-- How the references between keys of a rule are held: the keys in byte order, each with a row that states, for each key, whether the
+-- value refers to that key.
 use Rattle.std.specs.Prelude.{◌≡◌, ◌≢◌, ◌⊎◌, ℕ, ◌<◌, Bool, false, Option, Some, None, unwrap_or, option_map, List, [], length, slice_get, slice_index_or}
 use Rattle.std.specs.Ordering.{nat_cmp}
 use Rattle.std.specs.declared.cmp.Ordering.TheVariants.{Less}
@@ -26,11 +26,11 @@ row_at keys number = unwrap_or (option_map (λ k. k.refers) (slice_get keys numb
 abbrev pub unbound : List ℕ → Option (List ℕ)
 unbound name = None
 
--- whether the value of the key counts and refers to the other name, where no block binds the key
+-- whether the value of the key counts and refers to the other name, if no block binds the key
 abbrev pub refers_unbound : List RuleLineModel → (key other : List ℕ) → Bool
 refers_unbound lines key other = refers (unwrap_or (rule_value unbound lines key) []) other
 
--- the references of the rule that has these lines
+-- the references of the rule with the given lines
 pub record AreReferences (lines : List RuleLineModel) (keys : List ReferringKeyModel) : Type 0 where
   pub all : (key : List ℕ) (value : List PartModel) → given lines key ≡ Some value
       → (number : ℕ) × (number < length keys) × (name_at keys number ≡ key)
@@ -43,6 +43,7 @@ pub record AreReferences (lines : List RuleLineModel) (keys : List ReferringKeyM
 abbrev pub NeverCycles : List RuleLineModel → Type 0
 NeverCycles lines = (block : List ℕ → Option (List ℕ)) → variable_cycle_of block lines ≡ None
 
--- these are enough to find the cycles of the rule that has these lines: no key is held if there is never one
+-- the keys held are enough to find the cycles of the rule with the given lines: no keys are held if it never
+-- has a cycle
 abbrev pub TellsCycles : List RuleLineModel → List ReferringKeyModel → Type 0
 TellsCycles lines keys = AreReferences lines keys ⊎ ((keys ≡ []) × NeverCycles lines)

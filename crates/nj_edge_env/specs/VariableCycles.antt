@@ -10,7 +10,8 @@ use Rattle.nj_scope.specs.Rules.{RuleLineModel}
 use Rattle.nj_edge_env.specs.LateStrings.{rule_value, refers}
 use Rattle.nj_names.specs.NameTables.{is_among}
 
--- the rule's value of this key counts, since the block does not bind it, and a part of it is a reference to the other name
+-- the rule's value of the key counts, since the block does not bind the key, and a part of the value is a reference to the
+-- other name
 abbrev pub RefersTo : (block : List ℕ → Option (List ℕ)) → List RuleLineModel → (key other : List ℕ) → Type 0
 RefersTo block lines key other = (parts : List PartModel) × (rule_value block lines key ≡ Some parts) × (refers parts other ≡ true)
 
@@ -36,7 +37,7 @@ abbrev pub IsCycleFound : (block : List ℕ → Option (List ℕ)) → List Rule
 IsCycleFound block lines None = HasNoCycle block lines
 IsCycleFound block lines (Some key) = IsLeastOnCycle block lines key
 
--- ---- the same, computed
+-- ---- cycles, computed
 
 -- the keys of a rule's lines
 abbrev pub keys_of : List RuleLineModel → List (List ℕ)
@@ -51,10 +52,11 @@ abbrev pub reaching : (steps : ℕ) → (block : List ℕ → Option (List ℕ))
 reaching zero block lines name = []
 reaching (suc steps) block lines name = referring block lines (name ∷ reaching steps block lines name)
 
--- the keys that reach themselves; a shortest way back to a key takes no more references than there are lines
+-- the keys that reach themselves; a shortest way back to a key takes at most as many references as there are
+-- lines
 abbrev pub keys_on_cycles : (block : List ℕ → Option (List ℕ)) → List RuleLineModel → List (List ℕ)
 keys_on_cycles block lines = filter (λ key. is_among (reaching (length lines) block lines key) key) (keys_of lines)
 
--- the least of them, by bytes
+-- the least key on a cycle, by bytes
 unfoldable pub variable_cycle_of : (block : List ℕ → Option (List ℕ)) → List RuleLineModel → Option (List ℕ)
 variable_cycle_of block lines = reduce (λ key other. min_by_ordering (slice_cmp nat_cmp key other) key other) (keys_on_cycles block lines)

@@ -4,8 +4,8 @@ ghost use Rattle.std.specs.Prelude.{◌≡◌, ◌≤◌, [], length, slice_inde
 
 use std::alloc::{AllocError, Global};
 
-/// For each name, by its number, the one that was bound after it the last time. Most blocks bind
-/// names in the order of a block before, so this tells which name probably comes next.
+/// For each name, by its number, the name that was bound after it the last time. Most blocks bind
+/// names in the order of an earlier block, so this predicts which name comes next.
 #[derive(Drop)]
 pub(crate) struct NameOrder {
     // the name that was bound last
@@ -24,7 +24,7 @@ impl NameOrder {
         }
     }
 
-    /// The number of the name that probably comes next. There may be no name with the given number.
+    /// The number of the name that probably comes next. A name with that number may not exist.
     #[inline(always)]
     pub(crate) fn guess(&self) -> usize
         ensures { result ≡ slice_index_or self.now.following.items self.now.latest 0 }
@@ -35,7 +35,7 @@ impl NameOrder {
         }
     }
 
-    /// Makes room for at least this many names.
+    /// Makes room for at least `count` names.
     pub(crate) fn grow(&mut self, count: usize) -> Result<(), AllocError>
         ensures { OnOk result (count ≤ length self.new.following.items) }
     {

@@ -25,8 +25,8 @@ pub struct Blocks {
     // the numbers of the names that each block binds
     lists: NumberLists,
     last: usize,
-    // No block of an edge after this one binds `pool` or `dyndep`. Few do, and both are looked up
-    // for every edge.
+    // Blocks of edges after this number do not bind `pool` or `dyndep`. Few blocks do, and both
+    // names are looked up for every edge.
     assigning: usize,
 }
 
@@ -63,8 +63,8 @@ impl Blocks {
         }
     }
 
-    /// Binds the name to the value in the block of this edge, in place of an earlier value there.
-    /// Edges come in their order.
+    /// Binds the name to the value in the block of the edge, replacing any earlier value there.
+    /// Edges must come in order.
     ///
     /// # Errors
     ///
@@ -102,7 +102,7 @@ impl Blocks {
         )
     }
 
-    /// The value that the block of this edge binds to the name; `None` if it binds none.
+    /// Returns the value that the block of the edge binds to the name, or `None`.
     pub fn value(&self, edge: usize, name: &[u8]) -> Option<&[u8]>
         ensures { option_copied result ≡ bound_in self.now edge name.now }
     {
@@ -119,15 +119,15 @@ impl Blocks {
         }
     }
 
-    /// How many names the block of this edge binds.
+    /// How many names the block of the edge binds.
     pub fn name_count(&self, edge: usize) -> usize
         ensures { result ≡ length (names_in self.now edge) }
     {
         self.lists.list(edge).len()
     }
 
-    /// The name at this index among those that the block of this edge binds, without duplicates, in
-    /// the order in which they were first bound; `None` past the last one.
+    /// Returns the name at the given index among the names that the block of the edge binds,
+    /// without duplicates, in the order in which they were first bound; `None` past the last name.
     pub fn name(&self, edge: usize, index: usize) -> Option<&[u8]>
         ensures { option_copied result ≡ slice_get (names_in self.now edge) index }
     {
@@ -138,8 +138,8 @@ impl Blocks {
     }
 }
 
-// The last edge whose block may bind `pool` or `dyndep`, once the block of this edge, which none
-// comes after, binds the name.
+// The last edge whose block may bind `pool` or `dyndep`, once the block of the given edge, the last
+// so far, binds the name.
 fn last_assigning(assigning: usize, edge: usize, name: &[u8]) -> usize
     ensures { result ≡ (if is_pool_or_dyndep name.now then edge else assigning) }
 {
@@ -175,7 +175,7 @@ fn name_number(
     Ok(number)
 }
 
-// Whether there is a name with the given number, and it is this one.
+// Whether the name with the given number exists and is the given name.
 #[inline(always)]
 fn is_name(names: &Names, number: usize, name: &[u8]) -> bool
     ensures { result ≡ true → IsFirstAt name.now names.now number }
@@ -186,7 +186,7 @@ fn is_name(names: &Names, number: usize, name: &[u8]) -> bool
     names.name(number) == name
 }
 
-// The number of the name. A name that no block bound yet gets one, and has no values.
+// The number of the name. A name that no block has bound yet gets a new number, and has no values.
 fn sought_number(
     alloc: Global,
     names: &mut Names,

@@ -7,8 +7,8 @@ use nj_names::{FileNo, Files};
 use nj_text::quote_into;
 use std::alloc::AllocError;
 
-/// Appends the paths of files, with the separator between each two; each path is quoted for a shell
-/// by itself, or written verbatim.
+/// Appends the paths of files, with the separator between them; each path is quoted for a shell
+/// separately, or written verbatim.
 pub(crate) fn append_paths(
     out: &mut Vec<u8>,
     files: &Files,

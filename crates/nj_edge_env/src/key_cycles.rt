@@ -9,9 +9,9 @@ use nj_cycles::{EdgeInputs, first_on_cycle};
 use std::alloc::{AllocError, Global};
 
 impl KeyReferences {
-    /// The least key, by bytes, of the rule's lines that refers to itself, in one step or more,
-    /// where an edge uses the rule: by keys that the block of the edge does not bind. `None` if
-    /// there is none ("Rule variables" in the Ninja manual). An edge for which it is `None` has
+    /// Returns the least key, by bytes, of the rule's lines that refers to itself in one or more
+    /// steps when an edge uses the rule: through keys that the block of the edge does not bind.
+    /// `None` if no key does ("Rule variables" in the Ninja manual), in which case the edge has
     /// late strings.
     ///
     /// # Errors
@@ -37,8 +37,8 @@ impl KeyReferences {
         }
     }
 
-    // Whether a block could leave a cycle of the rule's variables: whether there is one where
-    // nothing is bound.
+    // Whether a block could leave a cycle of the rule's variables, that is, whether there is a
+    // cycle if nothing is bound.
     pub(crate) fn may_cycle(&self, alloc: Global) -> Result<bool, AllocError>
         ensures { (lines : List RuleLineModel) → AreReferences lines self.now
             → IfOk result (λ may. may ≡ false → NeverCycles lines) }
@@ -64,7 +64,8 @@ impl KeyReferences {
     }
 }
 
-// The keys of a rule, as a graph in which a key that counts needs those to which its value refers.
+// The keys of a rule, as a graph in which a key that counts needs the keys to which its value
+// refers.
 #[derive(Clone, Copy)]
 struct CountedKeys<'a> {
     references: &'a KeyReferences,

@@ -3,8 +3,8 @@
 ghost use Rattle.std.specs.Prelude.{◌≡◌, ◌<◌, IfSome};
 ghost use Rattle.nj_edge_env.specs.Cited.{text_known, taller, with_text};
 
-/// Of how many keys of a rule texts are kept: of all that Ninja knows. If a rule had more, the
-/// others would be expanded at each reference.
+/// How many keys of a rule have their texts kept: as many as Ninja knows. If a rule had more keys,
+/// the others would be expanded at each reference.
 pub(crate) const KEYS: usize = 11;
 
 // Where the text of a key is, and its height: how many lines of the rule are nested below the key's
@@ -16,7 +16,7 @@ pub(crate) struct KeyText {
     pub(crate) height: usize,
 }
 
-// The text of the key with the given number, if it is known and no higher than this.
+// The text of the key with the given number, if it is known and its height is at most `depth`.
 pub(crate) fn text_known(known: &[Option<KeyText>], number: usize, depth: usize) -> Option<KeyText>
     ensures { result ≡ text_known known.now number depth }
 {
@@ -29,7 +29,7 @@ pub(crate) fn text_known(known: &[Option<KeyText>], number: usize, depth: usize)
     }
 }
 
-// The height of a line with one more reference, below which this many lines are nested. `None` if a
+// The height of a line with one more reference, below which `below` lines are nested. `None` if a
 // reference was cut off.
 pub(crate) fn taller(height: Option<usize>, below: Option<usize>, depth: usize) -> Option<usize>
     requires { IfSome below (λ b. b < depth) }

@@ -9,17 +9,18 @@ use nj_text::Part;
 use std::alloc::{AllocError, Global};
 use std::marker::Model;
 
-// A key of a rule, and for each key of the rule, by number, whether its value refers to that one.
+// A key of a rule, and for each key of the rule, by number, whether the value of the former refers
+// to the latter.
 #[derive(Drop)]
 struct ReferringKey {
     name: Vec<u8>,
     refers: Vec<bool>,
 }
 
-/// Which keys of a rule refer to which where no block binds one ("Rule variables" in the Ninja
-/// manual). It is made once for a rule, and tells for each edge that uses the rule whether
-/// variables refer to each other in a cycle, in time bounded by the number of keys. It has no key
-/// of a rule that has no cycle, whatever a block binds.
+/// Which keys of a rule refer to which if no block binds any of them ("Rule variables" in the Ninja
+/// manual). It is made once for a rule, and determines for each edge that uses the rule whether
+/// variables refer to each other in a cycle, in time bounded by the number of keys. It is empty for
+/// a rule that cannot have a cycle, whatever a block binds.
 #[derive(Drop)]
 pub struct KeyReferences {
     // in byte order
@@ -54,7 +55,7 @@ impl KeyReferences {
         })
     }
 
-    // How many keys there are.
+    // The number of keys.
     pub(crate) fn key_count(&self) -> usize
         ensures { result ≡ length self.now }
     {
@@ -69,7 +70,7 @@ impl KeyReferences {
         self.keys[number].name.as_slice()
     }
 
-    // Whether the value of a key refers to another one, or to itself.
+    // Whether the value of a key refers to another key, or to itself.
     pub(crate) fn refers(&self, key: usize, other: usize) -> bool
         ensures { result ≡ slice_index_or (row_at self.now key) other false }
     {
@@ -80,7 +81,7 @@ impl KeyReferences {
     }
 }
 
-// Whether the mark of this number is set; there is none after the end.
+// Whether the mark with the given number is set; marks past the end are not set.
 pub(crate) fn is_marked(marks: &[bool], number: usize) -> bool
     ensures { result ≡ slice_index_or marks.now number false }
 {
@@ -115,7 +116,8 @@ fn sorted_keys<'a>(alloc: Global, rule: &'a Rule) -> Result<Vec<&'a [u8]>, Alloc
     Ok(names)
 }
 
-// The key with the given name, and for each of these names whether its value refers to it.
+// The key with the given name, and for each of the given names whether the value of the key refers
+// to it.
 fn referring_key(
     alloc: Global,
     rule: &Rule,
@@ -133,7 +135,7 @@ fn referring_key(
     Ok(ReferringKey { name, refers })
 }
 
-// Whether the value of the key refers to the name where no block binds the key.
+// Whether the value of the key refers to the name if no block binds the key.
 fn refers_unbound(rule: &Rule, key: &[u8], name: &[u8]) -> bool
     ensures { result ≡ refers_unbound rule.now.lines key.now name.now }
 {
@@ -143,7 +145,7 @@ fn refers_unbound(rule: &Rule, key: &[u8], name: &[u8]) -> bool
     }
 }
 
-// The value of a key that counts where no block binds the key.
+// The value that the rule gives to the key, and that counts if no block binds the key.
 fn value_unbound<'a>(rule: &'a Rule, key: &[u8]) -> Option<&'a LateValue>
     ensures { option_copied result ≡ rule_value unbound rule.entry.now.lines key.now }
 {

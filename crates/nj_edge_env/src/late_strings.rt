@@ -45,7 +45,8 @@ impl<'a> LateEdge<'a> {
         }
     }
 
-    // Whether nothing gives the name a value: it may be empty nevertheless where this is `false`.
+    // Whether the value of the name is known to be empty. If this is `false`, it may still be
+    // empty.
     fn gives_nothing(&self, name: &[u8]) -> bool
         ensures { (entries : List ReadStatement) (around : List ℕ)
             → DeclaredBy self.now.declarations.now entries
@@ -122,8 +123,9 @@ impl<'a> LateEdge<'a> {
         Ok(height)
     }
 
-    // Appends the value of a name to which a line of the rule refers, through at most `depth` lines,
-    // its own among them. Returns its height, or `None` if it or a reference in it was cut off.
+    // Appends the value of a name to which a line of the rule refers, through at most `depth`
+    // lines, including its own. Returns its height, or `None` if it or a reference in it was cut
+    // off.
     #[cycle(appending)]
     fn append_below(
         &self,
@@ -144,8 +146,8 @@ impl<'a> LateEdge<'a> {
         self.append_within(out, known, name, quoting, depth - 1)
     }
 
-    // Appends the value of the name, unless a line of the rule binds it: then returns the number of
-    // the line's key.
+    // Appends the value of the name, unless a line of the rule binds it; in that case returns the
+    // number of the line's key.
     fn append_plain(
         &self,
         out: &mut Vec<u8>,
@@ -179,7 +181,7 @@ impl<'a> LateEdge<'a> {
         Ok(None)
     }
 
-    // The value of the name in the file; a phony edge runs nothing.
+    // The value of the name in the file; phony edges are never run.
     fn file_value(&self, name: &[u8]) -> &[u8]
         ensures { (entries : List ReadStatement) (around : List ℕ)
             → DeclaredBy self.now.declarations.now entries
@@ -195,8 +197,8 @@ impl<'a> LateEdge<'a> {
     }
 }
 
-// The number of a key to which the rule gives a value: for a name that determines an edge's
-// command, a value without parts is none.
+// The number of a key to which the rule gives a value. For a name that determines an edge's
+// command, a value without parts does not count.
 fn given_key(rule: &Rule, key: &[u8]) -> Option<usize>
     ensures number { IfSome result (IsNumber rule.now.lines key.now) }
     ensures given { is_some result ≡ is_some (value_given rule.now.lines key.now) }

@@ -7,8 +7,8 @@ use crate::number_lists::NumberLists;
 use nj_names::short_number;
 use std::alloc::AllocError;
 
-// The value of a name in the block of an edge: a part of the text of all values. There are many of
-// these, so numbers have 32 bits.
+// The value of a name in the block of an edge: a part of the text of all values. There are many
+// bounds, so their numbers have 32 bits.
 #[derive(Clone, Copy)]
 pub(crate) struct Bound {
     pub(crate) edge: u32,
@@ -25,7 +25,7 @@ pub(crate) fn value_at(text: &[u8], bound: Bound) -> &[u8]
     &text[bound.start as usize..bound.end as usize]
 }
 
-// The bound of this edge, if any. While an edge is read, its bounds are the last ones.
+// The bound of the edge, if any. While an edge is read, its bounds come last.
 pub(crate) fn bound_of(bounds: &[Bound], edge: usize) -> Option<Bound>
     requires { AreRising bounds.now }
     ensures { result ≡ bound_of bounds.now edge }
@@ -43,7 +43,7 @@ pub(crate) fn bound_of(bounds: &[Bound], edge: usize) -> Option<Bound>
     searched(bounds, edge)
 }
 
-// The bound of this edge, by a binary search.
+// The bound of the edge, by a binary search.
 fn searched(bounds: &[Bound], edge: usize) -> Option<Bound>
     requires { AreRising bounds.now }
     ensures { result ≡ bound_of bounds.now edge }
@@ -56,8 +56,8 @@ fn searched(bounds: &[Bound], edge: usize) -> Option<Bound>
     }
 }
 
-// Binds the name with the given number in the block of this edge, in place of an earlier value
-// there; a name that the block did not bind yet is listed.
+// Binds the name with the given number in the block of the edge, replacing any earlier value there;
+// a name that the block did not bind yet is listed.
 pub(crate) fn bind_value(
     bounds: &mut Vec<Bound>,
     text: &mut Vec<u8>,
@@ -86,8 +86,8 @@ pub(crate) fn bind_value(
     set_bound(bounds, lists, number, bound)
 }
 
-// Where the value is in the text: where the value of the last bound is, if it is the same; else at
-// the end, to which it is then appended.
+// The bound of the value in the text: it shares the text of the last bound if that has the same
+// value; otherwise the value is appended.
 fn bound_to(
     bounds: &[Bound],
     text: &mut Vec<u8>,
@@ -120,7 +120,7 @@ fn push_value(text: &mut Vec<u8>, edge: usize, value: &[u8]) -> Result<Bound, Al
 }
 
 // Appends the bound, and lists the name with the given number for its edge; or replaces the last
-// bound if that is of the same edge, which then has the name in its list.
+// bound if it belongs to the same edge, which then has the name in its list.
 fn set_bound(
     bounds: &mut Vec<Bound>,
     lists: &mut NumberLists,

@@ -7,8 +7,9 @@ use nj_names::short_number;
 use std::alloc::{AllocError, Global};
 use std::marker::Model;
 
-/// A list of numbers for each edge, up to the last that has any. The lists follow one another in
-/// one list of numbers, each of 32 bits, and 32 bits give the start of an edge's list.
+/// A list of numbers for each edge, up to the last edge that has any. The lists are stored one
+/// after another in a single list of 32-bit numbers, and the start of each edge's list is a 32-bit
+/// index.
 #[derive(Drop)]
 pub(crate) struct NumberLists {
     numbers: Vec<u32>,
@@ -27,7 +28,7 @@ impl Model for NumberLists {
 }
 
 impl NumberLists {
-    /// No edge has any number. It allocates nothing.
+    /// Empty lists for all edges. It allocates nothing.
     pub(crate) fn new(alloc: Global) -> NumberLists
         ensures { result ≡ [] }
     {
@@ -37,14 +38,14 @@ impl NumberLists {
         }
     }
 
-    /// The numbers of this edge.
+    /// The numbers of the edge.
     pub(crate) fn list(&self, edge: usize) -> &[u32]
         ensures { result.now ≡ list_at self.now edge }
     {
         part_from(self.numbers.as_slice(), self.starts.as_slice(), edge)
     }
 
-    /// Appends a number to the list of this edge, where no edge after it has a list.
+    /// Appends a number to the list of an edge. Later edges must not have lists yet.
     pub(crate) fn push(&mut self, edge: u32, number: usize) -> Result<(), AllocError>
         requires { length self.old ≤ edge + 1 }
         ensures pushed { OnOk result ((e : ℕ) → list_at self.new e
@@ -61,7 +62,7 @@ impl NumberLists {
     }
 }
 
-// Appends this start until there are this many.
+// Appends the given start until there are `count` starts.
 fn pad(starts: &mut Vec<u32>, count: usize, start: u32) -> Result<(), AllocError>
     requires { length starts.old.items ≤ count }
     ensures padded { OnOk result (starts.new.items
@@ -71,7 +72,7 @@ fn pad(starts: &mut Vec<u32>, count: usize, start: u32) -> Result<(), AllocError
     starts.resize(count, start)
 }
 
-// The part of the numbers that starts where this index gives, and ends where the next one does.
+// The part of the numbers between the start at the given index and the next start.
 fn part_from<'a>(numbers: &'a [u32], starts: &[u32], index: usize) -> &'a [u32]
     requires { AreStarts (length numbers.now) starts.now }
     ensures { result.now ≡ list_at (lists_of numbers.now starts.now) index }
@@ -84,7 +85,7 @@ fn part_from<'a>(numbers: &'a [u32], starts: &[u32], index: usize) -> &'a [u32]
     part(numbers, start, end)
 }
 
-// Where the part of this index starts; after the last index all parts are past.
+// The start of the part at the given index, or `past` after the last index.
 fn start_at(starts: &[u32], index: usize, past: usize) -> usize
     ensures { result ≡ slice_index_or starts.now index past }
 {
@@ -94,7 +95,7 @@ fn start_at(starts: &[u32], index: usize, past: usize) -> usize
     }
 }
 
-// The numbers between these indices.
+// The numbers between the given indices.
 fn part(numbers: &[u32], start: usize, end: usize) -> &[u32]
     requires rises { start ≤ end }
     requires within { end ≤ length numbers.now }

@@ -3,7 +3,7 @@
 ghost use Rattle.std.specs.Prelude.{◌≡◌};
 ghost use Rattle.nj_edge_env.specs.Cited.{names_paths, is_of_command, is_quoted};
 
-/// Whether the name means paths of an edge.
+/// Whether the name denotes paths of an edge.
 pub(crate) fn names_paths(name: &[u8]) -> bool
     ensures { result ≡ names_paths name.now }
 {
@@ -19,7 +19,7 @@ pub(crate) fn is_of_command(name: &[u8]) -> bool
         || name == b"rspfile_content".as_slice()
 }
 
-/// Whether paths are quoted for a shell in the value of this name.
+/// Whether paths are quoted for a shell in the value of the name.
 pub(crate) fn is_quoted(asked: &[u8]) -> bool
     ensures { result ≡ is_quoted asked.now }
 {

@@ -76,7 +76,7 @@ last-edge test es e new = by (test e) refl
     by false fails = ap (λ o. is_edge o (length es)) (first-more test es e fails)
         ∙ other (first_edge test es) (first-below test es)
 
--- a number among numbers of files is one
+-- a number among numbers of files is the number of a file
 has-below : (count n : ℕ) (ns : List FileNo) → AreNumbers count ns → has_number n ns ≡ true → n < count
 has-below count n [] are h = absurd (true≢false (sym h))
 has-below count n (f ∷ ns) are h = grind (arith, common_steps, (has-below count n ns are.1))
@@ -144,7 +144,7 @@ module _ (files : List (List ℕ)) (l : Lists) (held : TableIsHeld files l) (pat
   pub within-all : f.0 < length ms
   within-all = subst (λ k. f.0 < k) (sym held-name.makers_count) within-files
 
-  -- a file was there, or it is the one that is named
+  -- a file existed before, or it is the file that is named
   old-or-named : (m : ℕ) → m < length fs → (m < length files) ⊎ (m ≡ f.0)
   old-or-named m below = by cases
     where
@@ -159,7 +159,7 @@ module _ (files : List (List ℕ)) (l : Lists) (held : TableIsHeld files l) (pat
           (eqb_tells m f.0)
       by (inr old) = inl (subst (λ xs. m < length xs) (now.files_are ∙ old.same) below)
 
-  -- whether an edge of these lists names a file
+  -- whether an edge of the lists names a file
   abbrev names : (k : Lists) → (m : ℕ) → Bool
   names k m = has_number m k.outputs || has_number m k.inputs || has_number m k.validations
 

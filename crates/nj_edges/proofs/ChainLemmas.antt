@@ -43,7 +43,7 @@ use Rattle.nj_edges.proofs.SearchLemmas.{search-begins, search-continues}
 
 -- ---- files
 
--- no two files have one path
+-- no two files share a path
 pub only-file : (files : List (List ℕ)) → IsDistinct bytes_eq files → (f h : FileNo) → f.0 < length files
     → h.0 < length files → path_at files f ≡ path_at files h → f ≡ h
 only-file files distinct f h f_below h_below same =

@@ -243,7 +243,7 @@ module _ (g : EdgeGraph) (kinds : ChainKinds) (first : ℕ) (to : List ℕ) (old
         let more = adds.added i past within in
         subst (ComesFromBefore (place + 1)) (sym more.1) (omega (arith, more.2))
 
-    -- it comes after those that were there
+    -- it comes after the existing arrivals
     added-after : (o : Option Arrival) → ComesFromBefore place o → ComesBefore o (slice_index_or after i None)
     added-after o behind =
         let more = adds.added i past within in
@@ -345,7 +345,7 @@ module _ (g : EdgeGraph) (kinds : ChainKinds) (first : ℕ) (to : List ℕ) (old
 
 -- ---- at the end
 
--- one that is before another is before what that is not after
+-- an arrival before another is also before anything that the other is not after
 sooner-through : (arrival : Arrival) (o : Option Arrival) (p k : ℕ) → ComesBefore (Some arrival) o
     → ComesSooner o p (suc k) → ComesSooner (Some arrival) p k
 sooner-through arrival None p k before sooner = absurd before
@@ -375,7 +375,7 @@ module _ (g : EdgeGraph) (kinds : ChainKinds) (first : ℕ) (to : List ℕ) (fou
     led-reached (suc n) edge rest whole (s, step, made, led) =
         (s.edge.0, led-reached n s.edge.0 (s ∷ rest) whole led, step-makes g kinds s edge step made)
 
-    -- a place with these steps is not after another with those
+    -- place `i` with `steps` is not after place `j` with `rest`
     abbrev IsAhead : (i j : ℕ) → (steps rest : List Step) → Type 0
     IsAhead i j steps rest = (i < j) ⊎ ((i ≡ j) × IsNotAfter steps rest)
 
@@ -401,7 +401,7 @@ module _ (g : EdgeGraph) (kinds : ChainKinds) (first : ℕ) (to : List ℕ) (fou
     first-alone j None before comes arrives zero_is = comes
     first-alone j (Some arrival) before comes arrives zero_is = absurd (omega (arith, arrives.1, zero_is))
 
-    -- an edge that leads to one of a distance, reached in one step less, was searched
+    -- an edge that leads to an edge at a distance, and is reached in one step less, was searched
     pub record IsSearchedAt (n edge : ℕ) : Type 0 where
       pub place_is : ℕ
       pub within : place_is < length found.numbers

@@ -13,7 +13,7 @@ use Rattle.nj_edges.specs.EdgeGraphs.{EdgeGraph}
 use Rattle.nj_names.specs.Files.{path_at}
 use Rattle.nj_edges.proofs.ChangeRows.{a, b, build, four, p, s, v}
 
--- these inputs count
+-- the inputs that count
 abbrev inputs : ChainKinds
 inputs = record { order_only = true; validations = false }
 
@@ -49,7 +49,7 @@ by-phony = (
   (refl, record { file = omega arith; input = refl; kind = refl }, refl),
 )
 
--- an edge without inputs that count begins no chain
+-- an edge without inputs that count does not begin a chain
 begins-none : (kinds : ChainKinds) (edge : ℕ) (from to : List ℕ) → maker_of four from ≡ Some edge
     → inputs_with kinds (edge_at four edge) ≡ [] → (steps : List Step) → IsChain graph kinds from steps to → ⊥
 begins-none kinds edge from to maker empty [] none = none
@@ -91,7 +91,8 @@ past-order-only = (refl, record { file = omega arith; input = refl; kind = refl 
 after-order-only : IsChain validated and_validations a (step_by 0 2 3 None ∷ []) v
 after-order-only = (refl, record { file = omega arith; input = refl; kind = refl }, refl)
 
--- ---- `build a: cc p v`; `build p: cc s`; `build v: cc s`: of two chains the one by the first input counts
+-- ---- `build a: cc p v`; `build p: cc s`; `build v: cc s`: of two chains, the chain by the first input is
+-- returned
 
 abbrev diamond : EdgeGraph
 diamond = record {

@@ -30,14 +30,14 @@ among-contains path paths is = Contains-from_any same-path path paths is
 contains-among : (path : List ℕ) (paths : List (List ℕ)) → Contains paths path → is_among paths path ≡ true
 contains-among path paths has = list_any-from_Contains nat_list_eq_equiv path paths has
 
--- edge `e` has one of the paths that are among these as an input
+-- edge `e` has one of the given paths as an input
 input-of : (path : List ℕ) (paths : List (List ℕ)) (e : EdgePaths) → is_among paths path ≡ true
     → is_among (inputs_of e) path ≡ true → has_input_of paths e ≡ true
 input-of path paths e is input = grind (arith, among-contains, list_any-from_Any)
 
 -- ---- makers
 
--- the edge without files that is past the last one
+-- the edge without files that is past the last edge
 abbrev no-edge : EdgePaths
 no-edge = edge_at [] 0
 
@@ -86,7 +86,7 @@ apart-left (p ∷ paths) others path apart is =
         (subst (λ q. is_among others q ≡ true) (same-path path p same) is))
     by false other rest = rest
 
--- where no file has two makers, an edge is the maker of its outputs
+-- if no file has two makers, an edge is the maker of its outputs
 output-maker : (edges : List EdgePaths) → IsDistinct bytes_eq (flat_map outputs_of edges)
     → (path : List ℕ) (f : ℕ) → is_among (outputs_of (edge_at edges f)) path ≡ true
     → maker_of edges path ≡ Some f

@@ -81,7 +81,7 @@ module _ (files_of : EdgePaths → List (List ℕ)) (none : files_of (edge_at []
   has-user is = passes-from (λ x. is_among (files_of x) path) (edge_at [] 0)
       (ap (λ ps. is_among ps path) none) edges 0 e (e, omega arith, is)
 
--- one of these paths, or one more, is among some
+-- one of the paths, or one more path, is among some paths
 has-more : (paths : List (List ℕ)) (path : List ℕ) (some : List (List ℕ))
     → list_any (is_among some) (paths ++ path ∷ []) ≡ (list_any (is_among some) paths || is_among some path)
 has-more paths path some = grind (arith, common_steps)
@@ -152,7 +152,7 @@ finds-one old edge = by (has old.numbers edge) refl
       stays = λ i within. at_left old.numbers edge i within;
     }
 
--- the first edges of a list, and one more
+-- the first edges of a list, and one more edge
 pub finds-edge : (first old new : NumberSetModel) (edges : List EdgeNo) (i : ℕ) (d : EdgeNo)
     → i < length edges
     → FindsMore (Contains (numbers_of (take i edges))) first old
@@ -180,7 +180,7 @@ finds-edge first old new edges i d below a b =
     more = ap numbers_of (take_more edges i d below)
         ∙ map_push (λ (e : EdgeNo). e.0) (take i edges) (get_or edges i d)
 
--- the users of the first files of a list, and of one more
+-- the users of the first files of a list, and of one more file
 module _ (files_of : EdgePaths → List (List ℕ)) (none : files_of (edge_at [] 0) ≡ []) (edges : List EdgePaths)
     (files : List (List ℕ)) where
   abbrev has-one : List (List ℕ) → ℕ → Bool
@@ -292,7 +292,7 @@ module _ (edges : List EdgePaths) (files : List (List ℕ)) where
     pub finding-ends : (e : ℕ) → Contains found.numbers e ↔ IsAffected edges files e
     finding-ends e = (held.sound e, all-found e)
 
--- the flags of a set tell its members
+-- the flags of a set mark its members
 pub flags-are : (flags : List Bool) (numbers : List ℕ) (P : ℕ → Type 0)
     → ((n : ℕ) → get_or flags n false ≡ has numbers n) → ((e : ℕ) → Contains numbers e ↔ P e) → (e : ℕ)
     → IsFlagged flags e ↔ P e

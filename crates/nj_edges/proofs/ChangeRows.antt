@@ -5,7 +5,7 @@ use Rattle.nj_edges.specs.Edges.{EdgePaths, edge_at, is_among, outputs_of}
 use Rattle.nj_edges.specs.Changes.{IsAffected, has_input_of}
 use Rattle.nj_edges.specs.Changes.IsAffected.{by_file, by_edge}
 
--- a build statement with these inputs, order-only inputs and validations
+-- a build statement with the given inputs, order-only inputs and validations
 abbrev pub build : (output : List ℕ) → (inputs order_only validations : List (List ℕ)) → (is_phony : Bool)
     → EdgePaths
 build output inputs order_only validations is_phony = record {

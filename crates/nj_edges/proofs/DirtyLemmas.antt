@@ -30,7 +30,7 @@ other-edges-are-untouched edges files dirty edge clean = record {
 
 -- ---- a part of an edge
 
--- the inputs that are not order-only are the first ones
+-- the inputs that are not order-only come first
 pub none-in : (part : RowPart) → paths_in part (edge_at [] 0) ≡ []
 none-in Inputs = refl
 none-in CountedInputs = refl

@@ -95,7 +95,7 @@ pub within-append : (ns others : List FileNo) (span : Span) (start : ℕ) → Is
 within-append ns others span start inside le = let rises = inside.rises in let ends = inside.ends in
     slice_range-append ns others span.start span.end rises (omega arith)
 
--- the paths of some files, and one more
+-- the paths of some files, and one more path
 pub paths_at-push : (files : List (List ℕ)) (ns : List FileNo) (f : FileNo) (path : List ℕ)
     → slice_get files f.0 ≡ Some path → paths_at files (ns ++ f ∷ []) ≡ paths_at files ns ++ path ∷ []
 paths_at-push files ns f path here = map_push (path_at files) ns f
@@ -174,7 +174,7 @@ module _ (files : List (List ℕ)) (l : Lists) (held : EdgesAreHeld files l) (ot
 
 -- ---- naming a file
 
--- an element of a list with one more is the last one, or one of the others
+-- an element of a list with one more element is the last element, or one of the others
 pub get-push : {X : Type 0} (xs : List X) (x y : X) (n : ℕ) → slice_get (xs ++ x ∷ []) n ≡ Some y
     → (n ≡ length xs) ⊎ ((n < length xs) × (slice_get xs n ≡ Some y))
 get-push [] x y zero h = inl refl
@@ -486,7 +486,7 @@ first-last test (x ∷ es) e none passes = by (test x) none (λ h. first-last te
     by false h more = ap (option_map (λ n. n + 1)) (more (no-more (first_edge test es) h))
         ∙ ap Some (add-one (length es))
 
--- another row at the end, which the test tells no differently
+-- another row at the end, for which the test has the same result
 pub first-other : {E : Type 0} (test : E → Bool) (es : List E) (e e' : E) → test e ≡ test e'
     → first_edge test (es ++ e ∷ []) ≡ first_edge test (es ++ e' ∷ [])
 first-other test [] e e' same = ap (λ b. cond b (Some 0) None) same
@@ -538,7 +538,7 @@ first-again test es e e' some passes = by (test e) refl
 
 module _ (files : List (List ℕ)) (l : Lists) (held : EdgesAreHeld files l) (others : List FileNo)
     (are : AreNumbers (length files) others) where
-  -- the parts of edges are before the files of the one that is being read
+  -- the parts of edges are before the files of the edge that is being read
   parts-inside : (part : EdgeRow → Span) (end : ℕ)
       → ((row : EdgeRow) → RowIsWithin l.starts row → IsWithin (part row) end)
       → AllByRecursion (λ span. IsWithin span end) (map part l.rows)
@@ -653,7 +653,7 @@ module _ (files : List (List ℕ)) (l : Lists) (held : EdgesAreHeld files l) (f 
       by m small (inr apart) = first-other (has_number m) (read_outputs l) next (next ++ f ∷ [])
           (has-still m apart.0)
 
-  -- a file whose maker is none is made by none
+  -- a file whose maker is `None` is not made by any edge
   pub unmade : (found : Option ℕ) → found ≡ get_or l.makers f.0 None → is_some found ≡ false
       → first_edge (has_number f.0) (output_rows l) ≡ None
   unmade found is none = grind (arith, absent, get_or_from_slice_get, within-list)

@@ -64,7 +64,7 @@ pub kinds-joined : (paths : List (List ℕ)) (explicit implicit : ℕ) → expli
     → (take explicit paths ++ slice_range paths explicit implicit) ++ drop implicit paths ≡ paths
 kinds-joined paths explicit implicit le = grind (arith, append_assoc, drop_split, take-append-drop)
 
--- and those that are not order-only
+-- and the inputs that are not order-only
 pub counted-joined : (paths : List (List ℕ)) (explicit implicit : ℕ) → explicit ≤ implicit
     → take explicit paths ++ slice_range paths explicit implicit ≡ take implicit paths
 counted-joined paths explicit implicit le =
@@ -222,7 +222,7 @@ module _ (files : List (List ℕ)) (e : EdgePaths) (outputs inputs validations :
   files-are ns part are same = subst (AreFiles files ns) (same ∙ ap part (sym has.is))
       (files-at files ns are)
 
-  -- the first of some files, and the files after these
+  -- the first of some files, and the files after them
   first-are : (ns : List FileNo) (count : ℕ) (part : EdgePaths → List (List ℕ))
       → AreNumbers (length files) ns → take count (paths_at files ns) ≡ part read
       → AreFiles files (take count ns) (part e)

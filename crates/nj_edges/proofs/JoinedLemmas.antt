@@ -40,7 +40,7 @@ use Rattle.nj_edges.proofs.RootLemmas.{outputs-joined}
 
 -- ---- the edges that were read
 
--- the first that passes is not the last, or none of the others does
+-- the first element that passes is not the last, or none of the others passes
 abbrev AreParts : {E : Type 0} → (E → Bool) → List E → (found : Option ℕ) → Type 0
 AreParts test es found =
     ((n : ℕ) × (found ≡ Some n) × (n < length es) × (first_edge test es ≡ Some n))
@@ -64,7 +64,7 @@ module _ (files : List (List ℕ)) (l : Lists) (held : EdgesAreHeld files l) (t 
       none-make absent rs,
     )
 
-    -- a path of no file has no maker
+    -- a path without a file has no maker
     pub unmade-path : list_any (bytes_eq path) files ≡ false → maker_of t.edges path ≡ None
     unmade-path absent = ap (λ (u : EdgeTable). maker_of u.edges path) (sym is)
         ∙ first-none (λ e. is_among (outputs_of e) path) (edges_of files l) (none-make absent l.rows)
@@ -147,7 +147,7 @@ module _ (files : List (List ℕ)) (l : Lists) (held : EdgesAreHeld files l) (t 
 
 -- ---- an edge with its additions
 
--- the kinds of inputs, with some more before the last ones
+-- the kinds of inputs, with some more inputs before the last ones
 module _ {X : Type 0} (first more last : List X) (end : ℕ) (inside : end ≤ length first) where
   take-more : take end ((first ++ more) ++ last) ≡ take end (first ++ last)
   take-more = grind (arith, common_steps)
@@ -159,7 +159,7 @@ module _ {X : Type 0} (first more last : List X) (end : ℕ) (inside : end ≤ l
   drop-more : drop (length (first ++ more)) ((first ++ more) ++ last) ≡ drop (length first) (first ++ last)
   drop-more = drop-append_seam (first ++ more) last ∙ sym (drop-append_seam first last)
 
--- an edge with these paths
+-- an edge with the given paths
 abbrev edge_with : (outputs inputs validations : List (List ℕ)) → KindEnds → Bool → EdgePaths
 edge_with outputs inputs validations kinds is_phony = edge_read
     (record { outputs = outputs; inputs = inputs; validations = validations }) kinds is_phony
@@ -202,7 +202,7 @@ module _ (files : List (List ℕ)) (e : EdgePaths) (outputs inputs validations :
   abbrev new_kinds : KindEnds
   new_kinds = kinds_with kinds (length first + length more)
 
-  -- what is read of it
+  -- the edge that is read, with its additions
   abbrev read : OpenEdge
   read = record {
     outputs = paths_at files outputs ++ paths_at files (within all_outputs spans.outputs);

@@ -369,7 +369,7 @@ module _ (t : EdgeTable) (added : List (Option AddedSpans)) (open_outputs open_i
         rw (changed, was, drop-length t.«open».outputs, drop-length t.«open».inputs)
         (ap (λ v. with_joined v edge) is)
 
--- ---- nothing is added yet
+-- ---- before anything is added
 
 map-same : {X Y : Type 0} (f : X → Y) (count : ℕ) (x : X) → map f (replicate count x) ≡ replicate count (f x)
 map-same f zero x = refl

@@ -1,4 +1,4 @@
--- Inputs that are added to an edge, worked out on a small one.
+-- Inputs that are added to an edge, worked out on a small edge.
 use Rattle.std.proofs.Common.{◌≡◌, List, ℕ, [], ◌∷◌, false, refl}
 use Rattle.nj_edges.specs.Edges.{EdgePaths}
 use Rattle.nj_edges.specs.Joining.{with_added}
@@ -9,7 +9,7 @@ use Rattle.nj_edges.proofs.ChangeRows.{a, b, build, p, s, v}
 abbrev edge : EdgePaths
 edge = record (build b (a ∷ []) (p ∷ []) [] false) { implicit_inputs = s ∷ [] }
 
--- the edge with the inputs that are added to it where these paths are named
+-- the edge with the inputs that are added to it if the given paths are named
 abbrev edge-naming : List (List ℕ) → EdgePaths
 edge-naming paths = with_added (record { outputs = []; inputs = new_inputs edge paths }) edge
 

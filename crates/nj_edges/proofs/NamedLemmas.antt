@@ -142,7 +142,7 @@ module _ (files : List (List ℕ)) (l : Lists) (held : EdgesAreHeld files l) (pa
       (sym (any-parts (λ e. is_among (outputs_of e) path) (λ e. is_among (inputs_of e) path)
       (λ (e : EdgePaths). is_among e.validations path) (edges_of files l)))
 
-  -- a file that edges name is one that is held
+  -- a file that edges name is held
   pub named-number : (n : ℕ) → slice_get files n ≡ Some path
       → is_named_so_far (table_of files l) path ≡ true
       → (has_number n l.outputs || has_number n l.inputs || has_number n l.validations) ≡ true

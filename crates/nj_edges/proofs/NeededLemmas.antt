@@ -32,7 +32,7 @@ push-some os e has o = Contains-append_left os (o ∷ []) (Some e) has
 same-some : (e f : ℕ) → Some e ≡ Some f → e ≡ f
 same-some e f is = cc
 
--- some makers, and one more that is an edge, or none
+-- some makers, and one more, which is an edge or `None`
 module _ (os : List (Option ℕ)) (first old new : NumberSetModel)
     (a : FindsMore (λ e. Contains os (Some e)) first old) where
   pub finds-maker : (edge : ℕ) → FindsMore (λ e. e ≡ edge) old new
@@ -56,7 +56,7 @@ finds-source os first old a =
     (λ e has. elim (Contains-push_cases os None (Some e) has) [ inl was ↦ inl was | inr is ↦ absurd cc ])
     a (finds-none (λ e. ⊥) old (λ e no. absurd no))
 
--- the makers of the first files of a list, and of one more
+-- the makers of the first files of a list, and of one more file
 module _ (edges : List EdgePaths) (files : List (List ℕ)) where
   abbrev makers : List FileNo → List (Option ℕ)
   makers ns = map (maker_of edges) (map (path_at files) ns)
@@ -153,7 +153,7 @@ module _ (edges : List EdgePaths) (files : List (List ℕ)) where
         rises = held.rises;
       }
 
--- the edges of numbers below the count
+-- the edges with numbers below the count
 pub numbered-below : (es : List EdgeNo) (numbers : List ℕ) (limit count : ℕ) → numbers_of es ≡ numbers
     → All (λ n. n < limit) numbers → limit ≡ count → All (λ e. e.0 < count) es
 numbered-below es numbers limit count are below same = λ k d within.

@@ -20,7 +20,7 @@ contains-after : (x : ℕ) (xs : List ℕ) (y : ℕ) → Contains xs y → Conta
 contains-after x xs y has = (suc has.0, omega (arith, has.1), has.2)
 
 module _ {E : Type 0} (test : E → Bool) where
-  -- ---- which edges these are
+  -- ---- which edges pass
 
   module _ (d : E) (none : test d ≡ false) where
     -- the edge with the given number, counted from `k`, passes the test

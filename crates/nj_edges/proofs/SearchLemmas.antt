@@ -11,8 +11,8 @@ use Rattle.nj_edges.specs.Distances.{IsReachedIn}
 use Rattle.nj_edges.specs.Inside.ChangesHeld.{FindsMore}
 use Rattle.nj_edges.specs.Inside.SearchHeld.{IsSearched}
 
--- an edge found before has its distance, and one found now is a step farther than the edge from
--- which it is found
+-- an edge found before has its distance, and an edge found now is a step farther than the edge from which it
+-- is found
 abbrev pub farther : (distance : ℕ → ℕ) → (before : List ℕ) → (from : ℕ) → ℕ → ℕ
 farther distance before from e = cond (has before e) (distance e) (suc (distance from))
 
@@ -36,7 +36,7 @@ module _ (begins : ℕ → Type 0) (step : ℕ → ℕ → Type 0) where
       → IsSearched begins step (λ e. 0) new.numbers 0
   search-begins none new empty finds = grind (arith, common_steps)
 
-  -- the edges to which the one at the place leads were found
+  -- the edges to which the edge at the place leads were found
   module _ (distance : ℕ → ℕ) (old new : NumberSetModel) (place : ℕ) (below : place < length old.numbers)
       (held : IsSearched begins step distance old.numbers place)
       (finds : FindsMore (step (slice_index old.numbers place)) old new) where
@@ -153,7 +153,7 @@ module _ (begins : ℕ → Type 0) (step : ℕ → ℕ → Type 0) where
       closed = closed-on;
     }
 
-  -- an edge reached in fewer steps than the one at the place was found before it, and is no farther
+  -- an edge reached in fewer steps than the edge at the place was found before it, and is not farther
   module _ (distance : ℕ → ℕ) (numbers : List ℕ) (place : ℕ)
       (held : IsSearched begins step distance numbers place) where
     abbrev IsFoundWithin : (steps e : ℕ) → Type 0

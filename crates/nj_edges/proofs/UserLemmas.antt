@@ -27,7 +27,7 @@ front-first edge xs = grind (arith, common_steps)
 front-twice : (edge : ℕ) (xs : List ℕ) → with_front edge (with_front edge xs) ≡ with_front edge xs
 front-twice edge xs = ap (λ b. cond b (with_front edge xs) (edge ∷ with_front edge xs)) (front-first edge xs)
 
--- another edge in front of the uses of a file, or the one that is there
+-- another edge in front of the uses of a file, or the edge that is already there
 plus-here : (f edge : ℕ) (uses : ℕ → List ℕ) → starts_with edge (uses f) ≡ false → (n : ℕ) → n ≡ f
     → plus_use f edge uses n ≡ edge ∷ uses n
 plus-here f edge uses other n same = grind (arith, common_steps)
@@ -73,7 +73,7 @@ pub capacity-next : (all uses : ℕ → List ℕ) (files : List FileNo) (i : ℕ
     → HaveCapacity all (plus_use (get_or files i d).0 edge (plus_uses (take i files) edge uses))
 capacity-next all uses files i d edge below capacity = grind (arith, common_steps, capacity-some, plus-next)
 
--- ---- the edges from the last one on
+-- ---- the edges from last to first
 
 edges-front : {E : Type 0} (k e : ℕ) (test : E → Bool) (es : List E) → e < k
     → with_front e (edges_from k test es) ≡ e ∷ edges_from k test es
@@ -105,7 +105,7 @@ edges-fewer k zero test es = grind (arith, common_steps)
 edges-fewer k (suc j) test [] = omega arith
 edges-fewer k (suc j) test (x ∷ xs) = grind (arith, common_steps, (edges-fewer (k + 1) j test xs))
 
--- the edges from a later one on have no more uses than all edges
+-- the edges from a later edge on do not have more uses than all edges
 pub rows-capacity : (files : List FileNo) (part : RowPart) (rows : List EdgeRow) (e : ℕ)
     → HaveCapacity (using_edges files part 0 rows) (using_edges files part e (drop e rows))
 rows-capacity files part rows e n =
@@ -180,7 +180,7 @@ module _ (all uses : ℕ → List ℕ) (places marks : List ℕ) (edges : List E
         other-is : (n : ℕ) → n ≢ f → get_or places' n 0 ≡ get_or places n 0
         other-is n apart = get_or-set_other places f n place 0 apart
 
-        -- the place of another file's edge is another one
+        -- the place of another file's edge is different
         apart-place : (n i : ℕ) → n < length places → n ≢ f → i < length (uses n)
             → get_or places n 0 + i ≢ place
         apart-place n i below differs i-below same = by (leb_tells n f)

@@ -5,20 +5,22 @@ use Rattle.nj_edges.specs.Edges.{EdgePaths, maker_of}
 use Rattle.nj_edges.specs.Needs.{makers_of_inputs}
 use Rattle.nj_edges.specs.Changes.{IsOrNeeds}
 
--- the edge makes one of these files
+-- the edge makes one of the files
 abbrev pub MakesOneOf : List EdgePaths → (files : List (List ℕ)) → (edge : ℕ) → Type 0
 MakesOneOf edges files edge = Contains (map (maker_of edges) files) (Some edge)
 
--- files need the edges that make them, and the edges that these need by any chain of inputs
+-- files need the edges that make them, and the edges that those edges need by any chain of inputs
 abbrev pub IsNeeded : List EdgePaths → (files : List (List ℕ)) → (edge : ℕ) → Type 0
 IsNeeded edges files edge = (maker : ℕ) × MakesOneOf edges files maker × IsOrNeeds edges maker edge
 
--- an edge is reached in this many steps: in none where steps begin, and in one more than the edge from which a step leads to it
+-- an edge is reached in the given number of steps: in 0 if steps begin there, or in one more step than an edge from
+-- which a step leads to it
 abbrev pub IsReachedIn : (begins : ℕ → Type 0) → (step : ℕ → ℕ → Type 0) → (steps edge : ℕ) → Type 0
 IsReachedIn begins step zero edge = begins edge
 IsReachedIn begins step (suc steps) edge = (e : ℕ) × IsReachedIn begins step steps e × step e edge
 
--- files need an edge by a chain of this many steps, each from an edge to one that makes an input of it
+-- files need an edge by a chain of the given number of steps, each from an edge to a maker of one of its
+-- inputs
 abbrev pub IsNeededIn : List EdgePaths → (files : List (List ℕ)) → (steps edge : ℕ) → Type 0
 IsNeededIn edges files steps edge = IsReachedIn (MakesOneOf edges files) (Needs (makers_of_inputs edges)) steps edge
 
@@ -27,7 +29,7 @@ pub record IsDistance (edges : List EdgePaths) (files : List (List ℕ)) (edge d
   pub chain : IsNeededIn edges files distance edge
   pub shortest : (steps : ℕ) → IsNeededIn edges files steps edge → distance ≤ steps
 
--- the distances of these edges never fall
+-- the distances of the edges never fall
 pub record AreNearestFirst (edges : List EdgePaths) (files : List (List ℕ)) (numbers : List ℕ) : Type 0 where
   pub distance : (edge : ℕ) → ℕ
   pub of_each : (edge : ℕ) → Contains numbers edge → IsDistance edges files edge (distance edge)

@@ -1,4 +1,4 @@
--- The edges that were read so far, and the one that is being read.
+-- The edges that were read so far, and the edge that is being read.
 use Rattle.std.specs.Prelude.{ℕ, ◌≤◌, ◌||◌, Bool, is_some, List, []}
 use Rattle.std.specs.Prelude.{◌∷◌, ◌++◌, take, drop, slice_range}
 use Rattle.nj_edges.specs.declared.edges.KindEnds.{KindEnds}
@@ -11,7 +11,7 @@ pub record OpenEdge : Type 0 where
   pub inputs : List (List ℕ)
   pub validations : List (List ℕ)
 
--- the paths of all files, without duplicates; the edges; and the one that is being read
+-- the paths of all files, without duplicates; the edges; and the edge that is being read
 pub record EdgeTable : Type 0 where
   pub files : List (List ℕ)
   pub edges : List EdgePaths
@@ -21,7 +21,7 @@ pub record EdgeTable : Type 0 where
 abbrev pub no_files : OpenEdge
 no_files = record { outputs = []; inputs = []; validations = [] }
 
--- the table, with a number for this path
+-- the table, with a number for the given path
 abbrev pub naming : EdgeTable → (path : List ℕ) → EdgeTable
 naming t path = record t { files = with_name t.files path }
 
@@ -49,16 +49,16 @@ plus_validation t path = record t { «open» = record t.«open» { validations =
 abbrev pub with_validation : EdgeTable → (path : List ℕ) → EdgeTable
 with_validation t path = plus_validation (naming t path) path
 
--- whether an edge makes the file, the one that is being read among them
+-- whether an edge makes the file, including the edge that is being read
 abbrev pub is_made : EdgeTable → (path : List ℕ) → Bool
 is_made t path = is_some (maker_of t.edges path) || is_among t.«open».outputs path
 
--- whether an edge names the file, the one that is being read among them
+-- whether an edge names the file, including the edge that is being read
 abbrev pub is_named_so_far : EdgeTable → (path : List ℕ) → Bool
 is_named_so_far t path =
     is_named t.edges path || (is_among t.«open».outputs path || is_among t.«open».inputs path || is_among t.«open».validations path)
 
--- the edge that was read, with these ends of its kinds
+-- the edge that was read, with the given ends of its kinds
 abbrev pub edge_read : OpenEdge → KindEnds → Bool → EdgePaths
 edge_read e ends is_phony = record {
   explicit_outputs = take ends.explicit_outputs e.outputs;

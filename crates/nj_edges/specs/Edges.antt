@@ -6,7 +6,8 @@ pub use Rattle.nj_names.specs.NameTables.{is_among}
 use Rattle.nj_edges.specs.declared.edges.Kind.{Kind}
 use Rattle.nj_edges.specs.declared.edges.Kind.TheVariants.{Explicit, Implicit, OrderOnly}
 
--- The paths of an edge by kind, and whether its rule is `phony`, so that it has no command. Validations are no inputs.
+-- The paths of an edge by kind, and whether its rule is `phony`, so that it has no command. Validations are not
+-- inputs.
 pub record EdgePaths : Type 0 where
   pub explicit_outputs : List (List ℕ)
   pub implicit_outputs : List (List ℕ)
@@ -16,7 +17,7 @@ pub record EdgePaths : Type 0 where
   pub validations : List (List ℕ)
   pub is_phony : Bool
 
--- the edge with the given number; past the last one, an edge without files
+-- the edge with the given number; past the last edge, an edge without files
 abbrev pub edge_at : List EdgePaths → (number : ℕ) → EdgePaths
 edge_at edges number = slice_index_or edges number (record {
   explicit_outputs = [];
@@ -28,11 +29,11 @@ edge_at edges number = slice_index_or edges number (record {
   is_phony = false;
 })
 
--- the outputs of an edge, the explicit ones first
+-- the outputs of an edge, explicit outputs first
 abbrev pub outputs_of : EdgePaths → List (List ℕ)
 outputs_of e = e.explicit_outputs ++ e.implicit_outputs
 
--- the first output, of the explicit ones if any
+-- the first explicit output, if any; otherwise the first output
 abbrev pub first_output : EdgePaths → Option (List ℕ)
 first_output e = slice_get (outputs_of e) 0
 
@@ -49,12 +50,12 @@ abbrev pub first_edge : {E : Type 0} → (E → Bool) → List E → Option ℕ
 first_edge test [] = None
 first_edge test (e ∷ edges) = if test e then Some 0 else option_map (λ n. n + 1) (first_edge test edges)
 
--- the numbers of all edges that pass it, where the first one has this number
+-- the numbers of all edges that pass the test, where the first edge has the given number
 abbrev pub edges_from : {E : Type 0} → (number : ℕ) → (E → Bool) → List E → List ℕ
 edges_from number test [] = []
 edges_from number test (e ∷ edges) = if test e then number ∷ edges_from (number + 1) test edges else edges_from (number + 1) test edges
 
--- the edge that makes a file, the first one if there are more; a source has none
+-- the first edge that makes a file; `None` for a source
 abbrev pub maker_of : List EdgePaths → (path : List ℕ) → Option ℕ
 maker_of edges path = first_edge (λ e. is_among (outputs_of e) path) edges
 
@@ -78,7 +79,7 @@ roots_of edges = filter (λ path. not (is_used edges path)) (flat_map outputs_of
 abbrev pub names : EdgePaths → (path : List ℕ) → Bool
 names e path = is_among (outputs_of e) path || is_among (inputs_of e) path || is_among e.validations path
 
--- one of these edges names the path
+-- whether one of the edges names the path
 abbrev pub is_named : List EdgePaths → (path : List ℕ) → Bool
 is_named edges path = list_any (λ e. names e path) edges
 

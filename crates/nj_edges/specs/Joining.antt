@@ -15,25 +15,26 @@ pub record JoinTable : Type 0 where
   pub files : List (List ℕ)
   -- the edges of the graph
   pub stated : List EdgePaths
-  -- the same with their additions
+  -- the edges with their additions
   pub joined : List EdgePaths
-  -- of each edge whether something was added
+  -- for each edge, whether it was joined
   pub was_joined : List Bool
-  -- the files for the next one
+  -- the files for the next edge to be joined
   pub «open» : AddedFiles
 
 -- no files are collected
 abbrev pub none_added : AddedFiles
 none_added = record { outputs = []; inputs = [] }
 
--- Added files are implicit: they come after the files that the edge has, its inputs before the order-only ones.
+-- Added files are implicit: added outputs come after all outputs of the edge, and added inputs right before its
+-- order-only inputs.
 abbrev pub with_added : AddedFiles → EdgePaths → EdgePaths
 with_added added e = record e {
   implicit_outputs = e.implicit_outputs ++ added.outputs;
   implicit_inputs = e.implicit_inputs ++ added.inputs;
 }
 
--- the list with the item of this number changed
+-- the list with the item at the given number changed
 unfoldable pub changed_at : {A : Type 0} → (A → A) → (number : ℕ) → List A → List A
 changed_at change number [] = []
 changed_at change zero (a ∷ others) = change a ∷ others

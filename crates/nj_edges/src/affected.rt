@@ -8,7 +8,7 @@ use crate::graph::EdgeGraph;
 use nj_names::{FileNo, NumberSet};
 use std::alloc::{AllocError, Global};
 
-// Adds each of these edges.
+// Adds the given edges.
 pub(crate) fn add_all(found: &mut NumberSet, edges: &[EdgeNo]) -> Result<(), AllocError>
     requires { All (λ edge. edge.0 < found.old.limit) edges.now }
     ensures { OnOk result (FindsMore (Contains (numbers_of edges.now)) found.old found.new) }
@@ -37,7 +37,7 @@ pub(crate) fn edge_found(found: &NumberSet, place: usize) -> EdgeNo
     EdgeNo(found.numbers()[place])
 }
 
-// Adds the edges that have one of these files as an input.
+// Adds the edges that have one of the given files as an input.
 fn add_users(found: &mut NumberSet, graph: &EdgeGraph, files: &[FileNo]) -> Result<(), AllocError>
     requires limit { found.old.limit ≡ length graph.now.edges }
     requires files { All (λ file. file.0 < length graph.now.files) files.now }
@@ -52,14 +52,14 @@ fn add_users(found: &mut NumberSet, graph: &EdgeGraph, files: &[FileNo]) -> Resu
 }
 
 impl EdgeGraph {
-    /// The edges that a change of these files affects: those that need one of them through any
-    /// chain of inputs, phony edges among them, without duplicates, by number. All kinds of inputs
-    /// count alike, and validations are no inputs. A file that an edge makes counts as changed too,
-    /// and its maker is not affected because of that.
+    /// Returns the edges that a change of the given files affects: the edges that need one of the
+    /// files through any chain of inputs, phony edges included, without duplicates, by number. All
+    /// kinds of inputs count equally; validations are not inputs. A given file that an edge makes
+    /// also counts as changed, which does not make its maker affected.
     ///
-    /// Takes time in proportion to the affected edges, their outputs and the users of these and of
-    /// the files, but for a flag for each edge of the graph and one pass over the flags. Fails only
-    /// if an allocation fails.
+    /// Takes time in proportion to the affected edges, their outputs, and the users of their
+    /// outputs and of the files, plus a flag for each edge of the graph and one pass over the
+    /// flags. Fails only if an allocation fails.
     pub fn affected_by(&self, alloc: Global, files: &[FileNo]) -> Result<Vec<EdgeNo>, AllocError>
         requires { All (λ file. file.0 < length self.now.files) files.now }
         ensures affected { IfOk result (λ found. (edge : ℕ)
@@ -74,7 +74,7 @@ impl EdgeGraph {
         flagged(alloc, found.flags())
     }
 
-    // The edges that a change of these files affects, in the order in which they are found.
+    // The edges that a change of the given files affects, in the order in which they are found.
     fn affected_edges(&self, alloc: Global, files: &[FileNo]) -> Result<NumberSet, AllocError>
         requires { All (λ file. file.0 < length self.now.files) files.now }
         ensures limit { IfOk result (λ found. found.limit ≡ length self.now.edges) }
@@ -107,8 +107,8 @@ pub(crate) fn flagged(alloc: Global, flags: &[bool]) -> Result<Vec<EdgeNo>, Allo
     Ok(edges)
 }
 
-/// Where no file has two makers, an edge is affected by files exactly if it has one of them as an
-/// input, or needs an edge by a chain that has one.
+/// If no file has two makers, an edge is affected by files exactly if it has one of them as an
+/// input, or needs by a chain an edge that has one of them as an input.
 pub fn affected_law()
     ensures { AffectedEdgesNeedTheFiles }
 {}

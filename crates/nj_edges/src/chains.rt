@@ -10,7 +10,7 @@ use crate::list_parts::first;
 use nj_names::{FileNo, NumberSet};
 use std::alloc::{AllocError, Global};
 
-/// Which inputs a chain may go by, beside explicit and implicit ones.
+/// Which inputs a chain may follow besides explicit and implicit inputs.
 #[derive(Clone, Copy, Debug, PartialEq, Eq)]
 pub struct ChainKinds {
     pub order_only: bool,
@@ -21,8 +21,8 @@ pub struct ChainKinds {
 #[derive(Clone, Copy, Debug, PartialEq, Eq)]
 pub struct Step {
     pub edge: EdgeNo,
-    /// Where the input is among the inputs of the edge that count; validations that count come
-    /// after the other ones.
+    /// The index of the input among the inputs of the edge that count; validations that count come
+    /// after the other inputs.
     pub index: usize,
     pub file: FileNo,
     /// `None` for a validation.
@@ -37,8 +37,8 @@ struct Arrival {
     place: usize,
 }
 
-// The edges that were found, nearest first, and how the search came to each of them; nothing came
-// to the first.
+// The edges that were found, nearest first, and how the search arrived at each of them; the first
+// has no arrival.
 #[derive(Drop)]
 struct Search {
     found: NumberSet,
@@ -46,15 +46,16 @@ struct Search {
 }
 
 impl EdgeGraph {
-    /// A shortest chain by which one file needs another: its first step goes from the edge that
-    /// makes `from`, its last one to `to`, and each goes from the edge that makes the input of the
-    /// step before it. Of several shortest ones it is the first when inputs are tried from left to
-    /// right. `None` if there is no chain, and from a file to itself. Explicit and implicit inputs
-    /// count, and those of `kinds`: order-only inputs, and validations after the inputs of their
-    /// edge. All that count do so alike.
+    /// Returns a shortest chain by which one file needs another: its first step starts at the edge
+    /// that makes `from`, its last step ends at `to`, and every step after the first starts at the
+    /// edge that makes the input of the step before it. Of several shortest chains it is the first
+    /// when inputs are tried from left to right. `None` if there is no chain, or if `from` and `to`
+    /// are the same file. Explicit and implicit inputs count, and so do the inputs that `kinds`
+    /// selects: order-only inputs, and validations, which come after the inputs of their edge. All
+    /// of them count equally.
     ///
     /// Takes time in proportion to the edges that are no farther from `from` than `to` is, their
-    /// inputs and their validations, but for a flag for each edge of the graph. Fails only if an
+    /// inputs and their validations, plus a flag for each edge of the graph. Fails only if an
     /// allocation fails.
     pub fn path_between(
         &self,
@@ -124,7 +125,7 @@ impl EdgeGraph {
         None
     }
 
-    // The step from an edge to its input at an index; `None` past the last one.
+    // The step from an edge to its input at an index; `None` past the last input.
     fn step_at(&self, edge: EdgeNo, index: usize, kinds: ChainKinds) -> Option<Step>
         requires { edge.0 < length self.now.edges }
         ensures { StepIs self.now kinds edge index result }
@@ -228,7 +229,7 @@ impl Search {
     }
 }
 
-// The steps by which a search came to the edge at a place, and one more.
+// The steps by which a search arrived at the edge at a place, and the given last step.
 fn traced(
     alloc: Global,
     arrivals: &[Option<Arrival>],
@@ -250,7 +251,7 @@ fn traced(
     Ok(steps)
 }
 
-/// On a graph there is one right answer to which chain leads from a file to another.
+/// In a graph, the chain from one file to another is determined uniquely.
 pub fn path_law()
     ensures { OnePathIsRight }
 {}

@@ -11,11 +11,11 @@ use nj_names::{FileNo, NumberSet};
 use std::alloc::{AllocError, Global};
 
 impl EdgeGraph {
-    /// The edges that are to be built again where these files changed and these edges are dirty by
-    /// themselves, without duplicates, by number: these edges, the edges that have one of the files
-    /// as an output or as an explicit or implicit input, and those that have as such an input an
-    /// output of an edge that is to be built again. Phony edges are among them. Order-only inputs
-    /// and validations do not count.
+    /// Returns the edges that have to be built again if the given files changed and the given edges
+    /// are dirty by themselves, without duplicates, by number: the given edges, the edges that have
+    /// one of the files as an output or as an explicit or implicit input, and the edges with an
+    /// explicit or implicit input made by an edge that has to be built again. Phony edges are
+    /// included. Order-only inputs and validations do not count.
     ///
     /// Takes time in proportion to the graph. Fails only if an allocation fails.
     pub fn dirtied_by(
@@ -96,7 +96,7 @@ impl EdgeGraph {
         )
     }
 
-    // Adds the edges that have one of these files in the part by which the users are.
+    // Adds the edges that have one of the given files in the part that `users` indexes.
     fn add_users_in(
         &self,
         found: &mut NumberSet,
@@ -118,9 +118,9 @@ impl EdgeGraph {
     }
 }
 
-/// An edge that is not to be built again is not dirty by itself, has none of the files as an output
-/// or as an explicit or implicit input, and has none as such an input that an edge makes which is to
-/// be built again.
+/// An edge that does not have to be built again is not dirty by itself, does not have any of the
+/// files as an output or as an explicit or implicit input, and does not have an explicit or
+/// implicit input that an edge to be built again makes.
 pub fn dirty_law()
     ensures { OtherEdgesAreUntouched }
 {}

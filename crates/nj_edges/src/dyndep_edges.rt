@@ -17,7 +17,7 @@ use std::marker::Model;
 pub struct JoiningEdges {
     // the edges of the graph, and all files that are added to them, as an edge that is being read
     edges: Edges,
-    // for each edge, where its additions are among these files
+    // for each edge, where its additions are among the added files
     added: Vec<Option<AddedSpans>>,
     // where the files that are to be added to the next edge begin
     open_outputs: usize,
@@ -61,7 +61,7 @@ impl EdgeGraph {
 }
 
 impl JoiningEdges {
-    /// The files of the graph, and those that were added.
+    /// The files of the graph, and the files that were added.
     pub fn files(&self) -> &Files
         ensures files { result.now ≡ self.now.files }
         ensures each_path_once { IsDistinct bytes_eq self.now.files }
@@ -69,8 +69,8 @@ impl JoiningEdges {
         self.edges.files()
     }
 
-    /// The edge that makes the file at this path in the graph without the additions; `None` if
-    /// there is none.
+    /// Returns the edge that makes the file at the given path in the graph without the additions,
+    /// or `None`.
     pub fn stated_maker(&self, path: &[u8]) -> Option<EdgeNo>
         ensures maker { option_map (λ edge. edge.0) result ≡ maker_of self.now.stated path.now }
         ensures known { IfSome result (λ edge. edge.0 < length self.now.stated) }
@@ -78,7 +78,7 @@ impl JoiningEdges {
         self.edges.maker_read(path)
     }
 
-    /// The outputs that an edge has in the graph, the explicit ones first.
+    /// The outputs that an edge has in the graph, explicit outputs first.
     pub fn stated_outputs(&self, edge: EdgeNo) -> &[FileNo]
         requires { edge.0 < length self.now.stated }
         ensures { AreFiles self.now.files result.now (outputs_of (edge_at self.now.stated edge.0)) }
@@ -104,7 +104,7 @@ impl JoiningEdges {
         self.edges.edge_count()
     }
 
-    /// Whether this edge was joined, even if nothing was added to it.
+    /// Whether the edge was joined, even if nothing was added to it.
     pub fn is_joined(&self, edge: EdgeNo) -> bool
         requires { edge.0 < length self.now.stated }
         ensures { result ≡ is_joined self.now edge.0 }
@@ -142,7 +142,7 @@ impl JoiningEdges {
         self.edges.add_known_input(file)
     }
 
-    /// Adds the collected files to this edge, to which nothing was added before. Allocates nothing.
+    /// Adds the collected files to an edge that was not joined before. Allocates nothing.
     pub fn end_join(&mut self, edge: EdgeNo)
         requires known { edge.0 < length self.old.stated }
         requires first { is_joined self.old edge.0 ≡ false }
@@ -173,7 +173,7 @@ impl JoiningEdges {
     }
 }
 
-// Nothing added to each of `count` edges.
+// `count` edges without additions.
 fn nothing_added(alloc: Global, count: usize) -> Result<Vec<Option<AddedSpans>>, AllocError>
     ensures { IfOk result (λ added. added.items ≡ replicate count None) }
 {

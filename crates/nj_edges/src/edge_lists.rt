@@ -10,7 +10,7 @@ use crate::rows::Rows;
 use nj_names::FileNo;
 use std::alloc::{AllocError, Global};
 
-/// The maker of each file, the files of all edges one after the other, and the row of each edge.
+/// The maker of each file, the concatenated files of all edges, and the row of each edge.
 #[derive(Drop)]
 pub(crate) struct EdgeLists {
     pub(crate) makers: Makers,
@@ -41,7 +41,7 @@ impl EdgeLists {
         }
     }
 
-    /// No edges, of this many files, and capacity for as many edges as these.
+    /// No edges among `file_count` files, with capacity for as many edges as the given lists have.
     pub(crate) fn with_capacity(
         alloc: Global,
         file_count: usize,
@@ -86,7 +86,7 @@ impl EdgeLists {
         }
     }
 
-    /// Ends the edge that is being read, with these ends of its kinds, and begins another.
+    /// Ends the edge that is being read, with the given ends of its kinds, and begins another.
     pub(crate) fn end_edge(&mut self, kinds: KindEnds, is_phony: bool) -> Result<(), AllocError>
         ensures ended { OnOk result
             (lists_of self.new ≡ with_row (lists_of self.old) kinds is_phony) }

@@ -25,9 +25,8 @@ pub enum Kind {
     OrderOnly,
 }
 
-/// Where the kinds of an edge's files end: its outputs begin with the explicit ones, its inputs
-/// with the explicit and then the implicit ones. The remaining outputs are implicit, and the
-/// remaining inputs order-only.
+/// Where the kinds of an edge's files end: explicit outputs come first, and then implicit outputs;
+/// explicit inputs come first, then implicit inputs, and then order-only inputs.
 #[derive(Clone, Copy)]
 pub struct KindEnds {
     pub explicit_outputs: usize,
@@ -70,7 +69,7 @@ pub(crate) struct EdgeFiles<'a> {
     pub(crate) is_phony: bool,
 }
 
-/// The edges of a graph, and the one that is being read.
+/// The edges of a graph, and the edge that is being read.
 #[derive(Drop)]
 pub struct Edges {
     pub(crate) files: Files,
@@ -89,7 +88,7 @@ impl Model for Edges {
 }
 
 impl Edges {
-    /// No edges. The paths of their files are hashed by these keys. It allocates nothing.
+    /// No edges. The paths of their files are hashed with the given keys. It allocates nothing.
     pub fn new(alloc: Global, keys: HashKeys) -> Edges
         ensures { result ≡ record { files = []; edges = []; «open» = no_files } }
     {
@@ -193,7 +192,8 @@ impl Edges {
         Ok(())
     }
 
-    /// The number of the file at this path, which must be clean; `None` if no edge names it.
+    /// Returns the number of the file at the given path, which must be clean; `None` if no edge
+    /// names it.
     pub fn file_named(&self, path: &[u8]) -> Option<FileNo>
         ensures index { option_map (λ file. file.0) result
             ≡ position (bytes_eq path.now) self.now.files }
@@ -221,14 +221,14 @@ impl Edges {
         self.lists.rows.count()
     }
 
-    /// The number of the edge that is being read, which is the next after those that were read.
+    /// The number of the edge that is being read, which is the number after the last edge read.
     pub fn open_edge(&self) -> EdgeNo
         ensures { result.0 ≡ length self.now.edges }
     {
         EdgeNo(self.lists.rows.count())
     }
 
-    /// The edge that makes the file at this path, of those that were read; `None` if none does.
+    /// Returns the edge among those already read that makes the file at the given path, or `None`.
     pub(crate) fn maker_read(&self, path: &[u8]) -> Option<EdgeNo>
         ensures maker { option_map (λ edge. edge.0) result ≡ maker_of self.now.edges path.now }
         ensures known { IfSome result (λ edge. edge.0 < length self.now.edges) }
@@ -265,8 +265,8 @@ impl Edges {
         after(&self.lists.inputs, self.lists.starts.inputs)
     }
 
-    /// The number of the file at this path, if the edge that is being read has it as an input so
-    /// far; else `None`. Takes time in proportion to these inputs.
+    /// Returns the number of the file at the given path, if it is an input so far of the edge that
+    /// is being read; otherwise `None`. Takes time in proportion to the inputs of that edge.
     pub fn open_input(&self, path: &[u8]) -> Option<FileNo>
         ensures input { is_some result ≡ is_among self.now.«open».inputs path.now }
         ensures file { IfSome result (λ file. slice_get self.now.files file.0 ≡ Some path.now) }
@@ -292,7 +292,7 @@ impl Edges {
         self.lists.inputs.as_slice().len() - self.lists.starts.inputs
     }
 
-    /// Ends the edge that is being read, with these ends of its kinds, and begins another.
+    /// Ends the edge that is being read, with the given ends of its kinds, and begins another.
     ///
     /// # Errors
     ///
@@ -323,7 +323,7 @@ fn is_made_by(makers: &Makers, file: FileNo, edge: usize) -> bool
     }
 }
 
-// Whether the file is among these.
+// Whether the file is among the given files.
 fn has_file(files: &[FileNo], file: FileNo) -> bool
     ensures { result ≡ has_number file.0 files.now }
 {

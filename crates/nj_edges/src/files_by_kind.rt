@@ -9,7 +9,7 @@ use crate::list_parts::{after, part};
 use nj_names::FileNo;
 
 impl EdgeGraph {
-    /// The implicit outputs of an edge, which come after the explicit ones.
+    /// The implicit outputs of an edge, which come after its explicit outputs.
     pub fn implicit_output_files(&self, edge: EdgeNo) -> &[FileNo]
         requires { edge.0 < length self.now.edges }
         ensures files { AreFiles self.now.files result.now
@@ -20,7 +20,7 @@ impl EdgeGraph {
         after(files.outputs, files.kinds.explicit_outputs)
     }
 
-    /// The implicit inputs of an edge, which come after the explicit ones.
+    /// The implicit inputs of an edge, which come after its explicit inputs.
     pub fn implicit_input_files(&self, edge: EdgeNo) -> &[FileNo]
         requires { edge.0 < length self.now.edges }
         ensures files { AreFiles self.now.files result.now

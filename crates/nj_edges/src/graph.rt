@@ -22,7 +22,7 @@ pub struct EdgeGraph {
     pub(crate) lists: EdgeLists,
     roots: Vec<FileNo>,
     users: Users,
-    // none where no edge has validations
+    // `None` if no edge has validations
     validation_users: Option<Users>,
 }
 
@@ -46,7 +46,7 @@ impl Model for EdgeGraph {
 #[derive(Drop)]
 pub struct CycleEdge {
     pub edge: EdgeNo,
-    /// The path of its first output, of the explicit ones if it has any.
+    /// The path of its first explicit output, or else of its first output.
     pub output: Vec<u8>,
 }
 
@@ -55,12 +55,12 @@ pub struct CycleEdge {
 pub enum Finished {
     /// A graph.
     Graph(EdgeGraph),
-    /// A dependency cycle; this edge lies on one, and none of a smaller number does.
+    /// A dependency cycle, with the lowest-numbered edge that lies on any cycle.
     Cycle(CycleEdge),
 }
 
 impl EdgeGraph {
-    /// How many edges there are: one for each build statement, numbered in reading order. No edge
+    /// The number of edges: one for each build statement, numbered in reading order. An edge never
     /// needs itself by a chain of inputs.
     pub fn edge_count(&self) -> usize
         ensures count { result ≡ length self.now.edges }
@@ -80,7 +80,8 @@ impl EdgeGraph {
         self.files.count()
     }
 
-    /// The number of the file at this path, which must be clean; `None` if no edge names it.
+    /// Returns the number of the file at the given path, which must be clean; `None` if no edge
+    /// names it.
     pub fn file_named(&self, path: &[u8]) -> Option<FileNo>
         ensures index { option_map (λ file. file.0) result
             ≡ position (bytes_eq path.now) self.now.files }
@@ -98,7 +99,7 @@ impl EdgeGraph {
         self.files.path(file)
     }
 
-    /// The edge that makes this file; `None` for a source.
+    /// Returns the edge that makes the file, or `None` for a source.
     pub fn maker(&self, file: FileNo) -> Option<EdgeNo>
         requires { file.0 < length self.now.files }
         ensures maker { option_map (λ edge. edge.0) result
@@ -121,7 +122,7 @@ impl EdgeGraph {
         self.lists.edge(edge)
     }
 
-    /// The outputs of an edge, the explicit ones first.
+    /// The outputs of an edge, explicit outputs first.
     pub fn outputs(&self, edge: EdgeNo) -> &[FileNo]
         requires { edge.0 < length self.now.edges }
         ensures files { AreFiles self.now.files result.now
@@ -131,7 +132,7 @@ impl EdgeGraph {
         self.edge_files(edge).outputs
     }
 
-    /// The inputs of an edge: the explicit, the implicit and then the order-only ones.
+    /// The inputs of an edge: explicit, then implicit, then order-only inputs.
     pub fn inputs(&self, edge: EdgeNo) -> &[FileNo]
         requires { edge.0 < length self.now.edges }
         ensures files { AreFiles self.now.files result.now
@@ -229,7 +230,7 @@ impl EdgeGraph {
         first(files.outputs, files.kinds.explicit_outputs)
     }
 
-    /// How many outputs of an edge are explicit; these are the first of its outputs.
+    /// How many outputs of an edge are explicit; explicit outputs come first.
     pub fn explicit_outputs(&self, edge: EdgeNo) -> usize
         requires { edge.0 < length self.now.edges }
         ensures { result ≡ length (edge_at self.now.edges edge.0).explicit_outputs }
@@ -237,7 +238,7 @@ impl EdgeGraph {
         self.lists.rows.row(edge.0).kinds.explicit_outputs
     }
 
-    /// How many inputs of an edge are explicit; these are the first of its inputs.
+    /// How many inputs of an edge are explicit; explicit inputs come first.
     pub fn explicit_inputs(&self, edge: EdgeNo) -> usize
         requires { edge.0 < length self.now.edges }
         ensures { result ≡ length (edge_at self.now.edges edge.0).explicit_inputs }
@@ -314,7 +315,7 @@ impl Edges {
     }
 }
 
-// What a graph keeps beside its edges: its roots, and the users of files.
+// The lists that a graph keeps besides its edges: its roots, and the users of files.
 #[derive(Drop)]
 struct FoundLists {
     roots: Vec<FileNo>,
@@ -322,7 +323,7 @@ struct FoundLists {
     validation_users: Option<Users>,
 }
 
-// The same of these edges.
+// Finds the roots and the users of the given edges.
 fn found_lists(alloc: Global, files: &Files, edges: &EdgeLists) -> Result<FoundLists, AllocError>
     requires { EdgesAreHeld files.now (lists_of edges.now) }
     ensures roots { IfOk result (λ found. found.roots.items ≡ filter
@@ -357,7 +358,7 @@ fn found_lists(alloc: Global, files: &Files, edges: &EdgeLists) -> Result<FoundL
     })
 }
 
-// The edge with the given number, with the path of the first of these outputs.
+// The edge with the given number, with the path of the first of the given outputs.
 fn cycle_edge(
     alloc: Global,
     files: &Files,

@@ -10,14 +10,14 @@ use nj_names::{FileNo, Files};
 use std::alloc::{AllocError, Global};
 use std::marker::Model;
 
-// Where the files that were added to an edge are, among all that were added.
+// Where the files that were added to an edge are among all added files.
 #[derive(Clone, Copy)]
 pub(crate) struct AddedSpans {
     pub(crate) outputs: Span,
     pub(crate) inputs: Span,
 }
 
-// The edges that were made so far, by the numbers of files, and the one that is being made.
+// The edges that were made so far, by the numbers of files, and the edge that is being made.
 #[derive(Drop)]
 struct JoinedEdges<'a> {
     files: &'a Files,
@@ -35,8 +35,8 @@ impl<'a> Model for JoinedEdges<'a> {
     ghost invariant = { λ j. EdgesAreHeld j.files.now (lists_of j.lists) };
 }
 
-// The edges with their additions. The files of all additions are those of the edge that is being
-// read.
+// The edges with their additions. The files of all additions are the files of the edge that is
+// being read.
 pub(crate) fn joined_edges(
     alloc: Global,
     edges: Edges,
@@ -70,7 +70,8 @@ fn spans_of(found: Option<AddedSpans>) -> AddedSpans
 }
 
 impl<'a> JoinedEdges<'a> {
-    // No edges, of the files that these edges name, and capacity for them with their additions.
+    // No edges, among the files that the given edges name, with capacity for the edges and their
+    // additions.
     fn with_capacity(alloc: Global, edges: &'a Edges) -> Result<JoinedEdges<'a>, AllocError>
         ensures { IfOk result (λ joined. joined
             ≡ record { files = edges.now.files; edges = []; «open» = no_files }) }
@@ -153,7 +154,7 @@ impl<'a> JoinedEdges<'a> {
         Ok(())
     }
 
-    // Ends the edge that is being made, with these ends of its kinds, and begins another.
+    // Ends the edge that is being made, with the given ends of its kinds, and begins another.
     fn end_edge(&mut self, kinds: KindEnds, is_phony: bool) -> Result<(), AllocError>
         requires { EndWithin kinds (length self.old.«open».outputs)
             (length self.old.«open».inputs) }

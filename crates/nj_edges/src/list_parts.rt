@@ -2,7 +2,7 @@
 
 ghost use Rattle.std.specs.Prelude.{◌≡◌, ◌≤◌, length, take, drop, slice_range};
 
-// The items between these indices.
+// The items between the given indices.
 pub(crate) fn part<T>(items: &[T], start: usize, end: usize) -> &[T]
     requires rises { start ≤ end }
     requires within { end ≤ length items.now }

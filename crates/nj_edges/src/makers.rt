@@ -60,7 +60,8 @@ impl Makers {
     }
 }
 
-/// The number of the file at this path, which is named from now on. A new file has no maker.
+/// Returns the number of the file at the given path, which is named from now on. A new file has no
+/// maker.
 pub(crate) fn name(
     files: &mut Files,
     makers: &mut Makers,
@@ -99,7 +100,7 @@ fn edge_of(number: u32) -> Option<usize>
     Some(number as usize - 1)
 }
 
-// The number by which an edge is kept.
+// The number under which an edge is stored.
 fn number_of(edge: usize) -> u32
     requires { edge + 1 < 2 ^ 32 }
     ensures { maker_held result ≡ Some edge }

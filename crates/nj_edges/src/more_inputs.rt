@@ -11,14 +11,15 @@ use std::alloc::{AllocError, Global};
 use std::marker::Model;
 
 /// The edges of a graph, to which inputs are added: to the first edge, and after each
-/// [`JoiningInputs::end_edge`] to the next one. They become implicit inputs. A file that an edge has
-/// as an explicit or implicit input is not added to it; one that is an order-only input becomes both.
+/// [`JoiningInputs::end_edge`] to the next edge. They become implicit inputs. A file that an edge
+/// has as an explicit or implicit input is not added to it; an order-only input that is added
+/// becomes implicit as well.
 #[derive(Drop)]
 pub struct JoiningInputs {
     edges: JoiningEdges,
     // the number of the edge to which inputs are added
     edge: usize,
-    // for each file, the last edge up to that one which has it as an explicit or implicit input
+    // for each file, the last edge up to `edge` that has it as an explicit or implicit input
     marks: Vec<Option<usize>>,
 }
 
@@ -57,8 +58,8 @@ impl JoiningInputs {
         self.edges.edge_count()
     }
 
-    /// Adds an implicit input to the edge, unless the edge has it as an explicit or implicit one,
-    /// and returns the number of its file.
+    /// Adds an implicit input to the edge, unless the file is already an explicit or implicit
+    /// input, and returns the number of the file.
     pub fn add_input(&mut self, path: &[u8]) -> Result<FileNo, AllocError>
         ensures added { OnOk result (self.new ≡ with_new_input self.old path.now) }
         ensures number { IfOk result (λ file.
@@ -75,8 +76,8 @@ impl JoiningInputs {
         Ok(file)
     }
 
-    /// Adds an implicit input to the edge, unless the edge has it as an explicit or implicit one, by
-    /// the number of its file.
+    /// Adds the file with the given number to the edge as an implicit input, unless it is already
+    /// an explicit or implicit input.
     pub fn add_known_input(&mut self, file: FileNo) -> Result<(), AllocError>
         requires { file.0 < length self.old.table.files }
         ensures added { (path : List ℕ) → slice_get self.old.table.files file.0 ≡ Some path
@@ -91,7 +92,7 @@ impl JoiningInputs {
         Ok(())
     }
 
-    /// Ends the edge; the next inputs are added to the one after it. Allocates nothing.
+    /// Ends the edge; further inputs are added to the edge after it. Allocates nothing.
     pub fn end_edge(&mut self)
         requires { self.old.edge < length self.old.table.stated }
         ensures { self.new ≡ at_next_edge self.old }
@@ -114,7 +115,7 @@ impl JoiningInputs {
     }
 }
 
-// No mark for each of `count` files.
+// `count` files without marks.
 fn no_marks(alloc: Global, count: usize) -> Result<Vec<Option<usize>>, AllocError>
     ensures { IfOk result (λ marks. marks.items ≡ replicate count None) }
 {
@@ -132,7 +133,7 @@ fn mark_inputs(marks: &mut Vec<Option<usize>>, edges: &JoiningEdges, edge: usize
     }
 }
 
-// Marks these files with an edge.
+// Marks the given files with an edge.
 fn mark_files(marks: &mut [Option<usize>], files: &[FileNo], edge: usize)
     requires { AreNumbers (length marks.old) files.now }
     ensures { MarksFiles files.now edge marks.old marks.new }

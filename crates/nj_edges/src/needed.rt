@@ -10,11 +10,11 @@ use nj_names::{FileNo, NumberSet};
 use std::alloc::{AllocError, Global};
 
 impl EdgeGraph {
-    /// The edges that these files need through any chain of inputs, phony edges among them, without
-    /// duplicates, nearest first: the makers of the files, then the makers of their inputs, and so
-    /// on. All kinds of inputs count alike, and validations are no inputs.
+    /// Returns the edges that the given files need through any chain of inputs, phony edges
+    /// included, without duplicates, nearest first: the makers of the files, then the makers of
+    /// their inputs, and so on. All kinds of inputs count equally; validations are not inputs.
     ///
-    /// Takes time in proportion to the files, the needed edges and their inputs, but for a flag for
+    /// Takes time in proportion to the files, the needed edges and their inputs, plus a flag for
     /// each edge of the graph. Fails only if an allocation fails.
     pub fn needed_by(&self, alloc: Global, files: &[FileNo]) -> Result<Vec<EdgeNo>, AllocError>
         requires { All (λ file. file.0 < length self.now.files) files.now }
@@ -33,7 +33,7 @@ impl EdgeGraph {
         numbered(alloc, found.numbers())
     }
 
-    // The edges that these files need, in the order in which they are found.
+    // The edges that the given files need, in the order in which they are found.
     fn needed_edges(&self, alloc: Global, files: &[FileNo]) -> Result<NumberSet, AllocError>
         requires { All (λ file. file.0 < length self.now.files) files.now }
         ensures limit { IfOk result (λ found. found.limit ≡ length self.now.edges) }
@@ -54,7 +54,7 @@ impl EdgeGraph {
     }
 }
 
-// Adds the edges that make these files.
+// Adds the edges that make the given files.
 fn add_makers(found: &mut NumberSet, graph: &EdgeGraph, files: &[FileNo]) -> Result<(), AllocError>
     requires limit { found.old.limit ≡ length graph.now.edges }
     requires files { All (λ file. file.0 < length graph.now.files) files.now }

@@ -9,18 +9,18 @@ use crate::search_state::SearchState;
 use std::alloc::{AllocError, Global};
 use std::marker::Model;
 
-/// Answers whether an edge needs another one through any chain of inputs, one question after another
-/// about a graph. All kinds of inputs count alike, and validations are no inputs.
+/// Answers whether an edge needs another through any chain of inputs, for a series of questions
+/// about a graph. All kinds of inputs count equally; validations are not inputs.
 ///
-/// An answer costs a search of what the first edge needs, which ends as soon as the other one is
-/// found. The next question goes on from there if it is about the same edge, or about one whose
-/// inputs the same edges make. So ask all questions about an edge in a row. A search takes the
-/// memory of a number for each edge of the graph.
+/// An answer costs a search of the edges that the first edge needs, which stops as soon as the
+/// other edge is found. The next question resumes the search if it is about the same edge, or about
+/// an edge whose inputs the same edges make. So ask all questions about an edge in a row. A search
+/// uses memory for one number per edge of the graph.
 #[derive(Drop)]
 pub struct NeedsSearch<'a> {
     alloc: Global,
     graph: &'a EdgeGraph,
-    // none before the first question, and after one that was not answered
+    // `None` before the first question, and after a question that was not answered
     state: Option<SearchState>,
 }
 
@@ -63,7 +63,7 @@ impl<'a> NeedsSearch<'a> {
     }
 }
 
-// The state that was kept, or one before the first question.
+// The state that was kept, or the state before the first question.
 fn state_or_new(
     alloc: Global,
     graph: &EdgeGraph,

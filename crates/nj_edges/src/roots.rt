@@ -6,7 +6,7 @@ ghost use Rattle.nj_edges.specs.Cited.{filter, AreNumbers, has_number, AreFlags}
 use nj_names::FileNo;
 use std::alloc::{AllocError, Global};
 
-/// The outputs that are no inputs, in their order.
+/// The outputs that are not inputs, in their order.
 pub(crate) fn roots(
     alloc: Global,
     file_count: usize,
@@ -22,7 +22,7 @@ pub(crate) fn roots(
     unflagged(alloc, outputs, &used)
 }
 
-// For each of `file_count` files, whether it is among these.
+// For each of `file_count` files, whether it is among the given files.
 fn flags_of(alloc: Global, file_count: usize, files: &[FileNo]) -> Result<Vec<bool>, AllocError>
     requires { AreNumbers file_count files.now }
     ensures { IfOk result (λ flags. AreFlags file_count files.now flags.items) }

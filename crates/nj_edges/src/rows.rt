@@ -57,7 +57,7 @@ impl Rows {
         }
     }
 
-    /// No rows, and capacity for this many.
+    /// No rows, with capacity for `count`.
     pub(crate) fn with_capacity(alloc: Global, count: usize) -> Result<Rows, AllocError>
         ensures { IfOk result (λ rows. rows ≡ []) }
     {
@@ -85,8 +85,7 @@ impl Rows {
     ///
     /// # Errors
     ///
-    /// If an allocation failed, or if a number of the row, or how many rows there are, has more
-    /// than 32 bits.
+    /// If an allocation failed, or if a number of the row or the number of rows exceeds 32 bits.
     pub(crate) fn push(&mut self, row: EdgeRow) -> Result<(), AllocError>
         ensures pushed { OnOk result (self.new ≡ self.old ++ row ∷ []) }
         ensures refused { OnErr result (self.new ≡ self.old) }
@@ -133,7 +132,7 @@ fn narrow_span(span: Span) -> Result<NarrowSpan, AllocError>
     })
 }
 
-// The number in 32 bits, if it has no more.
+// The number in 32 bits, if it fits.
 fn narrow(number: usize) -> Result<u32, AllocError>
     ensures { IfOk result (λ narrow. narrow ≡ number) }
 {

@@ -9,23 +9,25 @@ use nj_names::{FileNo, RoundSet};
 use std::alloc::{AllocError, Global};
 use std::mem;
 
-/// How far the search for what an edge needs has come. It ends as soon as it has found the other
-/// edge, and goes on from there next time, also for another edge whose inputs the same edges make.
+/// The state of a search for the edges that an edge needs. The search stops as soon as it has found
+/// the edge in question, and the next query resumes it, also for another edge whose inputs the same
+/// edges make.
 #[derive(Drop)]
 pub(crate) struct SearchState {
     // the edge of the last query
     edge: Option<EdgeNo>,
     // the edges that make its inputs
     starts: Vec<usize>,
-    // the buffer for those of the next edge
+    // the buffer for the starts of the next edge
     next: Vec<usize>,
-    // the edges that were found; those that make inputs of the ones before the place are among them
+    // the edges that were found, which include the makers of the inputs of each edge before the
+    // place
     found: RoundSet,
     place: usize,
 }
 
 impl SearchState {
-    /// None is begun, of so many edges. Fails only if an allocation fails.
+    /// The state before any search, among `edge_count` edges. Fails only if an allocation fails.
     pub(crate) fn among(alloc: Global, edge_count: usize) -> Result<SearchState, AllocError>
         ensures { IfOk result (λ search. (edges : List EdgePaths)
             → length edges ≡ edge_count → IsSearch edges search) }
@@ -86,8 +88,8 @@ impl SearchState {
         }
     }
 
-    // Starts with the edges in the buffer. Where these are the same as before, the edges found
-    // stay.
+    // Starts with the edges in the buffer. If they are the same as before, the edges found are
+    // kept.
     fn start_with_next(&mut self) -> Result<(), AllocError>
         requires { All (λ edge. edge < self.old.found.limit) self.old.next.items }
         ensures { (edges : List EdgePaths)
@@ -122,7 +124,7 @@ impl SearchState {
     }
 }
 
-// Whether these are the same numbers.
+// Whether both lists have the same numbers.
 fn is_same(numbers: &[usize], others: &[usize]) -> bool
     ensures { result ≡ true → numbers.now ≡ others.now }
 {
@@ -138,7 +140,7 @@ fn edge_found(found: &RoundSet, place: usize) -> EdgeNo
     EdgeNo(found.numbers()[place])
 }
 
-// Adds these numbers.
+// Adds the given numbers.
 fn add_all(found: &mut RoundSet, numbers: &[usize]) -> Result<(), AllocError>
     requires { All (λ number. number < found.old.limit) numbers.now }
     ensures { OnOk result (FindsMore (Contains numbers.now) found.old found.new) }
@@ -149,7 +151,7 @@ fn add_all(found: &mut RoundSet, numbers: &[usize]) -> Result<(), AllocError>
     Ok(())
 }
 
-// Adds the edges that make these files.
+// Adds the edges that make the given files.
 fn add_makers(found: &mut RoundSet, graph: &EdgeGraph, files: &[FileNo]) -> Result<(), AllocError>
     requires limit { found.old.limit ≡ length graph.now.edges }
     requires files { All (λ file. file.0 < length graph.now.files) files.now }
@@ -175,7 +177,7 @@ fn add(found: &mut RoundSet, edge: EdgeNo) -> Result<(), AllocError>
     Ok(())
 }
 
-// Puts the edges that make these files in place of those that are there.
+// Replaces the edges by the makers of the given files.
 fn put_makers(edges: &mut Vec<usize>, graph: &EdgeGraph, files: &[FileNo]) -> Result<(), AllocError>
     requires { All (λ file. file.0 < length graph.now.files) files.now }
     ensures { OnOk result (AreMakers graph.now files.now edges.new.items) }

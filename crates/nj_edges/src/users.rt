@@ -22,14 +22,14 @@ pub(crate) enum RowPart {
 /// The users of each file, by number: one list, in which the users of a file are together.
 #[derive(Drop)]
 pub(crate) struct Users {
-    /// Where the users of each file begin, and where the users of the last one end.
+    /// Where the users of each file begin, and where the users of the last file end.
     pub(crate) starts: Vec<u32>,
     pub(crate) edges: Vec<EdgeNo>,
 }
 
-/// The edges that have a file in this part of theirs, for each of `file_count` files. They are
-/// counted first, and then each is put in its place. Takes time in proportion to the files and
-/// these parts. A number that does not fit in 32 bits is refused as memory is.
+/// For each of `file_count` files, the edges that have it in the given part. They are counted
+/// first, and then each is put in its place. Takes time in proportion to the number of files and
+/// the length of the parts. A number that does not fit in 32 bits is an allocation failure.
 pub(crate) fn users_of_files(
     alloc: Global,
     file_count: usize,
@@ -50,7 +50,7 @@ pub(crate) fn users_of_files(
     Ok(Users { starts, edges })
 }
 
-/// The same; `None` if this part is empty in every edge.
+/// As `users_of_files`, but `None` if the part is empty in every edge.
 pub(crate) fn users_if_any(
     alloc: Global,
     file_count: usize,
@@ -119,7 +119,7 @@ fn user_counts(
     Ok(counts)
 }
 
-// How many edges there are.
+// The number of edges.
 fn row_count(rows: &Rows) -> Result<u32, AllocError>
     ensures { IfOk result (λ count. count ≡ length rows.now) }
 {
@@ -165,7 +165,7 @@ fn counted_inputs(row: EdgeRow) -> Span
     }
 }
 
-// Counts an edge among the users of these files.
+// Counts an edge among the users of the given files.
 fn count_uses(
     counts: &mut [u32],
     marks: &mut [u32],
@@ -206,8 +206,8 @@ fn count_use(
     Ok(())
 }
 
-// Marks a file with an edge that uses it; whether it had that mark. A mark is one more than the
-// number of an edge, and 0 is not an edge.
+// Marks a file with an edge that uses it. Returns whether it had that mark already. A mark is one
+// more than the number of an edge, and 0 is not an edge.
 fn mark(marks: &mut [u32], file: FileNo, edge: u32) -> bool
     requires file { file.0 < length marks.old }
     requires fits { edge + 1 < 2 ^ 32 }
@@ -221,7 +221,7 @@ fn mark(marks: &mut [u32], file: FileNo, edge: u32) -> bool
     known
 }
 
-// Makes each count the sum of those up to it, and returns the sum of all.
+// Replaces each count by the sum of the counts up to it, and returns the sum of all.
 fn add_up(counts: &mut [u32]) -> Result<u32, AllocError>
     ensures ends { OnOk result ((uses : ℕ → List ℕ) → AreCounts counts.old uses
         → AreEnds counts.new uses) }
@@ -236,8 +236,8 @@ fn add_up(counts: &mut [u32]) -> Result<u32, AllocError>
     Ok(sum)
 }
 
-// Puts the users of each file in front of its end, which so becomes its start: edges are taken from
-// the last one on.
+// Puts the users of each file in front of its end, which thus becomes its start: edges are visited
+// from last to first.
 fn placed_users(
     alloc: Global,
     places: &mut [u32],
@@ -266,7 +266,7 @@ fn placed_users(
     Ok(edges)
 }
 
-// Puts an edge in front of the users of these files.
+// Puts an edge in front of the users of each given file.
 fn place_uses(
     places: &mut [u32],
     marks: &mut [u32],

@@ -1,4 +1,4 @@
--- Worked rows, computed on the definitions: the lines that tell of faults.
+-- Worked rows, computed on the definitions: the lines that report faults.
 use Rattle.std.proofs.Common.{◌≡◌, ℕ, refl}
 use Rattle.std.specs.Prelude.{codes}
 use Rattle.std.specs.Fmt.{digits}
@@ -139,7 +139,7 @@ memory_row = refl
 reported_memory_row : reported OutOfMemory ≡ no_memory
 reported_memory_row = refl
 
--- for another program, and for none
+-- for another program, and without a program
 program_row : fault_line_for (codes "audit") (unplaced (NoOutEdge (codes "a")))
     ≡ codes "audit: 'a' has no out edge"
 program_row = refl

@@ -45,7 +45,7 @@ cause_text shown (cause.NoOutEdge path) = codes "'" ++ shown path ++ codes "' ha
 cause_text shown cause.TextNotUtf8 = codes "text is not UTF-8"
 cause_text shown cause.OutOfMemory = out_of_memory_text
 
--- the place of a fault, or `otherwise` for one without a place; and its text
+-- the place of a fault, or `otherwise` without a place; and its text
 abbrev pub line_after : (shown : List ℕ → List ℕ) → (otherwise : List ℕ) → GraphFault → List ℕ
 line_after shown otherwise fault = unwrap_or (option_map (opening_text shown) fault.place) otherwise ++ cause_text shown fault.cause
 
@@ -63,7 +63,7 @@ bare_line fault = line_after (λ name. name) [] fault
 
 -- ---- for people to read, with U+FFFD for invalid UTF-8 in names
 
--- the line of a fault, with what is not UTF-8 replaced
+-- the line of a fault, with bytes that are not UTF-8 replaced
 abbrev pub shown_line : GraphFault → List ℕ
 shown_line fault = line_after utf8_lossy [] fault
 

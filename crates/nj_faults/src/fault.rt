@@ -27,7 +27,7 @@ impl Model for Name {
 }
 
 impl Name {
-    /// The name of these bytes.
+    /// A name of the given bytes.
     pub fn new(alloc: Global, bytes: &[u8]) -> Result<Name, AllocError>
         ensures { IfOk result (λ name. name ≡ bytes.now) }
     {
@@ -76,8 +76,8 @@ impl Eq for Name {
 /// A place in a file.
 #[derive(Debug, PartialEq, Eq, Drop)]
 pub struct Place {
-    /// The name under which the file was opened: the main file's as given, another's as the
-    /// statement that names it gives.
+    /// The name under which the file was opened: the main file's name as given, another file's as
+    /// in the statement that names it.
     pub file: Name,
     pub spot: Spot,
 }
@@ -120,15 +120,15 @@ impl PlaceRef<'_> {
 /// The cause of a fault.
 #[derive(Debug, PartialEq, Eq, Drop)]
 pub enum Cause {
-    /// The text of a file is no list of statements, or not those of a dyndep file.
+    /// The text of a file is not a list of statements, or not of those of a dyndep file.
     Syntax(SyntaxCause<Name>),
     /// A path that is empty once its variables are expanded.
     EmptyPath,
     /// A depth that is not a number, or greater than 2147483647.
     BadDepth,
-    /// A second rule with this name in a scope, or one named `phony`.
+    /// A second rule with the same name in a scope, or a rule named `phony`.
     DuplicateRule(Name),
-    /// A second pool with this name, or one named `console`.
+    /// A second pool with the same name, or a pool named `console`.
     DuplicatePool(Name),
     /// `ninja_required_version` requires this version, which is newer than 1.12.
     VersionTooNew(Name),
@@ -140,15 +140,15 @@ pub enum Cause {
     TooDeep,
     /// More than [`MOST_OPENED`](crate::MOST_OPENED) files would be opened in one run.
     TooManyOpenings,
-    /// The file at the path is there, or may be, and reading it failed.
+    /// The file at the path exists, or may exist, and reading it failed.
     Io(Name),
     /// A rule that no scope declares, at its name ("Build statements").
     UnknownRule(Name),
-    /// A path that two build statements make, or one names twice as its output, at the second word
-    /// that names it ("Build outputs").
+    /// A path that two build statements make, or that is repeated in the outputs of one, at the
+    /// second word that names it ("Build outputs").
     TwoMakers(Name),
     /// A path that no build statement names: at the word of a `default` statement ("Default target
-    /// statements"), or without a place for one that was requested.
+    /// statements"), or without a place for a requested path.
     UnknownTarget(Name),
     /// A variable of a rule whose value for an edge refers to itself, directly or through others,
     /// at the build statement ("Rule variables").
@@ -161,7 +161,7 @@ pub enum Cause {
     /// An edge that its dyndep file does not mention, at its build statement: its first output, and
     /// the path of the dyndep file ("Dynamic Dependencies").
     DyndepNoStatement(Name, Name),
-    /// A path whose build statement an earlier entry means already, at the word of the dyndep file.
+    /// A path whose build statement has an earlier entry already, at the word of the dyndep file.
     DyndepTwice(Name),
     /// A path that no build statement bound to this dyndep file makes, at the word of the dyndep
     /// file.
@@ -188,7 +188,7 @@ fn owned(alloc: Global, cause: SyntaxCause<&[u8]>) -> Result<SyntaxCause<Name>, 
 /// The first fault of a run: of its files in reading order, else of the request about their graph.
 #[derive(Debug, PartialEq, Eq, Drop)]
 pub struct GraphFault {
-    /// `None` where the fault has no location.
+    /// `None` if the fault has no location.
     pub place: Option<Place>,
     pub cause: Cause,
 }

@@ -61,7 +61,7 @@ fn line_after(alloc: Global, fault: &GraphFault, otherwise: &str) -> Result<Vec<
     Ok(line)
 }
 
-// The text before that of a fault: its place, or `otherwise` for a fault without one.
+// The text before the text of a fault: its place, or `otherwise` without a place.
 fn opening_text(
     alloc: Global,
     place: &Option<Place>,

@@ -8,11 +8,11 @@ use nj_text::version_of;
 // Its major and its minor number.
 const READER_VERSION: (u64, u64) = (1, 12);
 
-/// The text of a fault for a version that is newer.
+/// The text of a fault for a newer version.
 pub(crate) const IS_NEWER: &str = " is newer than 1.12";
 
-/// Whether a file that requires this version of Ninja is for a newer one than 1.12, by major and
-/// minor number ("Version requirements" in the Ninja manual).
+/// Whether a file that requires the given version of Ninja is for a version newer than 1.12, by
+/// major and minor number ("Version requirements" in the Ninja manual).
 pub fn is_newer(text: &[u8]) -> bool
     ensures { result ≡ is_newer text.now }
 {

@@ -88,7 +88,7 @@ fit-with part parts byte path old old_next next is is_old_next is_next = record 
   after_slash = after_slash (part ∷ parts) byte path old is;
 }
 
--- no parts match no path with a byte
+-- no parts at all do not match a path with a byte
 pub fit_of_none : (byte : ℕ) (path : List ℕ) (old : Fit) → IsFit [] path old
     → IsFit [] (byte ∷ path) (record { whole = false; after_slash = after_slash_with byte old })
 fit_of_none byte path old is = record {
@@ -129,7 +129,7 @@ fit_of_empty part parts next is = record {
 
 -- ---- many
 
--- the parts from one on are that one and the others
+-- the parts from one on are that part and the others
 part-at : (parts : List Part) (index next : ℕ) (part : Part) → next ≡ index + 1 → index < length parts
     → part ≡ get_or parts index part → drop index (parts_model parts)
     ≡ part_model part ∷ drop next (parts_model parts)

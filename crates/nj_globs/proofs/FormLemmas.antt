@@ -24,7 +24,7 @@ use Rattle.nj_globs.specs.Inside.Readings.{read_stars, read_part, read_front}
 
 -- ---- the end of a set
 
--- nothing before an index passes
+-- no letter before an index passes
 none-before : (p : Letter → Bool) (xs : List Letter) (n : ℕ) (d : Letter)
     → ((k : ℕ) → k < n → p (get_or xs k d) ≡ false) → n ≤ length xs → list_any p (take n xs) ≡ false
 none-before p xs zero d none within = refl
@@ -278,7 +278,7 @@ wrong-forth begins first others fault read =
 
 -- ---- what letters begin with
 
--- a letter that is one sign is no other
+-- a letter that is one sign is not another
 no_other : (sign other : ℕ) (l : Letter) → (sign == other) ≡ false → is_sign sign l ≡ true
     → is_sign other l ≡ false
 no_other sign other l apart is = by l.is_literal (l.byte == sign) refl is

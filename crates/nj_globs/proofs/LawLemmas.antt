@@ -59,7 +59,7 @@ wrong-begins begins letters fault wrong part after is =
     sym (wrong-back begins letters fault wrong) ∙ begins-back begins part letters after is in
     cc
 
--- two readings up to where no part is are the same
+-- two readings up to where no part begins are the same
 record AreSame (one other : List GlobPart) (rest others : List Letter) : Type 0 where
   pub parts : one ≡ other
   pub rests : rest ≡ others

@@ -20,7 +20,7 @@ split_at_front (b ∷ more) rest path byte cut = inr (
   (cc),
 )
 
--- no bytes are two runs of none
+-- no bytes are two empty runs
 pub split_of_none : (front rest : List ℕ) → [] ≡ front ++ rest → (front ≡ []) × (rest ≡ [])
 split_of_none [] rest cut = (refl, sym cut)
 split_of_none (b ∷ more) rest cut = absurd (cc)
@@ -102,7 +102,7 @@ pub double_star-back : (parts : List GlobPart) (byte : ℕ) (path : List ℕ)
 double_star-back parts byte path (front, rest, cut, any, matches) =
     (byte ∷ front, rest, ap (λ p. byte ∷ p) cut, tt, matches)
 
--- none of them stands for any of no bytes
+-- on a path of no bytes, a `*` stands for no bytes
 pub star-none : (parts : List GlobPart) → Matches (star ∷ parts) [] → Matches parts []
 star-none parts (front, rest, cut, free, matches) =
     subst (Matches parts) (split_of_none front rest cut).1 matches

@@ -35,7 +35,8 @@ is_in_set is_negated ranges byte =
 abbrev pub IsOne : (test : ℕ → Bool) → (bytes : List ℕ) → Type 0
 IsOne test bytes = (byte : ℕ) × (bytes ≡ byte ∷ []) × (test byte ≡ true)
 
--- the bytes that a part stands for: `*` for a run without `/`, `**` for any run, `**/` for any that ends in `/`, or for none
+-- the bytes that a part stands for: `*` for a run without `/`, `**` for any run, `**/` for no bytes or a run that ends in
+-- `/`
 abbrev pub StandsFor : GlobPart → (bytes : List ℕ) → Type 0
 StandsFor (one_byte byte) bytes = IsOne (λ b. b == byte) bytes
 StandsFor any_byte bytes = IsOne (λ b. not (is_slash b)) bytes

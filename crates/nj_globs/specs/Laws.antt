@@ -38,7 +38,7 @@ DoubleStarMatchesAll = (parts : List GlobPart) × ArePartsOf (codes "**") parts 
 abbrev pub is_special_byte : ℕ → Bool
 is_special_byte byte = byte == 42 || byte == 63 || byte == 91 || byte == 92
 
--- a pattern without special bytes matches itself alone
+-- a pattern without special bytes matches only itself
 abbrev pub PlainPatternsMatchThemselves : Type 0
 PlainPatternsMatchThemselves = (pattern : List ℕ) → list_any is_special_byte pattern ≡ false
     → (parts : List GlobPart) × ArePartsOf pattern parts × ((path : List ℕ) → Matches parts path ↔ (path ≡ pattern))

@@ -10,11 +10,11 @@ use Rattle.nj_globs.specs.Globs.GlobPart.{one_byte, any_byte, star, double_star,
 
 -- ---- letters
 
--- a byte at this offset, and whether a `\` stands before it, so that it is no sign
+-- a byte at the given offset, and whether a `\` precedes it, so that it is not a sign
 abbrev pub letter : (byte : ℕ) → (is_literal : Bool) → (at : ℕ) → Letter
 letter byte is_literal at = record { byte = byte; is_literal = is_literal; at = at }
 
--- the letters of bytes from an offset on: a `\` and the byte after it are one, and any other byte is one
+-- the letters of bytes from an offset on: a `\` and the byte after it are one letter, and any other byte is one
 abbrev pub letters_from : (at : ℕ) → List ℕ → List Letter
 letters_from at [] = []
 letters_from at (byte ∷ []) = letter byte false at ∷ []
@@ -50,7 +50,7 @@ abbrev pub has_mark : List Letter → Bool
 has_mark [] = false
 has_mark (l ∷ letters) = is_mark l
 
--- a set is negated by a mark before its letters, which begin with none otherwise
+-- a set is negated by a mark before its letters; otherwise they do not begin with a mark
 abbrev pub IsMarked : (is_negated : Bool) → (mark inside : List Letter) → Type 0
 IsMarked true mark inside = (l : Letter) × (mark ≡ l ∷ []) × (is_mark l ≡ true)
 IsMarked false mark inside = (mark ≡ []) × (has_mark inside ≡ false)
@@ -60,7 +60,8 @@ abbrev pub has_end : List Letter → Bool
 has_end [] = false
 has_end (first ∷ others) = list_any (is_sign 93) others
 
--- Letters after a `[` are those inside a set, with its mark, then the first `]` that is not the first letter of the set, and others.
+-- Letters after a `[` are those inside a set, with its mark, then the first `]` that is not the first letter of the set,
+-- and the rest.
 pub record IsSet (is_negated : Bool) (letters inside after : List Letter) : Type 0 where
   pub mark : List Letter
   pub close : Letter
@@ -94,7 +95,7 @@ pub record HaveRanges (letters : List Letter) (ranges : List ByteRange) : Type 0
 
 -- ---- parts
 
--- letters begin with a part, where a directory begins or not, and these are after it
+-- letters begin with a part, where a directory begins or not, and the given letters are after it
 abbrev pub BeginWith : (begins : Bool) → GlobPart → (letters after : List Letter) → Type 0
 BeginWith begins (one_byte byte) letters after =
     (l : Letter) × (letters ≡ l ∷ after) × (l.byte ≡ byte) × (is_special l ≡ false)
@@ -108,7 +109,7 @@ BeginWith begins directories letters after = (l m n : Letter) × (letters ≡ l 
 BeginWith begins (byte_set is_negated ranges) letters after = (l : Letter) × (others inside : List Letter)
     × (letters ≡ l ∷ others) × (is_sign 91 l ≡ true) × IsSet is_negated others inside after × HaveRanges inside ranges
 
--- letters begin with no part, for this reason
+-- letters do not begin with a part, for the given reason
 abbrev pub BeginWrong : (letters : List Letter) → GlobFault → Type 0
 BeginWrong letters (UnclosedSet at) = (l : Letter) × (others : List Letter) × (letters ≡ l ∷ others)
     × (is_sign 91 l ≡ true) × (l.at ≡ at)
@@ -128,7 +129,7 @@ begins_after double_star = false
 begins_after directories = true
 begins_after (byte_set is_negated ranges) = false
 
--- Letters are these parts, one after another, and a rest. A directory begins before them or not, and before the rest.
+-- Letters are the given parts, one after another, and a rest. A directory begins before each of the two or not.
 abbrev pub AreParts : (begins : Bool) → List GlobPart → (letters rest : List Letter) → (begins_rest : Bool) → Type 0
 AreParts begins [] letters rest begins_rest = (letters ≡ rest) × (begins ≡ begins_rest)
 AreParts begins (part ∷ parts) letters rest begins_rest = (after : List Letter)
@@ -136,13 +137,13 @@ AreParts begins (part ∷ parts) letters rest begins_rest = (after : List Letter
 
 -- ---- patterns
 
--- no `\` of a pattern is lone, and its letters are these parts
+-- no `\` of a pattern is alone, and its letters are the given parts
 pub record ArePartsOf (pattern : List ℕ) (parts : List GlobPart) : Type 0 where
   pub whole : list_any is_lone (letters_from 0 pattern) ≡ false
   pub begins_rest : Bool
   pub are_parts : AreParts true parts (letters_from 0 pattern) [] begins_rest
 
--- no `\` of a pattern is lone, and after some parts its letters begin with none
+-- no `\` of a pattern is alone, and after some parts its letters do not begin with a part
 pub record Fails (pattern : List ℕ) (fault : GlobFault) : Type 0 where
   pub whole : list_any is_lone (letters_from 0 pattern) ≡ false
   pub parts : List GlobPart
@@ -151,7 +152,7 @@ pub record Fails (pattern : List ℕ) (fault : GlobFault) : Type 0 where
   pub before : AreParts true parts (letters_from 0 pattern) rest begins_rest
   pub wrong : BeginWrong rest fault
 
--- why a pattern is no glob
+-- why a pattern is not a glob
 abbrev pub IsGlobFault : (pattern : List ℕ) → GlobFault → Type 0
 IsGlobFault pattern (BackslashAtEnd at) = find is_lone (letters_from 0 pattern) ≡ Some (letter 92 false at)
 IsGlobFault pattern (UnclosedSet at) = Fails pattern (UnclosedSet at)

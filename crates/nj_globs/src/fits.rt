@@ -5,24 +5,24 @@ ghost use Rattle.nj_globs.specs.Cited.{AreFits, fit_with, after_slash_with, part
 
 use crate::parts::Part;
 
-/// How the parts from one on fit the rest of a path.
+/// How the parts from a given one on fit the rest of a path.
 #[derive(Clone, Copy, Debug)]
 pub(crate) struct Fit {
     /// They match it.
     pub(crate) whole: bool,
-    /// They match what comes after one of its slashes.
+    /// They match the rest after one of its slashes.
     pub(crate) after_slash: bool,
 }
 
 impl Fit {
-    /// That of no parts and a path of no bytes.
+    /// The fit of no parts with a path of no bytes.
     pub(crate) const END: Fit = Fit {
         whole: true,
         after_slash: false,
     };
 }
 
-/// Sets the fits to those of a path of no bytes. There is one from each part on, and one of no
+/// Sets the fits to those of a path of no bytes. There is a fit from each part on, and a fit of no
 /// parts.
 pub(crate) fn set_empty(parts: &[Part], fits: &mut [Fit])
     requires { length fits.old ≡ length parts.now + 1 }
@@ -37,7 +37,7 @@ pub(crate) fn set_empty(parts: &[Part], fits: &mut [Fit])
     }
 }
 
-/// Turns the fits of a path into those of the path with this byte in front.
+/// Turns the fits of a path into those of the path with the given byte in front.
 pub(crate) fn put_in_front(parts: &[Part], fits: &mut [Fit], byte: u8)
     requires { length fits.old ≡ length parts.now + 1 }
     ensures { (path : List ℕ) → AreFits (parts_model parts.now) path fits.old
@@ -55,7 +55,7 @@ pub(crate) fn put_in_front(parts: &[Part], fits: &mut [Fit], byte: u8)
     }
 }
 
-// The fit from this part on. `old` is the one before, and the others are of the next part.
+// The fit from the given part on. `old` is the fit before, and the others are of the next part.
 fn fit_with(part: &Part, byte: u8, old: Fit, old_next: Fit, next: Fit) -> Fit
     ensures { result ≡ fit_with (part_model part.now) byte old old_next next }
 {
@@ -71,7 +71,7 @@ fn fit_with(part: &Part, byte: u8, old: Fit, old_next: Fit, next: Fit) -> Fit
     }
 }
 
-// Whether parts match after a slash of a path with this byte in front.
+// Whether parts match after a slash of a path with the given byte in front.
 fn after_slash_with(byte: u8, old: Fit) -> bool
     ensures { result ≡ after_slash_with byte old }
 {

@@ -15,7 +15,7 @@ use std::marker::Model;
 #[derive(Drop)]
 pub struct Glob {
     parts: Vec<Part>,
-    // one from each part on, and one of no parts; overwritten for each path
+    // a fit from each part on, and a fit of no parts; overwritten for each path
     fits: Vec<Fit>,
 }
 
@@ -36,9 +36,9 @@ impl Glob {
     ///
     /// # Errors
     ///
-    /// [`GlobFault::BackslashAtEnd`] if the last byte is a `\` that makes no byte literal.
-    /// Otherwise [`GlobFault::UnclosedSet`] or [`GlobFault::ReversedRange`], for the first set that
-    /// is wrong. No other pattern is refused, except by [`GlobFault::OutOfMemory`].
+    /// [`GlobFault::BackslashAtEnd`] if the last byte is a `\` with no byte to escape. Otherwise
+    /// [`GlobFault::UnclosedSet`] or [`GlobFault::ReversedRange`], for the first set that is wrong.
+    /// No other pattern is refused, except by [`GlobFault::OutOfMemory`].
     pub fn read(alloc: Global, pattern: &[u8]) -> Result<Glob, GlobFault>
         ensures glob { IfOk result (λ glob. ArePartsOf pattern.now glob) }
         ensures fault { IfErr result (λ fault. IsGlobFault pattern.now fault) }
@@ -51,8 +51,8 @@ impl Glob {
     }
 
     /// Whether the whole path matches. It borrows the glob mutably only for a buffer, so it
-    /// allocates nothing. Its time is at most that of a step for each byte of the path with each
-    /// byte of the pattern.
+    /// allocates nothing. It takes at most a step for each pair of a byte of the path and a byte of
+    /// the pattern.
     pub fn matches(&mut self, path: &[u8]) -> bool
         ensures answer { IsTrue result ↔ Matches self.old path.now }
         ensures same { self.new ≡ self.old }

@@ -1,4 +1,4 @@
-//! Why a pattern is no glob.
+//! Why a pattern is not a glob.
 
 ghost use Rattle.std.specs.Prelude.{◌≡◌, Some};
 ghost use Rattle.nj_globs.specs.Cited.{OutOfMemory, fault_text};
@@ -7,7 +7,7 @@ use std::alloc::{AllocError, AllocFailed};
 use std::error::Error;
 use std::fmt;
 
-/// Why a pattern is no glob, with the offset of a byte, from 0.
+/// Why a pattern is not a glob, with the offset of a byte, from 0.
 #[derive(Clone, Copy, Debug, PartialEq, Eq)]
 pub enum GlobFault {
     /// A `[` at this offset without its `]`.

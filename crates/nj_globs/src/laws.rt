@@ -27,7 +27,7 @@ pub fn double_star_matches_all()
     ensures { DoubleStarMatchesAll }
 {}
 
-/// A pattern without special bytes matches itself alone.
+/// A pattern without special bytes matches only itself.
 pub fn plain_patterns_match_themselves()
     ensures { PlainPatternsMatchThemselves }
 {}

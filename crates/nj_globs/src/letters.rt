@@ -10,14 +10,14 @@ use std::alloc::Global;
 #[derive(Clone, Copy, Debug)]
 pub(crate) struct Letter {
     pub(crate) byte: u8,
-    /// A `\` stands before it, so it is no sign.
+    /// A `\` precedes it, so it is not a sign.
     pub(crate) is_literal: bool,
     /// The offset of the byte, or of that `\` if any.
     pub(crate) at: usize,
 }
 
 impl Letter {
-    /// Whether it is this sign.
+    /// Whether it is the given sign.
     pub(crate) fn is_sign(self, sign: u8) -> bool
         ensures { result ≡ is_sign sign self }
     {

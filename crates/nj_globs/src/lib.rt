@@ -6,9 +6,9 @@
 //! | `*` | any number of bytes other than `/` |
 //! | `**` | any bytes |
 //! | `**/` at the beginning or after a `/` | any bytes that end in `/`, or none |
-//! | `[abc]`, `[a-z]` | one of these bytes, but never `/` |
-//! | `[!abc]`, `[^abc]` | one byte that is none of these, and never `/` |
-//! | `\` and a byte | this byte |
+//! | `[abc]`, `[a-z]` | one of the listed bytes, but never `/` |
+//! | `[!abc]`, `[^abc]` | one byte that is not listed, and never `/` |
+//! | `\` and a byte | that byte |
 //! | any other byte | itself |
 //!
 //! So `**/x` matches `x` and `a/b/x`, and `a/**/b` matches `a/b`. In a set a `]` that comes first is

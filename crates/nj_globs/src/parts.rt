@@ -31,7 +31,7 @@ pub(crate) enum Part {
 }
 
 impl Part {
-    /// Whether it stands for this byte, and for one byte only.
+    /// Whether it stands for the given byte, and for one byte only.
     pub(crate) fn takes(&self, byte: u8) -> bool
         ensures { result ≡ takes (part_model self.now) byte }
     {

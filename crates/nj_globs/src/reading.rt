@@ -25,7 +25,7 @@ pub(crate) fn read_parts(alloc: Global, letters: &[Letter]) -> Result<Vec<Part>,
     Ok(parts)
 }
 
-// The part at the front of letters, and those after it; a directory begins there or not.
+// The part at the front of letters, and the letters after it; a directory begins there or not.
 fn read_part(
     alloc: Global,
     begins: bool,
@@ -49,7 +49,7 @@ fn read_part(
     Ok((Part::Byte(first.byte), others))
 }
 
-// `*`, `**` or `**/`: a `*` before these letters.
+// `*`, `**` or `**/`: a `*` before the given letters.
 fn read_stars(begins: bool, letters: &[Letter]) -> (Part, &[Letter])
     ensures part { (part_model result.0, result.1.now) ≡ read_stars begins letters.now }
     ensures shorter { length result.1.now ≤ length letters.now }
@@ -63,7 +63,7 @@ fn read_stars(begins: bool, letters: &[Letter]) -> (Part, &[Letter])
     }
 }
 
-// A set whose `[` is at this offset, before these letters.
+// A set whose `[` is at the given offset, before the given letters.
 fn read_set(alloc: Global, at: usize, letters: &[Letter]) -> Result<(Part, &[Letter]), GlobFault>
     ensures part { IfOk result (λ p. read_set at letters.now ≡ Ok (part_model p.0, p.1.now)) }
     ensures shorter { IfOk result (λ p. length p.1.now ≤ length letters.now) }
@@ -90,7 +90,7 @@ fn split_mark(letters: &[Letter]) -> (bool, &[Letter])
     }
 }
 
-// The letters of a set, and those after its `]`.
+// Returns the letters of a set, and the letters after its `]`, or `None` without a `]`.
 fn split_set(letters: &[Letter]) -> Option<(&[Letter], &[Letter])>
     ensures split { option_map (λ p. (p.0.now, p.1.now)) result ≡ split_set letters.now }
     ensures shorter { IfSome result (λ p. length p.1.now ≤ length letters.now) }
@@ -132,7 +132,7 @@ fn read_ranges(alloc: Global, letters: &[Letter]) -> Result<Vec<ByteRange>, Glob
     Ok(ranges)
 }
 
-// The last letter of the range that begins with this one, and the letters after it.
+// The last letter of the range that begins with the given letter, and the letters after it.
 fn split_range(first: Letter, others: &[Letter]) -> (Letter, &[Letter])
     ensures range { (result.0, result.1.now) ≡ range_end first others.now }
     ensures shorter { length result.1.now ≤ length others.now }

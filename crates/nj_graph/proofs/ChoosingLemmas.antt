@@ -32,7 +32,7 @@ chosen-next files indices i p at =
     filter_map-append (slice_get files) indices (i ∷ [])
     ∙ ap (λ o. chosen_files files indices ++ cons_option o []) at
 
--- the next one
+-- the next file
 next-by-suc : (files : List Pending) (indices : List ℕ) (i d : ℕ) → i < length indices
     → AllByRecursion (λ index. index < length files) indices
     → (p : Pending) × (slice_get files (get_or indices i d) ≡ Some p)
@@ -84,7 +84,7 @@ pub all-known : (most : ℕ) (indices : List ℕ) (i : ℕ) → AllByRecursion (
 all-known most [] i all here = (here, tt)
 all-known most (j ∷ indices) i all here = (all.0, all-known most indices i all.1 here)
 
--- ---- the files that are there
+-- ---- the files that exist
 
 module _ (times : DeclaredTimes) where
   module _ (files present : List Pending) (p : Pending) (so_far : ArePresent times files present) where

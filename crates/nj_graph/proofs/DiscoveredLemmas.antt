@@ -60,7 +60,7 @@ module _ (first before after last : SourceState) (early : IsLater first before) 
 
 -- ---- edge by edge
 
--- one more edge: what was discovered for the first ones stays
+-- one more edge: the discoveries for the first edges stay
 module _ (start before after : SourceState) (times : DeclaredTimes) (log : LogModel)
     (entries : List ReadStatement) (count : ℕ) (deps depfile : List ℕ) (old new : DiscoveriesModel) where
   pub first-more : IsLater start before → IsLater before after

@@ -134,7 +134,7 @@ edges-open scopes (e ∷ before) opened = by e.item (edges-open scopes before op
     by (IncludeModel word) all = all
     by (SubninjaModel word) all = all
 
--- ---- both are there
+-- ---- the scope and the rule of an edge exist
 
 pub known-details : (declarations : DeclarationsModel) (edges : List EdgeModel)
     → AllByRecursion (λ x. IsOpenScope declarations.scopes x.scope x.around) edges

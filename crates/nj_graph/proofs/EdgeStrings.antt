@@ -84,7 +84,7 @@ module _ (g : GraphModel) (entries : List ReadStatement) (is : IsGraphOf g entri
   block-is = same-everywhere (λ name. bound_in g.built.blocks n name) edge.block
       (λ name. is.built.blocks n name ∙ ap (λ o. block_of_edge o name) there.1)
 
-  -- the value of a variable, which a dyndep file gives or does not
+  -- the value of a variable, which may come from a dyndep file
   abbrev by_dyndep : (asked : List ℕ) → Bool → List ℕ
   by_dyndep asked gives =
       if gives then codes "1" else

@@ -24,7 +24,7 @@ use Rattle.nj_graph.specs.Inside.PathsReached.{with_new, with_news, paths_read, 
 use Rattle.nj_graph.specs.Inside.PathsReached.{come_joined}
 use Rattle.nj_graph.proofs.JoiningTables.{all_new-append}
 
--- ---- those that are not there yet
+-- ---- the paths that are not in the list yet
 
 filter-twice : (f g h : List ℕ → Bool) → ((x : List ℕ) → (g x && f x) ≡ h x) → (xs : List (List ℕ))
     → filter f (filter g xs) ≡ filter h xs
@@ -38,7 +38,7 @@ filter-twice f g h same (x ∷ xs) = by (g x) (same x) (filter-twice f g h same 
     by false is rest = rest ∙ ap (λ c. cond c (x ∷ filter h xs) (filter h xs)) is
 
 module _ (before : List (List ℕ)) (path : List ℕ) where
-  -- where the path is there already
+  -- where the path is in the list already
   known-other : is_among before path ≡ true → (y : List ℕ)
       → (not (bytes_eq y path) && not (is_among before y)) ≡ not (is_among before y)
   known-other known y = by (bytes_eq y path) (bytes_eq-Decides y path).0

@@ -30,7 +30,7 @@ pub record FindsText (before after : SourceState) (old held : List Reading) (pat
     pub found : reading_of files path ≡ Some (record { path = path; bytes = Some text })
     pub came_to : paths_of files ≡ with_new (paths_of old) path
 
--- no file is there
+-- the file does not exist
 pub record FindsNone (before after : SourceState) (old : List Reading) (place : Place) (path : List ℕ)
     (fault : GraphFault) : Type 0 where
   pub files : List Reading

@@ -137,7 +137,7 @@ module _ (g : EdgeGraph) (edge : ℕ) (before : List InputOfEdge) (paths : List 
             (those-same (IsUndeclared g.edges) own (so_far paths) (map (input_of_edge g.files) f.inputs.items)
             finds.those not)
 
-    -- one that is not
+    -- a path that is not declared
     module _ (input : UndeclaredInput) (edge_is : input.edge.0 ≡ edge)
         (file_is : position (bytes_eq path) g.files ≡ Some input.file.0)
         (undeclared : IsUndeclared g.edges own) where
@@ -248,7 +248,7 @@ pub cleans-all : (paths : List (List ℕ)) (numbers : List PathNo) (i : ℕ) →
     ≡ map clean_path_of (map (name_at paths) (numbers_of numbers))
 cleans-all paths numbers i past = grind (arith, common_steps)
 
--- the search for the next ones makes no difference
+-- the search for further inputs makes no difference
 pub same-finds : (g : EdgeGraph) (edge : ℕ) (before : List InputOfEdge) (paths : List (List ℕ))
     (f other : FoundInputs) → f.inputs ≡ other.inputs → f.files ≡ other.files → FindsAt g edge before paths f
     → FindsAt g edge before paths other

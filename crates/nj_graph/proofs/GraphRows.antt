@@ -9,7 +9,7 @@ use Rattle.nj_graph.specs.Graph.{has_description, description_text}
 abbrev line : (key : List ℕ) → List PartModel → RuleLineModel
 line key value = record { key = key; value = value }
 
--- rule cc, with two descriptions, where the last one counts: an escape is its byte
+-- rule cc, with two descriptions, of which the last takes effect; an escape is its byte
 abbrev cc_rule : RuleModel
 cc_rule = record {
   scope = 0;

@@ -98,7 +98,7 @@ module _ (g h : GraphModel) where
 
 -- ---- needed edges
 
--- the edges that files need, in the graph of these edges
+-- the edges that files need, in the graph of the given edges
 pub needed-are : (g : GraphModel) (v : EdgeGraph) (files : List FileNo) (found : List EdgeNo)
     → v ≡ g.built.graph
     → ((edge : ℕ) → Contains (map (λ e. e.0) found) edge

@@ -143,7 +143,7 @@ depth-same e entries nothing scope lines =
     (slice_get lines (length lines - 1))) 0)
     (fun_ext (λ n. fun_ext (λ x. bounds-same e entries nothing n x)))
 
--- a line that has a depth is no fault
+-- a line that has a depth is not a fault
 pub depths-next : (file scope : List ℕ) (entries : List ReadStatement) (lines : List Line) (i : ℕ)
     (line : Line) → i < length lines → line ≡ get_or lines i line
     → is_depth (expanded_in scope entries (word_model line.value)) ≡ true

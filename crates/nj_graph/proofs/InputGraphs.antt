@@ -1,5 +1,5 @@
--- The result of joining inputs that are named for edges: the graph of the statements with these
--- inputs, or a cycle.
+-- The result of joining inputs that are named for edges: the graph of the statements with the named inputs,
+-- or a cycle.
 use Rattle.std.proofs.Common.{◌≡◌, ℕ, Ok, List, length, sym, subst, ◌∙◌}
 use Rattle.std.proofs.lemmas.List.{length-map}
 use Rattle.nj_scope.specs.Readings.{IsPrefix}

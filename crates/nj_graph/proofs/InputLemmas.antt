@@ -35,7 +35,7 @@ among-cond : (k : Bool) (p path : List ℕ) (paths : List (List ℕ))
 among-cond true p path paths = refl
 among-cond false p path paths = refl
 
--- a path that is kept is among the kept ones of a list, if it is in the list
+-- a path that is kept is among the kept paths of a list, if it is in the list
 pub among-kept : (keeps : List ℕ → Bool) (paths : List (List ℕ)) (path : List ℕ) → keeps path ≡ true
     → is_among (filter keeps paths) path ≡ is_among paths path
 among-kept keeps [] path kept = refl
@@ -61,7 +61,7 @@ module _ (e : EdgePaths) (before : List (List ℕ)) (path : List ℕ) where
   abbrev keeps : List ℕ → Bool
   keeps p = not (is_among (counted_inputs_of e) p)
 
-  -- the inputs of an edge and those that are new, with one more path
+  -- the inputs of an edge and the new inputs, with one more path
   pub new-more : new_inputs e (before ++ path ∷ [])
       ≡ (if is_among (counted_inputs_of e ++ new_inputs e before) path then new_inputs e before else
       new_inputs e before ++ path ∷ [])
@@ -153,7 +153,7 @@ stays-all (path ∷ paths) t =
           (fold with_new_input (with_new_input t path) paths).table.files one.files more.files;
     }
 
--- the inputs that are to be added to an edge are those of these paths that it doesn't have
+-- the inputs that are to be added to an edge are the given paths that it doesn't have
 inputs-one : (t : InputTable) (e : EdgePaths) (before : List (List ℕ)) (path : List ℕ)
     → edge_at t.table.stated t.edge ≡ e → t.table.«open».inputs ≡ new_inputs e before
     → (with_new_input t path).table.«open».inputs ≡ new_inputs e (before ++ path ∷ [])
@@ -307,7 +307,7 @@ one-less (p ∷ inputs) zero paths t is =
     ap (λ ps. joined_edges inputs (at_next_edge (fold with_new_input t ps))) (sym (same_Some p paths is))
 one-less (p ∷ inputs) (suc n) paths t is = one-less inputs n paths t is
 
--- by an index and the next one
+-- by an index and the next index
 pub one-more : (inputs : List (List (List ℕ))) (n : ℕ) (paths : List (List ℕ)) (t u : InputTable)
     → slice_get inputs n ≡ Some paths → u ≡ at_next_edge (fold with_new_input t paths)
     → joined_edges (drop (n + 1) inputs) u ≡ joined_edges (drop n inputs) t

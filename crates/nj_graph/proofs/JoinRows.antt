@@ -62,7 +62,7 @@ joined_of text files = all_joined files (read_of text []).entries
 abbrev dyndeps : (entries : List ℕ) → List ℕ
 dyndeps entries = codes "ninja_dyndep_version = 1\n" ++ entries
 
--- where `dd` has these entries
+-- where `dd` has the given entries
 abbrev joined_by : (text entries : List ℕ) → ReachedModel
 joined_by text entries = joined_of text (file (codes "dd") (dyndeps entries) ∷ [])
 
@@ -181,14 +181,14 @@ two_files_inputs : map (λ e. e.implicit_inputs) (paths_joined (joined_of three_
 unfolding on_dyndeps
 two_files_inputs = refl
 
--- the second one is not there
+-- the second file does not exist
 second_missing : (joined_of three_edges
     (file (codes "dd") (dyndeps (codes "build q: dyndep\nbuild o: dyndep\n")) ∷ missing (codes "ee") ∷
     [])).read.end ≡ Refused (fault_at main_file (at 3 1) (Missing (codes "ee")))
 unfolding on_dyndeps
 second_missing = refl
 
--- ---- the second one alone
+-- ---- the second file alone
 
 abbrev dd : (edge : ℕ) → Pending
 dd edge = record { edge = edge; file = codes "dd" }
@@ -208,12 +208,12 @@ ee_alone_inputs : map (λ e. e.implicit_inputs) (paths_joined ee_alone)
 unfolding on_dyndeps
 ee_alone_inputs = refl
 
--- the edges that are bound to the other one stay pending
+-- the edges that are bound to the other file stay pending
 ee_alone_is_joined : pending_read ee_alone.read.entries ≡ dd 0 ∷ dd 2 ∷ []
 unfolding on_dyndeps
 ee_alone_is_joined = refl
 
--- of it alone a source of times has one
+-- a source of times has only the time of the second file
 abbrev times_of_ee : DeclaredTimes
 times_of_ee path = if bytes_eq path (codes "ee") then Some (Time (Some 5)) else Some (Time None)
 

@@ -1,4 +1,4 @@
--- Which edges are pending on dyndep files, as these are joined one after another.
+-- Which edges are pending on dyndep files, as the files are joined one after another.
 use Rattle.std.proofs.lemmas.Grind.{common_steps}
 use Rattle.std.proofs.Common.{◌≡◌, ℕ, zero, suc, ◌<◌, ◌==◌, Bool, true, false, cond, not, ◌||◌, Option, Some}
 use Rattle.std.proofs.Common.{None, option_map, List, [], ◌∷◌, find, filter, length, slice_get, bytes_eq}
@@ -194,7 +194,7 @@ file-whole files stated p joined h = by_text (is_utf8 p.file) h
     by_text true e = by_outcome (reading_of files p.file) e
     by_text false e = absurd cc
 
--- a pending edge is one of the statements
+-- if no entry is lacking, no edge is pending on the file
 lacking-none : (file : List ℕ) (joined : List ReadStatement) → lacking_fault file joined ≡ None
     → AllByRecursion (λ q. bytes_eq q.file file ≡ false) (pending_read joined)
 lacking-none file joined h = find-none (λ q. bytes_eq q.file file) (pending_read joined)
@@ -215,7 +215,7 @@ lacking-none file joined h = find-none (λ q. bytes_eq q.file file) (pending_rea
 
 -- ---- the files on which edges are pending
 
--- an edge is pending on one of these
+-- an edge is pending on one of the given files
 abbrev pending_among : List Pending → Pending → Bool
 pending_among files q = list_any (λ p. bytes_eq q.file p.file) files
 

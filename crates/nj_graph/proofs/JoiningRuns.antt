@@ -23,7 +23,7 @@ use Rattle.nj_graph.proofs.JoiningTables.{all_new-append}
 
 -- ---- ends
 
--- another file ends the joining where this one stops
+-- the joining did not go to its end
 abbrev IsStopped : End → Type 0
 IsStopped Whole = ⊥
 IsStopped (Refused fault) = ⊤
@@ -51,7 +51,7 @@ stays (Lacking path place) p entries others h = refl
 
 -- ---- the files so far
 
--- a joining after one that came to these paths
+-- a joining after another that came to the given paths
 abbrev remainder : List (List ℕ) → ReachedModel → ReachedModel
 remainder paths j = record { read = j.read; paths = paths ++ j.paths }
 

@@ -41,7 +41,7 @@ abbrev pub entries_left : (most : ℕ) → (version_read : Bool) → List Line �
 entries_left most true lines = parsed_in next_entry most lines
 entries_left most false lines = after_version most (version_next lines)
 
--- An entry is the first of those to come; after it there are fewer lines.
+-- An entry is the first entry of the rest; after it there are fewer lines.
 pub entries-step : (most : ℕ) (b : Bool) (ls rest : List Line) (entry : EntryModel)
     → left_entry b ls ≡ Ok (Some entry, rest) → ahead ls < most
     → (fewer : ℕ) × (entries_left most b ls ≡ and_parsed entry (entries_left fewer true rest))

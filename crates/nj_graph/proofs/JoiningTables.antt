@@ -54,7 +54,7 @@ asked-named p h = ap (λ b. cond b (p.file ∷ []) []) h
 pub asked-none : (p : Pending) → is_utf8 p.file ≡ false → path_asked p ≡ []
 asked-none p h = ap (λ b. cond b (p.file ∷ []) []) h
 
--- ---- the next one of a list
+-- ---- the next element of a list
 
 pub drop-next : {X : Type 0} (xs : List X) (i : ℕ) → i < length xs
     → (x : X) × (slice_get xs i ≡ Some x) × (drop i xs ≡ x ∷ drop (suc i) xs)

@@ -83,7 +83,7 @@ added-at named n (suc k) (e ∷ edges) = by (added-at named (n + 1) k edges)
         (let z : n + 1 + k ≡ n + suc k = omega arith in z))
     by (inr (is, past)) = inr (is, omega (arith, past))
 
--- ---- nothing is new twice
+-- ---- a path is new only once
 
 none-kept : (keeps : List ℕ → Bool) (paths : List (List ℕ))
     → ((p : List ℕ) → is_among paths p ≡ true → keeps p ≡ false) → filter keeps paths ≡ []

@@ -37,15 +37,15 @@ joined text = implicit_inputs (with_log some_log (read_of (rules ++ text) []).en
 
 -- ---- rows
 
--- after its own ones, each clean path once, without its explicit and implicit ones, and with its order-only
--- ones; its own output is one
--- like others
+-- after the edge's own inputs, each clean path once, without its explicit and implicit inputs, and with its
+-- order-only
+-- inputs; its own output is an input like others
 new_ones : joined (codes "build o: cc a | j || b\n")
     ≡ (codes "j" ∷ codes "b" ∷ codes "h" ∷ codes "o" ∷ []) ∷ []
 unfolding on_logs
 new_ones = refl
 
--- an edge without `deps`, and one whose first output the log doesn't know
+-- an edge without `deps`, and an edge whose first output the log doesn't know
 no_deps : joined (codes "build o: cp\nbuild q p: cc\n") ≡ [] ∷ [] ∷ []
 unfolding on_logs
 no_deps = refl

@@ -22,7 +22,7 @@ or-second : (a b : Bool) → (a || b) ≡ false → b ≡ false
 or-second false b is = is
 or-second true b is = absurd (true≢false is)
 
--- no edge makes a file that none names
+-- no edge makes a file that no edge names
 pub not-named : (edges : List EdgePaths) (path : List ℕ) → is_named edges path ≡ false
     → maker_of edges path ≡ None
 not-named [] path is = refl
@@ -38,7 +38,7 @@ pub path-found : (files : List (List ℕ)) (path : List ℕ) (file : FileNo)
     → position (bytes_eq path) files ≡ Some file.0 → path_at files file ≡ path
 path-found files path file is = ap (λ o. unwrap_or o []) (found-at path files file.0 is)
 
--- the path after those that were taken
+-- the path after the paths that were taken
 pub named-next : (taken rest : List (List ℕ)) (path : List ℕ)
     → name_at (taken ++ path ∷ rest) (length taken) ≡ path
 named-next [] rest path = refl

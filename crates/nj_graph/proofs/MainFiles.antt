@@ -133,7 +133,7 @@ module _ (main : List ℕ) (before after : SourceState) (fault : GraphFault) whe
       by (inr (inl m)) = main-unread m
       by (inr (inr m)) = main-none m
 
--- ---- the main file is there
+-- ---- the main file exists
 
 -- its scope
 pub main-placed : (main : List ℕ) (held : Reader) → IsNew main held

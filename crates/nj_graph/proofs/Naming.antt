@@ -359,7 +359,7 @@ module _ (main : List ℕ) (before after : SourceState) (old mid held : Reader) 
           (text_read (opened_in all o.within) inner text (e ∷ entries)))) listed
           (statements-come main all o.within inner _ _ (e ∷ entries))
 
--- ---- a statement that names none
+-- ---- a statement that does not name a file
 
 pub reads-one : (main : List ℕ) (source : SourceState) (old held : Reader) (e : ReadStatement)
     (entries : List ReadStatement)

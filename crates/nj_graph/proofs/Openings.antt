@@ -84,7 +84,7 @@ module _ (main : List ℕ) (before after : SourceState) (old : List Reading) (pl
         (opened-names main all within inner place e entries (named ∙ ap Some (sym same))
         (lt-ltb (files_opened entries) most_opened capacity))
 
-    -- there is no memory for the result
+    -- out of memory for the result
     pub stops-lacking : (left : ℕ) → EachPathOnce old → after ≡ before → (f : GraphFault) → f ≡ no_memory
         → StopsHere left f
     stops-lacking left once stays f answered inner e same named = record {
@@ -173,7 +173,7 @@ module _ (main : List ℕ) (before after : SourceState) (old : List Reading) (pl
           });
         }
 
-        -- no file is there
+        -- the file does not exist
         stops-none : (f : GraphFault) → FindsNone before after old place path f → StopsHere left f
         stops-none f none inner e same named = record {
           files = none.files;

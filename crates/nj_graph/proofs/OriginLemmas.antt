@@ -1,4 +1,4 @@
--- Where rules, pools and files come from: how that is represented, and which part of it the statements give.
+-- Where rules, pools and files come from: how that is represented, and which part comes from the statements.
 use Rattle.std.proofs.lemmas.Grind.{common_steps}
 use Rattle.std.proofs.Common.{◌≡◌, ℕ, suc, ◌+◌, ◌-◌, ◌<◌, ◌&&◌, ◌==◌, Bool, true, false, if◌then◌else◌}
 use Rattle.std.proofs.Common.{Option, Some, None, option_map, option_and_then, unwrap_or, IfSome, List, []}
@@ -273,7 +273,7 @@ pub origins-more : (main : List ℕ) (e : ReadStatement) (before : List ReadStat
     → origins_with e before (origins_read main before) ≡ origins_read main (e ∷ before)
 origins-more main e before = grind (arith, common_steps)
 
--- the origins of statements after a main file give that file
+-- the origins of statements after a main file include that file
 pub origins-of_main : (o : OriginsModel) (main : List ℕ) (entries : List ReadStatement)
     → o ≡ origins_read main entries → o ≡ origins_read (main_of o) entries
 origins-of_main o main entries is = grind (arith, common_steps)

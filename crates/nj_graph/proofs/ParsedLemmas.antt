@@ -21,7 +21,7 @@ abbrev pub and_parsed : {A : Type 0} → A → Parsed A → Parsed A
 and_parsed item others = record { items = item ∷ others.items; fault = others.fault }
 
 module _ {A : Type 0} (next : List Line → Parse (Option A)) where
-  -- An item is the first of those that are parsed; after it there are fewer lines.
+  -- An item is the first of the items that are parsed; after it there are fewer lines.
   pub parsed-step : (most : ℕ) (ls rest : List Line) (item : A) → next ls ≡ Ok (Some item, rest)
       → ahead rest < ahead ls → ahead ls < most
       → (fewer : ℕ) × (parsed_in next most ls ≡ and_parsed item (parsed_in next fewer rest))

@@ -16,12 +16,12 @@ use Rattle.nj_faults.specs.declared.fault.GraphFault.{GraphFault}
 use Rattle.nj_faults.specs.Faults.{no_memory}
 use Rattle.nj_graph.specs.Targets.{picked, targets_named, PicksTargets}
 
--- the path of a target before those of the others, or the first fault
+-- the path of a target before the paths of the others, or the first fault
 abbrev pub and_target : Result (List ℕ) GraphFault → Result (List (List ℕ)) GraphFault
     → Result (List (List ℕ)) GraphFault
 and_target one others = one >>= (λ path. others >>= (λ paths. Ok (path ∷ paths)))
 
--- both are there
+-- both results are paths
 pub and_target-ok : (one : Result (List ℕ) GraphFault) (others : Result (List (List ℕ)) GraphFault)
     (paths : List (List ℕ)) → and_target one others ≡ Ok paths
     → (p : List ℕ) × (ps : List (List ℕ)) × (one ≡ Ok p) × (others ≡ Ok ps) × (paths ≡ p ∷ ps)
@@ -46,7 +46,7 @@ module _ (edges : List EdgePaths) where
       (named-push words ps word path others is)
       ∙ ap (λ (qs : List (List ℕ)). Ok (qs ++ path ∷ [])) (sym parts)
 
-  -- or it is the first that names none
+  -- or it is the first that does not name a target
   named-stop : (words more : List (List ℕ)) (paths : List (List ℕ)) (word : List ℕ) (fault : GraphFault)
       → targets_named edges words ≡ Ok paths
       → picked edges word ≡ Err fault → targets_named edges (words ++ word ∷ more) ≡ Err fault

@@ -5,11 +5,11 @@ use Rattle.std.proofs.Common.{arith}
 use Rattle.std.specs.Prelude.{MatchOption}
 use Rattle.std.specs.List.{range_with_len}
 
--- those from `start` up to `end`
+-- the numbers from `start` up to `end`
 abbrev pub numbers-in : (start end : ℕ) → List ℕ
 numbers-in start end = range_with_len start (end - start)
 
--- one was taken, from `start` up to `end`, and those from `next` up to `stop` are left
+-- a number was taken, from `start` up to `end`, and the numbers from `next` up to `stop` are left
 module _ (start end next stop : ℕ) where
   abbrev taken : Option ℕ → Type 0
   taken r = (stop ≡ end) × MatchOption r ((end - start ≡ 0) × (next ≡ start))

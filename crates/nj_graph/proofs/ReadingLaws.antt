@@ -34,13 +34,14 @@ HasCapacity item before = opens_file item ≡ 1 → nat_lt (files_opened before)
 opens-none : ◌≡◌ {A = ℕ} 0 1 → ⊥
 opens-none e = omega (arith, e)
 
--- A property of no statement, and of one more that is read, is one of all that are read.
+-- A property that holds of no statement, and stays true with one more statement that is read, holds of all
+-- that are read.
 module _ (P : List ReadStatement → Type 0)
     (next : (e : ReadStatement) (before : List ReadStatement) → P before → own_fault e before ≡ None
     → HasCapacity e.item before → e.depth ≤ most_within → P (e ∷ before)) where
   -- it is true where a file is opened within which a given number of files may be open, if it is true with
-  -- the statement that opens it
-  -- wherever one more may be opened
+  -- the
+  -- statement that opens it wherever one more file may be opened
   abbrev OpensKeep : (left : ℕ) → Opens → Type 0
   OpensKeep left opens = (site : Site) (place : Place) (e : ReadStatement) (before : List ReadStatement)
       → site.depth + left ≡ suc most_within → P before

@@ -36,11 +36,11 @@ main_file = codes "build.ninja"
 abbrev pub file : (path text : List ℕ) → Reading
 file path text = record { path = path; bytes = Some text }
 
--- no file is there
+-- the file does not exist
 abbrev pub missing : (path : List ℕ) → Reading
 missing path = record { path = path; bytes = None }
 
--- the reading where the main file has this text, and the others are these
+-- the reading where the main file and the other files have the given texts
 abbrev pub read_of : (text : List ℕ) → (others : List Reading) → ReadingModel
 read_of text others = main_read (file main_file text ∷ others) main_file
 
@@ -50,7 +50,7 @@ reads_all text others = (read_of text others).end ≡ Whole
 abbrev pub refuses : (text : List ℕ) → (others : List Reading) → (place : List ℕ) → Spot → Cause → Type 0
 refuses text others place spot cause = (read_of text others).end ≡ Refused (fault_at place spot cause)
 
--- refused in the main file, which is the only one
+-- refused in the main file, which is the only file
 abbrev pub refuses_alone : (text : List ℕ) → Spot → Cause → Type 0
 refuses_alone text spot cause = refuses text [] main_file spot cause
 
@@ -110,7 +110,7 @@ negative_depth : refuses_alone (codes "pool p\n  depth = -1\n") (at 2 3) BadDept
 unfolding on_files
 negative_depth = refl
 
--- also one that a later line overrides
+-- also a depth that a later line overrides
 overridden_depth : refuses_alone (codes "pool p\n  depth = x\n  depth = 1\n") (at 2 3) BadDepth
 unfolding on_files
 overridden_depth = refl
@@ -133,7 +133,7 @@ second_pool : refuses_alone (codes "pool p\n  depth = 1\npool p\n  depth = x\n")
 unfolding on_files
 second_pool = refl
 
--- a pool is one of all scopes
+-- a pool belongs to all scopes
 pool_in_two_scopes : refuses (codes "subninja s\nsubninja s\n")
     (file (codes "s") (codes "pool p\n  depth = 1\n") ∷ []) (codes "s") (at 1 6) (DuplicatePool (codes "p"))
 unfolding on_files
@@ -158,7 +158,7 @@ rule_in_two_scopes : reads_all (codes "subninja s\nsubninja s\n") (a_rule ∷ []
 unfolding on_files
 rule_in_two_scopes = refl
 
--- twice in the same scope
+-- repeated in the same scope
 rule_twice : refuses (codes "include s\ninclude s\n") (a_rule ∷ []) (codes "s") (at 1 6)
     (DuplicateRule (codes "r"))
 unfolding on_files
@@ -209,7 +209,7 @@ abbrev name_remainder : ℕ → List ℕ
 name_remainder zero = codes "x"
 name_remainder (suc n) = codes "a" ++ name_remainder n
 
--- a given number of files, each including the next; the last one includes `x`, which is missing
+-- a given number of files, each including the next; the last file includes `x`, which is missing
 abbrev chain : ℕ → List Reading
 chain zero = missing (codes "x") ∷ []
 chain (suc n) = file (name_remainder (suc n)) (codes "include " ++ name_remainder n) ∷ chain n
@@ -227,8 +227,8 @@ missing_without_capacity = refl
 
 -- ---- paths
 
--- the reading where the main file has this text, and the others are these, comes to these paths
--- after the main file's
+-- the reading where the main file and the other files have the given texts, comes to the given paths after
+-- the main file's
 abbrev comes_to : (text : List ℕ) → (others : List Reading) → (paths : List (List ℕ)) → Type 0
 comes_to text others paths = paths_come_to main_file (read_of text others) ≡ main_file ∷ paths
 
@@ -248,7 +248,7 @@ paths_to_lacking : comes_to (codes "subninja s\ninclude x\ninclude y\n") (a_rule
 unfolding on_files
 paths_to_lacking = refl
 
--- none after a fault
+-- no paths after a fault
 paths_before_fault : comes_to (codes "subninja s\ninclude $e\ninclude y\n") (a_rule ∷ []) (codes "s" ∷ [])
 unfolding on_files
 paths_before_fault = refl

@@ -51,7 +51,7 @@ module _ {X : Type 0} (lt : X → X → Bool) (P : X → Type 0) where
 -- ---- a stable sort leaves the list that is sorted so
 
 module _ {X : Type 0} (lt : X → X → Bool) (order : IsStrictWeakOrder lt) where
-  -- none is less than one before it
+  -- no element is less than an element before it
   abbrev Rises : List X → Type 0
   Rises [] = Unit {0}
   Rises (x ∷ xs) = AllByRecursion (λ y. lt y x ≡ false) xs × Rises xs
@@ -76,7 +76,7 @@ module _ {X : Type 0} (lt : X → X → Bool) (order : IsStrictWeakOrder lt) whe
   rises-sorted [] = tt
   rises-sorted (x ∷ xs) = rises-insert x (sorted_by lt xs) (rises-sorted xs)
 
-  -- those that tie keep their order
+  -- elements that tie keep their order
 
   tie-apart : (a x y : X) → ties lt a x ≡ true → ties lt a y ≡ true → lt y x ≡ false
   tie-apart a x y p q = order.chain y a x (second (lt a y) (lt y a) q) (first (lt a x) (lt x a) p)
@@ -127,7 +127,7 @@ module _ {X : Type 0} (lt : X → X → Bool) (order : IsStrictWeakOrder lt) whe
       by true h = absurd (true≢false (h refl))
       by false h = refl
 
-  -- no element of a list that rises ties with one that is less than its first
+  -- no element of a list that rises ties with an element that is less than its first
   none-ties : (y z : X) (zs : List X) → lt y z ≡ true → AllByRecursion (λ w. lt w z ≡ false) zs
       → filter (ties lt y) zs ≡ []
   none-ties y z [] h all = refl

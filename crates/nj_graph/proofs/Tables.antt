@@ -1,4 +1,4 @@
--- Lists of readings: first ones, and more after them.
+-- Lists of readings: first readings, and more after them.
 use Rattle.std.proofs.Common.{arith}
 use Rattle.std.proofs.lemmas.Grind.{common_steps}
 use Rattle.std.proofs.Common.{◌≡◌, ℕ, Bool, true, false, cond, ◌||◌, Option, Some, is_some, option_and_then}
@@ -80,7 +80,7 @@ pub with_new-other : (path : List ℕ) (files : List Reading) → is_read files 
 with_new-other path files h = ap (λ b. cond b (paths_of files) (paths_of files ++ path ∷ []))
     (sym (paths-listed path files) ∙ h)
 
--- a path that was not read is the last one
+-- a path that was not read before comes last
 pub paths-one_more : (path : List ℕ) (bytes : Option (List ℕ)) (files : List Reading)
     → is_read files path ≡ false → paths_of (files ++ record { path = path; bytes = bytes } ∷ [])
     ≡ with_new (paths_of files) path

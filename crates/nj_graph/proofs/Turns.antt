@@ -32,7 +32,7 @@ use Rattle.nj_graph.proofs.Naming.{syntax-names}
 
 -- ---- one reading after the other
 
--- another reading ends where this one stops
+-- the reading did not go to its end
 abbrev pub IsStopped : End → Type 0
 IsStopped Whole = ⊥
 IsStopped (reading.Refused fault) = ⊤
@@ -51,7 +51,7 @@ is-end-before before mid after (reading.Refused expected) fault same h = (h.0, h
 is-end-before before mid after (Lacking path place) fault same h =
     (h.0, subst (λ n. Rises n after.failures) same h.1)
 
--- a reading passes on how another one stops
+-- a reading passes on how another reading stops
 pub record Passes (main : List ℕ) (files : List Reading) (inner outer : List Reading → ReadingModel) : Type 0
   where
     pub comes : (all : List Reading) → IsPrefix files all → (front : List (List ℕ))
@@ -143,7 +143,7 @@ module _ (main : List ℕ) (before mid after : SourceState) (old opened held : R
       is all ext = o.read all ext ∙ ap (λ n. text_read (opened_in all n) inner text (e ∷ entries))
           (sym one-less)
 
--- a statement that names none
+-- a statement that does not name a file
 pub one-read : (main : List ℕ) (before after : SourceState) (old held : Reader) (left : ℕ) (e : ReadStatement)
     (entries : List ReadStatement) → ReadsOne main before after old held e entries
     → ReadsText main before after old held (λ all. statement_read (opened_in all left) e entries)

@@ -31,7 +31,7 @@ use Rattle.nj_graph.specs.Inside.UndeclaredFound.{inputs_by_number}
 -- ---- numbers of paths
 
 module _ (paths : List (List ℕ)) (distinct : IsDistinct bytes_eq paths) (path : List ℕ) where
-  -- a path has no other number than the one by which it is found
+  -- a path has only the number by which it is found
   number-is : (n : ℕ) → n < length paths → bytes_eq path (name_at paths n) ≡ true
       → position (bytes_eq path) paths ≡ Some n
   number-is n below same =

@@ -29,7 +29,7 @@ each-once : paths_of_output some_log (Some 0) ≡ codes "a.c" ∷ codes "gen.h" 
 unfolding on_logs
 each-once = refl
 
--- none where the log names `build.ninja`, by that very path
+-- no inputs where the log names the exact path `build.ninja`
 main-file : map (paths_of_output some_log) (Some 5 ∷ Some 7 ∷ [])
     ≡ [] ∷ (codes "gen.h" ∷ codes "build.ninja" ∷ []) ∷ []
 unfolding on_logs
@@ -38,7 +38,7 @@ main-file = refl
 abbrev rules : List ℕ
 rules = codes "rule cc\n  command = cc\n  deps = gcc\nrule gen\n  command = gen\n"
 
--- by edge; none for an edge without `deps`, and for one whose first output the log does not name
+-- by edge; no inputs for an edge without `deps`, or for an edge whose first output the log does not name
 by-edge : inputs_named some_log (read_of
     (rules ++ codes "build gen.h: gen\nbuild b.o: cc\nbuild a.o: gen\nbuild e.o b.o2: cc\nbuild c.o: cc\n")
     []).entries

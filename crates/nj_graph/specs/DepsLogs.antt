@@ -18,7 +18,7 @@ use Rattle.nj_graph.specs.Graph.{GraphModel, IsGraphOf, late_text_of}
 abbrev pub has_deps : List ReadStatement → (edge : ℕ) → Bool
 has_deps entries edge = not (is_empty (late_text_of entries edge (codes "deps")))
 
--- the number under which a log has the first output of such an edge
+-- a log's number of the first output of an edge with `deps`
 abbrev pub number_logged : LogModel → List ReadStatement → (edge : ℕ) → Option ℕ
 number_logged log entries edge =
     if has_deps entries edge
@@ -36,13 +36,12 @@ inputs_logged log number = map clean_path_of (paths_logged log (option_and_then 
 
 -- ---- joined
 
--- Each path that is named for an edge becomes an implicit input of it, unless it is an explicit or implicit one already.
+-- Each path that is named for an edge becomes an implicit input of it, unless it is an explicit or implicit input already.
 abbrev pub with_named : (named : (edge : ℕ) → List (List ℕ)) → List ReadStatement → List ReadStatement
 with_named named entries =
     with_inputs_named (λ edge. new_inputs (edge_at (paths_of_edges (edges_read entries)) edge) (named edge)) entries
 
--- The graph of the statements with the inputs that are named; where these have a dependency cycle, its fault; or memory ran
--- out.
+-- The graph of the statements with the named inputs; if that graph has a dependency cycle, its fault; or memory ran out.
 abbrev pub JoinsNamed : (named : (edge : ℕ) → List (List ℕ)) → (stated : List ReadStatement) → Result GraphModel GraphFault → Type 0
 JoinsNamed named stated (Ok graph) = IsGraphOf graph (with_named named stated)
 JoinsNamed named stated (Err fault) = (fault ≡ no_memory) ⊎ IsCycleFault (edges_read (with_named named stated)) fault
@@ -51,7 +50,7 @@ JoinsNamed named stated (Err fault) = (fault ≡ no_memory) ⊎ IsCycleFault (ed
 abbrev pub with_log : LogModel → List ReadStatement → List ReadStatement
 with_log log entries = with_named (λ edge. inputs_logged log (number_logged log entries edge)) entries
 
--- the result of joining a deps log to the edges of these statements
+-- the result of joining a deps log to the edges of the given statements
 abbrev pub JoinsLog : LogModel → (stated : List ReadStatement) → Result GraphModel GraphFault → Type 0
 JoinsLog log stated result = JoinsNamed (λ edge. inputs_logged log (number_logged log stated edge)) stated result
 

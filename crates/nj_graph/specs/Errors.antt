@@ -9,12 +9,12 @@ use Rattle.nj_faults.specs.FaultLines.{shown_line}
 use Rattle.nj_graph.specs.declared.error.Error.{Error}
 use Rattle.nj_graph.specs.declared.error.Error.TheVariants.{Graph, EmptyPath, OutOfMemory}
 
--- a fault of files or of their graph is the error of its own, but for lack of memory
+-- a fault of files or of their graph is an error of its own, except for lack of memory
 abbrev pub TakesFault : GraphFault → Error → Type 0
 TakesFault fault error =
     ((fault.cause ≡ cause.OutOfMemory) × (error ≡ OutOfMemory)) ⊎ (¬ (fault.cause ≡ cause.OutOfMemory) × (error ≡ Graph fault))
 
--- so is one of a path
+-- so is an error of a path
 abbrev pub error_of_text : TextFault → Error
 error_of_text text.EmptyPath = EmptyPath
 error_of_text text.OutOfMemory = OutOfMemory

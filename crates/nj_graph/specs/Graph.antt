@@ -33,19 +33,20 @@ edges_of g = g.built.graph.edges
 abbrev pub files_of : GraphModel → List (List ℕ)
 files_of g = g.built.graph.files
 
--- a scope with those around it, which were all opened
+-- a scope with its enclosing scopes, which were all opened
 pub record IsOpenScope (scopes : List ScopeModel) (number : ℕ) (around : List ℕ) : Type 0 where
   pub within : IsScope (parent_at scopes) number (number ∷ around)
   pub there : AllByRecursion (λ n. n < length scopes) (number ∷ around)
 
--- an edge has one of these rules, and is phony where that is called `phony`
+-- an edge has one of the given rules, and is phony if its rule is called `phony`
 pub record HasRule (rules : List RuleModel) (e : EdgeModel) : Type 0 where
   pub rule : RuleModel
   pub rule_is : slice_get rules e.rule ≡ Some rule
   pub phony_is : bytes_eq rule.name phony ≡ e.paths.is_phony
 
--- The graph is that of the statements: their declarations, in their scopes, and their edges and defaults; each edge has a rule, and none
--- needs itself by a chain. Rules, pools and files come from where the statements are, after the main file was opened.
+-- The graph is that of the statements: their declarations, in their scopes, and their edges and defaults; each edge has
+-- a rule, and no edge needs itself by a chain. Rules, pools and files come from where the statements are, after the
+-- main file was opened.
 pub record IsGraphOf (g : GraphModel) (entries : List ReadStatement) : Type 0 where
   pub declares : DeclaredBy g.declarations entries
   pub scopes : AllByRecursion (λ e. IsOpenScope g.declarations.scopes e.scope e.around) entries
@@ -54,13 +55,14 @@ pub record IsGraphOf (g : GraphModel) (entries : List ReadStatement) : Type 0 wh
   pub acyclic : IsAcyclic (makers_of_inputs (edges_of g)) (length (edges_of g))
   pub origins : g.origins ≡ origins_read (main_of g.origins) entries
 
--- This holds of the graph by any statements that it is the graph of.
+-- The property holds of the graph by any statements whose graph it is.
 abbrev pub OfStatements : GraphModel → (List ReadStatement → Type 0) → Type 0
 OfStatements g holds = (entries : List ReadStatement) → IsGraphOf g entries → holds entries
 
 -- ---- late strings
 
--- A dyndep file that binds `restat` for an edge gives it the value 1, whatever the edge's statement and rule bind to it.
+-- A dyndep file that binds `restat` for an edge gives the variable the value 1, whatever the edge's statement and rule
+-- bind to it.
 abbrev pub is_dyndep_restat : List ReadStatement → (number : ℕ) → (asked : List ℕ) → Bool
 is_dyndep_restat entries number asked = bytes_eq asked (codes "restat") && restat_at (restats_read entries) number
 
@@ -76,7 +78,7 @@ late_text_of entries number asked =
 abbrev pub rule_name : List RuleModel → (number : ℕ) → List ℕ
 rule_name rules number = unwrap_or (option_map (λ r. r.name) (slice_get rules number)) []
 
--- the name of the rule of an edge: of the rule that is in force before its statement
+-- the name of the rule of an edge, which is the rule in force before its statement
 abbrev pub rule_name_of : List ReadStatement → EdgeModel → List ℕ
 rule_name_of entries e = rule_name (rules_read entries) e.rule
 
@@ -100,12 +102,12 @@ scope_number_at entries number = (detail_stated entries number).scope
 
 -- ---- the rules that are listed
 
--- inserts an element into a sorted list: after those that come before it, and ahead of the others
+-- inserts an element into a sorted list: after the elements that come before it, and ahead of the others
 unfoldable pub insert_by : {X : Type 0} → (comes_before : X → X → Bool) → X → List X → List X
 insert_by comes_before x [] = x ∷ []
 insert_by comes_before x (y ∷ ys) = if comes_before y x then y ∷ insert_by comes_before x ys else x ∷ y ∷ ys
 
--- a list, sorted; elements of which neither comes before the other keep their order
+-- a list, sorted; elements that tie keep their order
 unfoldable pub sorted_by : {X : Type 0} → (comes_before : X → X → Bool) → List X → List X
 sorted_by comes_before [] = []
 sorted_by comes_before (x ∷ xs) = insert_by comes_before x (sorted_by comes_before xs)
@@ -114,8 +116,8 @@ sorted_by comes_before (x ∷ xs) = insert_by comes_before x (sorted_by comes_be
 abbrev pub is_before : (name other : List ℕ) → Bool
 is_before name other = is_lt (slice_cmp nat_cmp name other)
 
--- The rules of the main file's scope, by name: `phony` and the rules of included files are among them, and those of subninja files
--- are not.
+-- The rules of the main file's scope, by name, including `phony` and the rules of included files, but not those of
+-- subninja files.
 unfoldable pub main_rules_of : List RuleModel → List RuleModel
 main_rules_of rules = sorted_by (λ r s. is_before r.name s.name) (rules_in rules 0)
 
@@ -123,7 +125,7 @@ main_rules_of rules = sorted_by (λ r s. is_before r.name s.name) (rules_in rule
 abbrev pub main_rules : GraphModel → List RuleModel
 main_rules g = main_rules_of g.declarations.rules
 
--- the one at this index
+-- the rule at the given index
 abbrev pub main_rule_at : GraphModel → ℕ → RuleModel
 main_rule_at g index = slice_index_or (main_rules g) index phony_rule
 
@@ -137,18 +139,18 @@ description r = given r.lines (codes "description")
 abbrev pub has_description : RuleModel → Bool
 has_description r = is_some (description r)
 
--- its text, not expanded; without such a line it is empty
+-- its text, not expanded; empty without a `description` line
 abbrev pub description_text : RuleModel → List ℕ
 description_text r = unwrap_or (option_map parts_written (description r)) []
 
 -- ---- laws
 
--- Where no two rules of the main scope have the same name, the names are in strictly ascending byte order, so that each occurs once.
+-- If the rules of the main scope have distinct names, the names are in strictly ascending byte order, without duplicates.
 abbrev pub NamesRise : Type 0
 NamesRise = (rules : List RuleModel) → IsDistinct bytes_eq (rule_names rules 0)
     → IsStrictlySortedBy (slice_cmp nat_cmp) (map (λ r. r.name) (main_rules_of rules))
 
--- A rule is listed exactly when it is one of the main scope.
+-- A rule is listed exactly when it belongs to the main scope.
 abbrev pub ListsMainRules : Type 0
 ListsMainRules = (rules : List RuleModel) (rule : RuleModel)
     → Contains (main_rules_of rules) rule ↔ ((rule.scope ≡ 0) × Contains rules rule)

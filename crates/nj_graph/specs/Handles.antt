@@ -49,7 +49,7 @@ edges_in graph numbers = map (edge_in graph) numbers
 abbrev pub file_of : File → GraphFile
 file_of file = file_in file.graph.now (name_at (files_of file.graph.now) file.number.0)
 
--- the number of a file: the place of its path among those of its graph
+-- the number of a file: the position of its path among the paths of its graph
 abbrev pub number_of : GraphFile → ℕ
 number_of file = unwrap_or (position (bytes_eq file.path) (files_of file.graph)) 0
 
@@ -65,7 +65,7 @@ paths_of edge = edge_at (edges_of edge.graph) edge.number
 abbrev pub detail_of_edge : GraphEdge → EdgeDetail
 detail_of_edge edge = detail_at edge.graph.built.details edge.number
 
--- This holds of the edge, by its number and any statements that its graph is the graph of.
+-- The property holds of the edge, by its number and any statements that its graph is the graph of.
 abbrev pub OfEdge : GraphEdge → (List ReadStatement → (number : ℕ) → Type 0) → Type 0
 OfEdge edge holds = OfStatements edge.graph (λ entries. holds entries edge.number)
 

@@ -28,7 +28,7 @@ abbrev pub after_version : (most : ℕ) → Result (List Line) Fault → Parsed 
 after_version most (Ok lines) = parsed_in next_entry most lines
 after_version most (Err fault) = record { items = []; fault = Some fault }
 
--- First the version. An entry has a byte at least.
+-- First the version. An entry has at least one byte.
 unfoldable pub entries_of : (text : List ℕ) → Parsed EntryModel
 entries_of text = after_version (suc (length text)) (version_next (text_lines text))
 
@@ -48,13 +48,13 @@ entries_joined file stated (entry ∷ others) fault joined =
 abbrev pub text_joined : (file : List ℕ) → (stated : List ReadStatement) → (text : List ℕ) → (joined : List ReadStatement) → ReadingModel
 text_joined file stated text joined = entries_joined file stated (entries_of text).items (entries_of text).fault joined
 
--- the place of the build statement of an edge; past the last edge there is none
+-- the place of the build statement of an edge; none past the last edge
 abbrev pub statement_place : (stated : List ReadStatement) → (edge : ℕ) → Place
 statement_place stated edge =
     let places : List Place = map (λ e. record { file = e.file; spot = e.spot }) (edges_read stated) in
     slice_index_or places edge (record { file = []; spot = record { line = 0; column = 0 } })
 
--- where there is no file, or none that can be read, the first edge that is bound to it is to blame
+-- if the file is missing or cannot be read, the fault is at the first edge that is bound to it
 unfoldable pub file_joined : (files : List Reading) → (stated : List ReadStatement) → Pending → (joined : List ReadStatement) → ReadingModel
 file_joined files stated p joined =
     let place = statement_place stated p.edge in
@@ -67,12 +67,12 @@ file_joined files stated p joined =
 abbrev pub path_asked : Pending → List (List ℕ)
 path_asked p = if is_utf8 p.file then p.file ∷ [] else []
 
--- the other files after one that was joined whole; else the joining ends there
+-- the other files, after a file that was joined whole; else the joining ends there
 abbrev pub continued : End → Pending → List ReadStatement → (List ReadStatement → ReachedModel) → ReachedModel
 continued Whole p joined others = record { read = (others joined).read; paths = path_asked p ++ (others joined).paths }
 continued end p joined others = record { read = record { entries = joined; end = end }; paths = path_asked p }
 
--- these files, joined one after the other
+-- the given files, joined one after the other
 unfoldable pub files_joined : (files : List Reading) → (stated : List ReadStatement) → List Pending
     → (joined : List ReadStatement) → ReachedModel
 files_joined files stated [] joined = record { read = record { entries = joined; end = Whole }; paths = [] }
@@ -80,8 +80,8 @@ files_joined files stated (p ∷ others) joined =
     let file = file_joined files stated p joined in
     continued file.end p file.entries (files_joined files stated others)
 
--- The dyndep files on which edges are pending, without duplicates, in the order of their first edges: the whole file is joined
--- before the next one is opened.
+-- The dyndep files on which edges are pending, without duplicates, in the order of their first edges: the whole file is
+-- joined before the next file is opened.
 unfoldable pub all_joined : (files : List Reading) → (stated : List ReadStatement) → ReachedModel
 all_joined files stated = files_joined files stated (dyndep_files (pending_read stated)) stated
 
@@ -99,10 +99,10 @@ abbrev pub Joins : (stated : List ReadStatement) → (old : List Reading) → (b
     → Result LoadedModel GraphFault → Type 0
 Joins stated old before after result = LoadsAfter old before after (joined_after old stated) result
 
--- ---- the files that are there
+-- ---- the files that exist
 
--- Those of some dyndep files that are there, as a source of times answers about the path of each. One about which it cannot
--- tell is not among them.
+-- The dyndep files, among the given ones, that exist by the answer of a source of times for the path of each. A file
+-- whose existence the source cannot determine is not among them.
 pub data ArePresent (times : DeclaredTimes) : (files present : List Pending) → Type 0 where
   none : ArePresent times [] []
   there : (p : Pending) {files present : List Pending} {time : ℕ} → ArePresent times files present
@@ -119,8 +119,8 @@ some_joined_after old stated dyndeps files =
     let joined = files_joined files stated dyndeps stated in
     record { read = joined.read; paths = with_all_new (paths_of old) joined.paths }
 
--- Those dyndep files that are there are joined to the statements of a run that has read the old files. On the others edges
--- stay pending.
+-- The dyndep files that exist are joined to the statements of a run that has read the old files. Edges stay pending on
+-- the others.
 abbrev pub JoinsPresent : (times : DeclaredTimes) → (stated : List ReadStatement) → (old : List Reading) → (before after : SourceState)
     → Result LoadedModel GraphFault → Type 0
 JoinsPresent times stated old before after result =
@@ -129,7 +129,7 @@ JoinsPresent times stated old before after result =
 
 -- ---- laws
 
--- A joined file stays joined: joining again changes no statement, and reaches no file.
+-- A joined file stays joined: joining again neither changes a statement nor reaches a file.
 abbrev pub JoinedStaysJoined : Type 0
 JoinedStaysJoined = (files others : List Reading) (stated : List ReadStatement) (joined : ReachedModel)
     → all_joined files stated ≡ joined → joined.read.end ≡ Whole

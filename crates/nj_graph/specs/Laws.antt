@@ -27,12 +27,12 @@ use Rattle.nj_graph.specs.ResponseFiles.{first_position, sign_position}
 use Rattle.nj_graph.specs.Runs.{IsLacking}
 use Rattle.nj_graph.specs.Targets.{picked}
 
--- No statement has a fault of its own, by the statements before it. The last one comes first.
+-- No statement has a fault of its own, by the statements before it. The last statement comes first.
 abbrev pub Faultless : List ReadStatement → Type 0
 Faultless [] = ⊤
 Faultless (e ∷ before) = (own_fault e before ≡ None) × Faultless before
 
--- The statements that are read before the first fault have none.
+-- The statements that are read before the first fault have no fault.
 abbrev pub ReadIsFaultless : Type 0
 ReadIsFaultless = (files : List Reading) (main : List ℕ) → Faultless (main_read files main).entries
 
@@ -40,11 +40,11 @@ ReadIsFaultless = (files : List Reading) (main : List ℕ) → Faultless (main_r
 abbrev pub OpenFilesAreBounded : Type 0
 OpenFilesAreBounded = (files : List Reading) (main : List ℕ) → AllByRecursion (λ e. e.depth ≤ most_within) (main_read files main).entries
 
--- No more files are opened than may be.
+-- The number of opened files stays within the limit.
 abbrev pub OpeningsAreBounded : Type 0
 OpeningsAreBounded = (files : List Reading) (main : List ℕ) → files_opened (main_read files main).entries ≤ most_opened
 
--- The names of the rules that are listed are in strictly ascending byte order, so that each occurs once.
+-- The names of the rules that are listed are in strictly ascending byte order, without duplicates.
 abbrev pub MainRulesRise : Type 0
 MainRulesRise = (files : List Reading) (main : List ℕ)
     → IsStrictlySortedBy (slice_cmp nat_cmp) (map (λ r. r.name) (main_rules_of (rules_read (main_read files main).entries)))
@@ -62,14 +62,14 @@ LaterBindingsCount = (e : ReadStatement) (before : List ReadStatement) (edge : E
     → e.item ≡ BindingModel name word → e.scope ≡ edge.scope
     → (names_of_edge (e ∷ before) edge).file name ≡ expanded_in (scope_of e) before word
 
--- It changes no edge: neither its paths, nor the bindings of its block, nor its rule.
+-- It does not change any edge: neither its paths, nor the bindings of its block, nor its rule.
 abbrev pub LaterBindingsChangeNoEdge : Type 0
 LaterBindingsChangeNoEdge = (e : ReadStatement) (before : List ReadStatement) (name : List ℕ) (word : WordModel)
     → e.item ≡ BindingModel name word → edges_read (e ∷ before) ≡ edges_read before
 
 -- ---- the statements of a text
 
--- A parser finds these items in the lines, one after the other, up to the end of the lines or up to the first fault.
+-- A parser finds the given items in the lines, one after the other, up to the end of the lines or up to the first fault.
 pub data FindsInTurn {A : Type 0} (next : List Line → Parse (Option A)) : List Line → List A → Option Fault → Type 0 where
   at_end : {lines rest : List Line} → next lines ≡ Ok (None, rest) → FindsInTurn next lines [] None
   at_fault : {lines : List Line} {fault : Fault} → next lines ≡ Err fault → FindsInTurn next lines [] (Some fault)
@@ -94,17 +94,17 @@ pub record HasPart (text part : List ℕ) (position : ℕ) : Type 0 where
   pub text_is : text ≡ before ++ part ++ after
   pub position_is : position ≡ length before
 
--- at this position, and at no earlier one
+-- at the given position, and at no earlier position
 pub record FirstHasPart (text part : List ℕ) (position : ℕ) : Type 0 where
   pub here : HasPart text part position
   pub not_earlier : (earlier : ℕ) → earlier < position → ¬ HasPart text part earlier
 
--- the result of a search: a position that has a property, or none where no position has it
+-- the result of a search: a position that has a property, or `None` if no position has it
 abbrev pub Finds : (P : ℕ → Type 0) → Option ℕ → Type 0
 Finds P (Some position) = P position
 Finds P None = (position : ℕ) → ¬ P position
 
--- The first position of a part is the least at which the text has it; there is none where the text has it nowhere.
+-- The first position of a part is the least position at which the text has it; `None` if the part does not occur.
 abbrev pub FirstPositionIsFirst : Type 0
 FirstPositionIsFirst = (part text : List ℕ) → Finds (FirstHasPart text part) (first_position part text)
 
@@ -125,7 +125,7 @@ pub record IsNamedBy (edges : List EdgePaths) (path : List ℕ) : Type 0 where
   pub there : Contains edges edge
   pub named : Contains (outputs_of edge) path ⊎ (Contains (inputs_of edge) path ⊎ Contains edge.validations path)
 
--- Of all edges that have the file as an input, the one of the smallest number has this as its first output.
+-- Of all edges that have the file as an input, the lowest-numbered edge has the given path as its first output.
 pub record IsMadeOf (edges : List EdgePaths) (path made : List ℕ) : Type 0 where
   pub number : ℕ
   pub edge : EdgePaths
@@ -143,7 +143,7 @@ pub data Means (edges : List EdgePaths) (path : List ℕ) : Result (List ℕ) Gr
   -- a file that an edge names
   a_file : HasNoCaret path → IsNamedBy edges path → Means edges path (Ok path)
   no_file : HasNoCaret path → ¬ IsNamedBy edges path → Means edges path (Err (unplaced (UnknownTarget path)))
-  -- with a `^` after its path, the first output that is made from such a file
+  -- with a `^` after its path, the first output that is made from a file that an edge names
   made : {file output : List ℕ} → path ≡ file ++ codes "^" → IsMadeOf edges file output → Means edges path (Ok output)
   made_of_no_file : {file : List ℕ} → path ≡ file ++ codes "^" → ¬ IsNamedBy edges file
       → Means edges path (Err (unplaced (UnknownTarget file)))
@@ -154,6 +154,6 @@ pub data Means (edges : List EdgePaths) (path : List ℕ) : Result (List ℕ) Gr
 abbrev pub WordsMeanPaths : Type 0
 WordsMeanPaths = (edges : List EdgePaths) (word : List ℕ) → word ≢ [] → Means edges (clean_path_of word) (picked edges word)
 
--- An empty word means nothing.
+-- An empty word does not denote a target.
 abbrev pub EmptyWordMeansNothing : Type 0
 EmptyWordMeansNothing = (edges : List EdgePaths) → picked edges [] ≡ Err (unplaced EmptyPath)

@@ -15,8 +15,8 @@ pub record LoadedModel : Type 0 where
   pub files : List Reading
   pub graph : GraphModel
 
--- By these files the reading goes to its end: these statements, without a fault. The files are those at the paths that it reaches.
--- The source did not fail.
+-- By the given files the reading goes to its end: it yields the given statements, without a fault. The files are those
+-- at the paths that it reaches. The source did not fail.
 pub record IsWhole (before after : SourceState) (files : List Reading) (reading : List Reading → ReachedModel)
     (entries : List ReadStatement)
     : Type 0 where
@@ -51,7 +51,8 @@ abbrev pub LoadedOr : (before after : SourceState) → (files : List Reading) �
 LoadedOr before after files reading (Ok loaded) = IsLoaded before after files reading loaded
 LoadedOr before after files reading (Err fault) = LoadingFails before after files reading fault
 
--- After the old files these were read from the source, each path once; by them all is loaded, or the first fault is answered.
+-- After the old files the given files were read from the source, each path once; by them all is loaded, or the first
+-- fault is answered.
 abbrev pub LoadsAfter : (old : List Reading) → (before after : SourceState) → (reading : List Reading → ReachedModel)
     → Result LoadedModel GraphFault → Type 0
 LoadsAfter old before after reading result =

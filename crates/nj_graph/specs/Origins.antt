@@ -13,7 +13,7 @@ use Rattle.nj_graph.specs.Reading.{place_at}
 abbrev pub place_of : ReadStatement → Place
 place_of e = place_at e e.spot
 
--- a place whose file name is lent
+-- a place whose file name is borrowed
 abbrev pub place_text : PlaceRef → Place
 place_text p = record { file = p.file.now; spot = p.spot }
 
@@ -28,7 +28,7 @@ rule_place_given e before item = None
 abbrev pub rule_places : List ReadStatement → List (Option Place)
 rule_places entries = None ∷ gathered rule_place_given entries
 
--- the place of the rule with the given number; past the last rule there is none
+-- the place of the rule with the given number; none past the last rule
 abbrev pub rule_place_at : (places : List (Option Place)) → (number : ℕ) → Option Place
 rule_place_at places number = slice_index_or places number None
 
@@ -39,8 +39,8 @@ pub record PoolDetail : Type 0 where
   pub place : Place
   pub depth : ℕ
 
--- The depth of a pool: the number at the front of the last value in its block. Each line there is a `depth` line, and a pool has
--- one at least.
+-- The depth of a pool: the number at the front of the last value in its block. Each line there is a `depth` line, and a
+-- pool has at least one.
 abbrev pub depth_of : (scope : List ℕ) → (before : List ReadStatement) → List LineModel → ℕ
 depth_of scope before lines =
     unwrap_or (option_and_then (λ l. leading_number_of (expanded_in scope before l.value)) (slice_get lines (length lines - 1))) 0
@@ -65,7 +65,7 @@ pub record OpeningModel : Type 0 where
   -- the number of the scope of its statements
   pub scope : ℕ
 
--- an opening whose strings are lent
+-- an opening whose strings are borrowed
 abbrev pub opening_model : Opening → OpeningModel
 opening_model o = record { path = o.path.now; named_at = option_map place_text o.named_at; scope = o.scope.0 }
 
@@ -83,11 +83,11 @@ opening_given e before item = None
 abbrev pub main_opening : (main : List ℕ) → OpeningModel
 main_opening main = record { path = main; named_at = None; scope = 0 }
 
--- the main file, and each file that a statement opens, in reading order; a file that is opened again is there again
+-- the main file, and each file that a statement opens, in reading order; a file that is opened again is listed again
 abbrev pub openings_read : (main : List ℕ) → List ReadStatement → List OpeningModel
 openings_read main entries = main_opening main ∷ gathered opening_given entries
 
--- ---- all of them
+-- ---- all origins
 
 -- where rules and pools were declared, and how files were opened
 pub record OriginsModel : Type 0 where
@@ -95,7 +95,7 @@ pub record OriginsModel : Type 0 where
   pub pools : List PoolDetail
   pub openings : List OpeningModel
 
--- what these statements declared and opened, and where
+-- what the given statements declared and opened, and where
 abbrev pub origins_read : (main : List ℕ) → List ReadStatement → OriginsModel
 origins_read main entries =
     record { rules = rule_places entries; pools = pool_details entries; openings = openings_read main entries }
@@ -105,6 +105,6 @@ abbrev pub path_opened : Option OpeningModel → List ℕ
 path_opened (Some opening) = opening.path
 path_opened None = []
 
--- the main file: the one that is opened first
+-- the main file: the file that is opened first
 abbrev pub main_of : OriginsModel → List ℕ
 main_of origins = path_opened (slice_get origins.openings 0)

@@ -5,7 +5,7 @@ use Rattle.nj_manifest.specs.Faults.{Fault}
 use Rattle.nj_manifest.specs.Openings.{Parse}
 use Rattle.nj_manifest.specs.Statements.{PlacedModel, next_statement}
 
--- the items up to the end, or up to the first that has a fault of syntax
+-- the items up to the end, or up to the first item with a fault of syntax
 pub record Parsed (A : Type 0) : Type 0 where
   pub items : List A
   pub fault : Option Fault
@@ -16,11 +16,11 @@ parsed_by (Ok (Some item, rest)) others = record { items = item ∷ (others rest
 parsed_by (Ok (None, rest)) others = record { items = []; fault = None }
 parsed_by (Err fault) others = record { items = []; fault = Some fault }
 
--- the items of the lines, where there are fewer of them than this number
+-- the items of the lines, where there are fewer items than the given number
 unfoldable pub parsed_in : {A : Type 0} → (next : List Line → Parse (Option A)) → (most : ℕ) → List Line → Parsed A
 parsed_in next zero lines = record { items = []; fault = None }
 parsed_in next (suc most) lines = parsed_by (next lines) (parsed_in next most)
 
--- A statement has a byte at least.
+-- A statement has at least one byte.
 abbrev pub parsed : (text : List ℕ) → Parsed PlacedModel
 parsed text = parsed_in next_statement (suc (length text)) (text_lines text)

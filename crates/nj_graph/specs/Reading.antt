@@ -32,8 +32,8 @@ use Rattle.nj_graph.specs.Parsed.{parsed}
 
 -- ---- where a statement is
 
--- Where the statements of an open file are: the file, by the name under which it was opened; how many files are open around
--- it; and the scope: its number, and those around it, the nearest first.
+-- Where the statements of an open file are: the file, by the name under which it was opened; how many files are open
+-- around it; and the scope: its number, and the enclosing scopes, the nearest first.
 pub record Site : Type 0 where
   pub file : List ℕ
   pub depth : ℕ
@@ -65,12 +65,12 @@ abbrev pub rule_fault : (file : List ℕ) → (number : ℕ) → (before : List 
 rule_fault file number before name =
     then_some (is_declared (rules before number name.name) name.name) (fault_at file name.spot (DuplicateRule name.name))
 
--- each depth of a pool's block counts, also one that a later line overrides
+-- each depth in a pool's block is checked, even if a later line overrides it
 abbrev pub depth_fault : (file scope : List ℕ) → (before : List ReadStatement) → List LineModel → Option GraphFault
 depth_fault file scope before lines =
     option_map (λ l. fault_at file l.spot BadDepth) (find (λ l. not (is_depth (expanded_in scope before l.value))) lines)
 
--- there is a pool with the given name already, or a depth is bad
+-- a pool with the given name already exists, or a depth is bad
 abbrev pub pool_fault : (file scope : List ℕ) → (before : List ReadStatement) → NameModel → List LineModel → Option GraphFault
 pool_fault file scope before name lines =
     option_or (then_some (is_pool (pools before) name.name) (fault_at file name.spot (DuplicatePool name.name)))
@@ -103,10 +103,10 @@ pub data End : Type 0 where
   Whole : End
   -- at the first fault
   Refused : (fault : GraphFault) → End
-  -- at a path that the table does not have, which the statement at this place names
+  -- at a path that the table does not have, which the statement at the given place names
   Lacking : (path : List ℕ) (place : Place) → End
 
--- the statements that were read, the last one first
+-- the statements that were read, the last statement first
 pub record ReadingModel : Type 0 where
   pub entries : List ReadStatement
   pub end : End
@@ -116,7 +116,7 @@ abbrev pub continued : End → List ReadStatement → (List ReadStatement → Re
 continued Whole entries others = others entries
 continued end entries others = record { entries = entries; end = end }
 
--- one reading, and where all of it was read another one
+-- a reading and then another, if the first went to its end
 abbrev pub and_then : ReadingModel → (List ReadStatement → ReadingModel) → ReadingModel
 and_then r others = continued r.end r.entries others
 
@@ -129,8 +129,9 @@ Opens = Site → Place → ReadStatement → (before : List ReadStatement) → R
 abbrev pub place_at : ReadStatement → Spot → Place
 place_at e spot = record { file = e.file; spot = spot }
 
--- The statements of a file that a statement names are in the scope with the given number, within these: those of a file that is included in
--- the scope of the `include`, those of a file after `subninja` in a new one within the scope of the statement.
+-- The statements of a file that a statement names are in the scope with the given number, within the given scopes:
+-- those of a file that is included are in the scope of the `include`, those of a file after `subninja` in a new scope
+-- within the scope of the statement.
 abbrev pub opened_site : ReadStatement → (before : List ReadStatement) → WordModel → (number : ℕ) → (around : List ℕ) → Site
 opened_site e before word number around = record {
   file = expanded_in (scope_of e) before word;
@@ -139,14 +140,14 @@ opened_site e before word number around = record {
   around = around;
 }
 
--- what reading a statement comes to: one that names a file opens it
+-- the result of reading a statement; a statement that names a file opens it
 abbrev pub item_read : Opens → ReadStatement → (before : List ReadStatement) → StatementModel → ReadingModel
 item_read opens e before (IncludeModel word) = opens (opened_site e before word e.scope e.around) (place_at e word.spot) e before
 item_read opens e before (SubninjaModel word) =
     opens (opened_site e before word (scopes_opened before) (scope_of e)) (place_at e word.spot) e before
 item_read opens e before item = record { entries = e ∷ before; end = Whole }
 
--- the end that a fault makes; without one, nothing ends
+-- the end that a fault makes; without a fault, the reading does not end
 abbrev pub end_by : Option GraphFault → End
 end_by fault = option_map_or Refused fault Whole
 
@@ -165,17 +166,17 @@ statements_read opens site (s ∷ others) fault before =
 abbrev pub text_read : Opens → Site → (text : List ℕ) → (before : List ReadStatement) → ReadingModel
 text_read opens site text before = statements_read opens site (parsed text).items (parsed text).fault before
 
--- the reading ends here, for this cause
+-- the reading ends here, for the given cause
 abbrev pub stopped : List ReadStatement → Place → Cause → ReadingModel
 stopped before place cause = record { entries = before; end = Refused (record { place = Some place; cause = cause }) }
 
--- by the result of the table for a path that the statement at this place names
+-- by the result of the table for a path that the statement at the given place names
 abbrev pub outcome_read : (path : List ℕ) → Place → (before : List ReadStatement) → (List ℕ → ReadingModel)
     → Option table.Reading → ReadingModel
 outcome_read path place before reads None = record { entries = before; end = Lacking path place }
 outcome_read path place before reads (Some r) = option_map_or reads r.bytes (stopped before place (Missing path))
 
--- the reading of a file by these files, where `left` more may be open
+-- the reading of a file by the given files, where `left` more files may be open
 unfoldable pub opened_in : (files : List table.Reading) → (left : ℕ) → Opens
 opened_in files zero site place e before = stopped before place TooDeep
 opened_in files (suc left) site place e before =
@@ -212,7 +213,7 @@ path_at_end Whole = []
 path_at_end (Refused fault) = elim fault.cause [ Missing path ↦ path ∷ [] | other ↦ [] ]
 path_at_end (Lacking path place) = path ∷ []
 
--- All paths that the reading reaches, each at its first occurrence: the main file, those that the statements name, and the one
--- at its end.
+-- All paths that the reading reaches, each at its first occurrence: the main file, the files that the statements name,
+-- and the path at its end.
 abbrev pub paths_come_to : (main : List ℕ) → ReadingModel → List (List ℕ)
 paths_come_to main r = each_once bytes_eq (main ∷ gathered path_named r.entries ++ path_at_end r.end)

@@ -16,8 +16,8 @@ pub record IsRead (before after : SourceState) (old files : List Reading) : Type
 
 -- ---- how a run stops
 
--- The fault of a run if its reading ends this way. That a file cannot be read is reported where the source failed at the path,
--- and only there.
+-- The fault of a run if its reading ends this way. A file is reported as unreadable exactly where the source failed at
+-- its path.
 abbrev pub IsEnd : (before after : SourceState) → End → GraphFault → Type 0
 IsEnd before after Whole fault = ⊥
 IsEnd before after (Refused expected) fault = (fault ≡ expected) × (after.failures ≡ before.failures)
@@ -29,17 +29,17 @@ abbrev pub IsLacking : End → List Reading → Type 0
 IsLacking (Lacking path place) files = is_read files path ≡ false
 IsLacking end files = ⊤
 
--- the requested paths: those of the files, and the one that is lacking
+-- the requested paths: the paths of the files, and the lacking path
 abbrev pub paths_with : End → List Reading → List (List ℕ)
 paths_with (Lacking path place) files = paths_of files ++ path ∷ []
 paths_with end files = paths_of files
 
--- The reading by some files: the statements, and how it ends; and the paths that it reaches, the one at its end among them.
+-- The reading by some files: the statements, and how it ends; and the paths that it reaches, including the path at its end.
 pub record ReachedModel : Type 0 where
   pub read : ReadingModel
   pub paths : List (List ℕ)
 
--- By these files the reading ends as reported, whatever other files contain; and all paths that it reaches were read.
+-- By the given files the reading ends as reported, whatever other files contain; and all paths that it reaches were read.
 pub record EndsSo (before after : SourceState) (files : List Reading) (reading : List Reading → ReachedModel) (fault : GraphFault)
     : Type 0 where
   pub reached : ReachedModel
@@ -54,6 +54,6 @@ pub record LacksMemory (before after : SourceState) (files : List Reading) (read
   pub failures : after.failures ≡ before.failures
   pub came_to : (all : List Reading) → IsPrefix files all → IsPrefix (paths_of files) (reading all).paths
 
--- the reading ends with this fault, or lacked memory
+-- the reading ends with the given fault, or ran out of memory
 abbrev pub Stops : (before after : SourceState) → (files : List Reading) → (reading : List Reading → ReachedModel) → GraphFault → Type 0
 Stops before after files reading fault = LacksMemory before after files reading fault ⊎ EndsSo before after files reading fault

@@ -1,4 +1,4 @@
--- Inputs that a deps log names for edges, and that these do not declare ("Deps" in the manual).
+-- Inputs that a deps log names for edges, and that the edges do not declare ("Deps" in the manual).
 use Rattle.std.specs.Prelude.{◌≡◌, ℕ, if◌then◌else◌, Option, Some, option_and_then, List, [], ◌∷◌, map, length, codes, bytes_eq}
 use Rattle.std.specs.List.{flat_map, range_with_len}
 use Rattle.nj_text.specs.Paths.{clean_path_of}
@@ -12,25 +12,26 @@ use Rattle.nj_statements.specs.EdgeList.{edges_read, paths_of_edges}
 use Rattle.nj_graph.specs.DepsLogs.{number_logged, paths_logged}
 use Rattle.nj_graph.specs.declared.undeclared.UndeclaredInput.{UndeclaredInput}
 
--- an edge, and the path of an input of it
+-- an edge, and the path of one of its inputs
 pub record InputOfEdge : Type 0 where
   pub edge : ℕ
   pub path : List ℕ
 
--- Another edge makes the file, and the edge needs that one through no chain of inputs.
+-- Another edge makes the file, and the edge does not need that maker through any chain of inputs.
 pub record IsUndeclared (edges : List EdgePaths) (input : InputOfEdge) : Type 0 where
   pub maker : ℕ
   pub makes : maker_of edges input.path ≡ Some maker
   pub not_needed : ¬ IsOrNeeds edges input.edge maker
 
--- The clean paths on which an output depends by a log, without duplicates, in the order of the log; none of an output for which
--- it names `build.ninja`, by that very path, since that means only that the output is built again after the manifest was.
+-- The clean paths on which an output depends by a log, without duplicates, in the order of the log; no paths of an
+-- output for which it names the exact path `build.ninja`, since that entry means only that the output is built again
+-- after the manifest was.
 abbrev pub paths_of_output : LogModel → (output : Option ℕ) → List (List ℕ)
 paths_of_output log output =
     let paths = paths_logged log (option_and_then (output_of log.outputs) output) in
     if is_among paths (codes "build.ninja") then [] else each_once bytes_eq (map clean_path_of paths)
 
--- these paths as inputs of the edge
+-- the given paths as inputs of the edge
 abbrev pub inputs_of_edge : (edge : ℕ) → (paths : List (List ℕ)) → List InputOfEdge
 inputs_of_edge edge paths = map (λ path. record { edge = edge; path = path }) paths
 
@@ -40,7 +41,7 @@ inputs_named log entries =
     flat_map (λ edge. inputs_of_edge edge (paths_of_output log (number_logged log entries edge)))
     (range_with_len 0 (length (edges_read entries)))
 
--- those of some items that have a property, in their order
+-- the items, among the given ones, that have a property, in their order
 pub data AreThose {A : Type 0} (P : A → Type 0) : (items those : List A) → Type 0 where
   none : AreThose P [] []
   has_it : {item : A} {items those : List A} → P item → AreThose P items those → AreThose P (item ∷ items) (item ∷ those)

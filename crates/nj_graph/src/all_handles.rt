@@ -9,7 +9,7 @@ use nj_edges::{EdgeNo, FileNo};
 use std::marker::Model;
 use std::ops::Range;
 
-/// The files of a graph that are left, by number: the value of [`Graph::files`].
+/// The remaining files of a graph, by number: the value of [`Graph::files`].
 #[derive(Clone, Drop)]
 pub struct AllFiles<'g> {
     graph: &'g Graph,
@@ -50,7 +50,7 @@ impl<'g> Iterator for AllFiles<'g> {
     }
 }
 
-/// The edges of a graph that are left, in reading order: the value of [`Graph::edges`].
+/// The remaining edges of a graph, in reading order: the value of [`Graph::edges`].
 #[derive(Clone, Drop)]
 pub struct AllEdges<'g> {
     graph: &'g Graph,

@@ -9,7 +9,7 @@ use nj_manifest::{Build, Spot, Word};
 use std::alloc::Global;
 
 impl Reader {
-    /// Reads a `build` statement, whose first byte is at this place.
+    /// Reads a `build` statement, whose first byte is at the given place.
     pub(crate) fn build(
         &mut self,
         alloc: Global,
@@ -29,7 +29,7 @@ impl Reader {
             .read_build(alloc, &self.declarations, place, file.scope, build)
     }
 
-    /// Reads a `default` statement, whose first byte is at this place.
+    /// Reads a `default` statement, whose first byte is at the given place.
     pub(crate) fn add_defaults(
         &mut self,
         alloc: Global,

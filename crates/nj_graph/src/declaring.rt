@@ -39,7 +39,7 @@ impl Reader {
         Ok(())
     }
 
-    /// Reads a rule, whose statement is at this place.
+    /// Reads a rule, whose statement is at the given place.
     pub(crate) fn declare_rule(
         &mut self,
         alloc: Global,
@@ -65,7 +65,7 @@ impl Reader {
         Err(file.fault(alloc, rule.name_spot, cause))
     }
 
-    /// Reads a pool, whose statement is at this place.
+    /// Reads a pool, whose statement is at the given place.
     pub(crate) fn declare_pool(
         &mut self,
         alloc: Global,
@@ -89,7 +89,7 @@ impl Reader {
         Ok(())
     }
 
-    // The depth of a pool: the number of the last line of its block. Each line has to have one.
+    // The depth of a pool: the number of the last line of its block. Each line must have a number.
     fn depth(
         &self,
         alloc: Global,

@@ -14,18 +14,18 @@ use std::alloc::{AllocError, Global};
 impl Graph {
     /// Joins a deps log ("Deps" in the Ninja manual): each file that it names for the first output
     /// of an edge whose value of `deps` is not empty becomes an implicit input of the edge, after
-    /// those that the edge has and in the log's order: each clean path once, unless it is an
-    /// explicit or implicit input of the edge already. An order-only input stays one too. Paths
-    /// that no edge named become files. An edge that waits for a dyndep file still waits for it.
-    /// The same log again changes nothing. Edges and files keep their numbers, and new files come
-    /// after them.
+    /// the edge's other implicit inputs and in the log's order: each clean path once, unless it is
+    /// an explicit or implicit input of the edge already. An order-only input also stays
+    /// order-only. Paths that no edge named become files. An edge that waits for a dyndep file
+    /// still waits for it. The same log again changes nothing. Edges and files keep their numbers,
+    /// and new files come after them.
     ///
     /// Takes time in proportion to the graph and to the files that the log names for its edges.
     ///
     /// # Errors
     ///
     /// A dependency cycle, as without the log: the log may be older than the manifest. An output of
-    /// an edge that the log names for the edge itself is one. Or an allocation failed.
+    /// an edge that the log names for the edge itself is a cycle. Or an allocation failed.
     pub fn join_deps(self, alloc: Global, log: &DepsLog) -> Result<Graph, GraphFault>
         ensures joins { (stated : List ReadStatement) → IsGraphOf self stated
             → JoinsLog log.now stated result }
@@ -44,7 +44,7 @@ impl Graph {
         Ok(Graph { built, declared })
     }
 
-    // For each edge, the number under which the log has its first output.
+    // For each edge, the log's number of its first output.
     pub(crate) fn logged_numbers(
         &self,
         alloc: Global,
@@ -66,8 +66,8 @@ impl Graph {
         Ok(numbers)
     }
 
-    // The number under which the log has the first output of an edge, if the value of its `deps` is
-    // not empty; that value goes into `deps`.
+    // The log's number of the first output of an edge, if the value of its `deps` is not empty;
+    // that value goes into `deps`.
     fn logged_number(
         &self,
         log: &DepsLog,
@@ -88,7 +88,7 @@ impl Graph {
     }
 }
 
-// The number under which the log has the first output of an edge.
+// The log's number of the first output of an edge.
 fn first_output_number(graph: &EdgeGraph, log: &DepsLog, edge: EdgeNo) -> Option<PathNo>
     requires { edge.0 < length graph.now.edges }
     ensures { option_map (λ n. n.0) result

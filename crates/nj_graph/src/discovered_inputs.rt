@@ -13,17 +13,17 @@ use std::alloc::{AllocError, Global};
 
 impl Graph {
     /// Joins the inputs that builds discovered: each becomes an implicit input of its edge, after
-    /// those that the edge has and in the order in which they were found, each path once, unless it
-    /// is an explicit or implicit input of the edge already. An order-only input stays one too.
-    /// Paths that no edge named become files. An edge that waits for a dyndep file still waits for
-    /// it. Edges and files keep their numbers, and new files come after them.
+    /// the edge's other implicit inputs and in the order in which they were found, each path once,
+    /// unless it is an explicit or implicit input of the edge already. An order-only input also
+    /// stays order-only. Paths that no edge named become files. An edge that waits for a dyndep
+    /// file still waits for it. Edges and files keep their numbers, and new files come after them.
     ///
     /// Takes time in proportion to the graph and to the inputs that were discovered.
     ///
     /// # Errors
     ///
-    /// A dependency cycle, as without these inputs: they may be older than the manifest. An output
-    /// of an edge that the edge itself discovered is one. Or an allocation failed.
+    /// A dependency cycle, as without the discovered inputs: they may be older than the manifest.
+    /// An output of an edge that the edge itself discovered is a cycle. Or an allocation failed.
     pub fn join_discovered(self, alloc: Global, found: &Discoveries) -> Result<Graph, GraphFault>
         requires { length found.now.edges ≡ length (edges_of self) }
         ensures joins { (stated : List ReadStatement) → IsGraphOf self stated
@@ -92,7 +92,7 @@ fn add_paths(
     Ok(())
 }
 
-// Adds to the edge the path with the given number. Of each path that was added, `files` has the
+// Adds to the edge the path with the given number. For each path that was added, `files` has the
 // number of its file.
 fn add_path(
     joining: &mut JoiningInputs,

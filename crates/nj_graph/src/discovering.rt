@@ -14,11 +14,10 @@ use std::alloc::{AllocError, Global};
 impl Graph {
     /// What builds discovered for each edge, as Ninja loads it before a build ("Deps" and "C/C++
     /// header dependencies" in the Ninja manual): by the log for an edge whose value of `deps` is
-    /// not empty, else by its depfile, if it has one. Each such depfile is read, and where the log
-    /// has a record for the first output of an edge, the time of that output is asked.
+    /// not empty, else by its depfile, if it has one. Each of those depfiles is read, and where the
+    /// log has a record for the first output of an edge, the time of that output is queried.
     ///
-    /// Call it before [`Graph::join_discovered`], which makes the inputs that were found inputs of
-    /// the edges.
+    /// Call it before [`Graph::join_discovered`], which adds the discovered inputs to the edges.
     ///
     /// # Errors
     ///

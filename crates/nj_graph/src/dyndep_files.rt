@@ -23,16 +23,16 @@ use nj_statements::{Built, DyndepFile, Joining};
 use std::alloc::{AllocError, Global};
 
 /// Joins the dyndep files to which edges are bound ("Dynamic Dependencies" in the Ninja manual):
-/// the outputs and inputs that they discover become implicit ones. A graph to which they were
-/// already joined stays the same. Files are joined in the order of the first edges that are bound
-/// to them, and read under their clean paths, unless they were read before. Takes time in
-/// proportion to the graph and these files.
+/// the outputs and inputs that they discover become implicit. A graph to which they are already
+/// joined stays the same. Files are joined in the order of the first edges that are bound to them,
+/// and read under their clean paths, unless they were read before. Takes time in proportion to the
+/// graph and the dyndep files.
 ///
 /// # Errors
 ///
-/// The first fault, with its place: of a dyndep file, of one that cannot be found or read, or of an
-/// edge that its dyndep file does not mention; after all files, a dependency cycle; or an
-/// allocation failed.
+/// The first fault, with its place: of a dyndep file, of a dyndep file that cannot be found or
+/// read, or of an edge that its dyndep file does not mention; after all files, a dependency cycle;
+/// or an allocation failed.
 pub fn join_dyndeps<S: FileSource>(
     alloc: Global,
     loaded: Loaded,
@@ -45,14 +45,14 @@ pub fn join_dyndeps<S: FileSource>(
     join_chosen(alloc, loaded, source, &AllFiles)
 }
 
-/// Joins those of the dyndep files that are there, as [`join_dyndeps`] does. The edges that are
-/// bound to others stay pending on them (`Graph::pending_count`). The time of each file is asked
-/// once, before any is read; one whose path is not UTF-8, or whose time cannot be read, counts as
-/// not there.
+/// Joins the dyndep files that exist, as [`join_dyndeps`] does. The edges that are bound to others
+/// stay pending on them (`Graph::pending_count`). The time of each file is asked once, before any
+/// file is read; a file whose path is not UTF-8, or whose time cannot be read, is treated as
+/// missing.
 ///
 /// # Errors
 ///
-/// Those of [`join_dyndeps`]: a file that was there may be gone once it is read.
+/// The errors of [`join_dyndeps`]: a file that existed may be gone once it is read.
 pub fn join_present_dyndeps<S: FileSource, T: FileTimes>(
     alloc: Global,
     loaded: Loaded,
@@ -74,7 +74,7 @@ trait DyndepChoice {
     ghost use Rattle.nj_statements.specs.EdgeList.{Pending};
     ghost use Rattle.nj_graph.specs.Inside.JoiningContracts.{chosen_files};
 
-    // These are the files that are chosen of some.
+    // The chosen files, among the given files.
     ghost chooses: { Self → (files chosen : List Pending) → Type 0 };
 
     // The indices of the files that are joined.
@@ -99,7 +99,7 @@ impl DyndepChoice for AllFiles {
     }
 }
 
-// The dyndep files that are there.
+// The dyndep files that exist.
 #[derive(Drop)]
 struct PresentFiles<'a, T: FileTimes> {
     times: &'a T,
@@ -129,7 +129,7 @@ fn all_files(alloc: Global, joining: &Joining) -> Result<Vec<usize>, AllocError>
     Ok(indices)
 }
 
-// The indices of the dyndep files that are there.
+// The indices of the dyndep files that exist.
 fn present_files<T: FileTimes>(
     alloc: Global,
     joining: &Joining,
@@ -149,7 +149,7 @@ fn present_files<T: FileTimes>(
     Ok(indices)
 }
 
-// Whether a file is at a path, if that can be told.
+// Whether a file is known to exist at a path.
 fn is_there<T: FileTimes>(times: &T, path: &[u8]) -> Result<bool, AllocError>
     ensures { IfOk result (TellsPresence (T.times times.now) path.now) }
 {
@@ -181,8 +181,8 @@ fn join_chosen<S: FileSource, C: DyndepChoice>(
     Ok(Loaded { files, graph })
 }
 
-// The edges of a run, to which the dyndep files that they wait for are joined, those that are
-// chosen. It owns no more than these, so that each of its ends drops little.
+// The edges of a run, with the chosen dyndep files joined to them. The function owns only the
+// edges, so that each of its exits drops little.
 fn join_built<S: FileSource, C: DyndepChoice>(
     alloc: Global,
     source: &mut S,
@@ -202,7 +202,7 @@ fn join_built<S: FileSource, C: DyndepChoice>(
     joining.finish(alloc)
 }
 
-// Joins the dyndep files at these indices.
+// Joins the dyndep files at the given indices.
 fn join_files<S: FileSource>(
     alloc: Global,
     source: &mut S,
@@ -222,7 +222,7 @@ fn join_files<S: FileSource>(
     Ok(())
 }
 
-// Joins the dyndep file at this index.
+// Joins the dyndep file at the given index.
 fn join_file<S: FileSource>(
     alloc: Global,
     source: &mut S,
@@ -248,7 +248,7 @@ fn join_file<S: FileSource>(
     joining.end_file(alloc, number)
 }
 
-// The path of a dyndep file, which has to be UTF-8; the place is its first edge's.
+// The path of a dyndep file, which must be UTF-8; a fault is placed at the first edge of the file.
 fn file_name(alloc: Global, place: PlaceRef<'_>, path: &[u8]) -> Result<String, GraphFault>
     ensures { NamesFile (record { file = place.entry.file.now; spot = place.entry.spot })
         path.now result }
@@ -260,7 +260,7 @@ fn file_name(alloc: Global, place: PlaceRef<'_>, path: &[u8]) -> Result<String, 
     }
 }
 
-// Joins the entries of a dyndep file with this text.
+// Joins the entries of a dyndep file with the given text.
 fn join_text(
     alloc: Global,
     joining: &mut Joining,
@@ -282,7 +282,7 @@ fn join_text(
     Ok(())
 }
 
-// The next entry of a dyndep file with this name.
+// The next entry of a dyndep file with the given name.
 fn next_entry<'a>(
     alloc: Global,
     parser: &mut DyndepParser<'a>,

@@ -16,7 +16,7 @@ impl<'g> Edge<'g> {
         self.graph
     }
 
-    /// Its number, for calls that take one. Edges are numbered in reading order.
+    /// Its number, for calls that take numbers. Edges are numbered in reading order.
     pub fn number(self) -> EdgeNo
         ensures number { result.0 ≡ (edge_of self.entry).number }
         ensures known { result.0 < length (edges_of (edge_of self.entry).graph) }
@@ -24,15 +24,15 @@ impl<'g> Edge<'g> {
         self.number
     }
 
-    /// Whether its rule is `phony`, so that it has no command ("The `phony` rule" in the Ninja
-    /// manual).
+    /// Whether its rule is `phony`, and it therefore has no command ("The `phony` rule" in the
+    /// Ninja manual).
     pub fn is_phony(self) -> bool
         ensures { result ≡ (paths_of (edge_of self.entry)).is_phony }
     {
         self.graph.is_phony(self.number)
     }
 
-    /// Its outputs, the explicit ones first.
+    /// Its outputs, explicit before implicit.
     pub fn outputs(self) -> Files<'g>
         ensures { result ≡ files_in (edge_of self.entry).graph
             (outputs_of (paths_of (edge_of self.entry))) }
@@ -56,7 +56,7 @@ impl<'g> Edge<'g> {
         Files::new(self.graph, self.graph.implicit_output_files(self.number))
     }
 
-    /// Its inputs: the explicit, the implicit and then the order-only ones.
+    /// Its inputs: explicit, then implicit, then order-only.
     pub fn inputs(self) -> Files<'g>
         ensures { result ≡ files_in (edge_of self.entry).graph
             (inputs_of (paths_of (edge_of self.entry))) }

@@ -27,7 +27,7 @@ pub(crate) trait EdgeInputs {
         ensures { OnOk result (joining.new ≡ joined_edges (inputs self.now) joining.old) };
 }
 
-// The edges of a run, with the inputs that are named for each.
+// The edges of a run, with the inputs that are named for each edge.
 pub(crate) fn join_built<N: EdgeInputs>(
     alloc: Global,
     built: Built,

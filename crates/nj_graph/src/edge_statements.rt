@@ -1,4 +1,4 @@
-//! What the statement of an edge says beside its files.
+//! The rule and the place of the statement of an edge.
 
 ghost use Rattle.std.specs.Prelude.{◌≡◌};
 ghost use Rattle.nj_graph.specs.Cited.{OfEdge, detail_of_edge, edge_of, rule_name_at};
@@ -7,7 +7,7 @@ use crate::handles::Edge;
 use nj_faults::PlaceRef;
 
 impl<'g> Edge<'g> {
-    /// The name of its rule: of the rule that was in force before its statement.
+    /// The name of its rule, which is the rule that was in force before its statement.
     pub fn rule_name(self) -> &'g [u8]
         ensures { OfEdge (edge_of self.entry) (λ entries number.
             result.now ≡ rule_name_at entries number) }

@@ -11,9 +11,9 @@ use nj_edges::{EdgeGraph, EdgeNo};
 use std::alloc::{AllocError, Global};
 
 impl<'g> Edge<'g> {
-    /// Appends the value of a variable for the edge, where its rule is used after all statements
+    /// Appends the value of a variable for the edge, as its rule is used after all statements
     /// ("Rule variables" in the Ninja manual): the paths of the edge, else the value of its block,
-    /// else the value of its rule, else the last one of its file. `restat` is `1` where a dyndep
+    /// else the value of its rule, else the last value of its file. `restat` is `1` where a dyndep
     /// file that was joined binds it for the edge ("Dynamic Dependencies" in the manual). A loop
     /// over edges can reuse one buffer.
     ///
@@ -43,7 +43,7 @@ impl<'g> Edge<'g> {
         late.append_late_text(out, name)
     }
 
-    // Whether this is `restat`, and a dyndep file binds it for the edge.
+    // Whether the variable is `restat`, and a dyndep file binds it for the edge.
     fn is_dyndep_restat(self, name: &[u8]) -> bool
         ensures { OfEdge (edge_of self.entry) (λ entries number.
             result ≡ is_dyndep_restat entries number name.now) }
@@ -79,8 +79,8 @@ impl<'g> Edge<'g> {
         with_content(alloc, command, &file, &content)
     }
 
-    /// The value of a variable for the edge, as `append_variable` appends it. Any name is valid; one
-    /// that is bound nowhere has the empty value. Paths (`$in`, `$in_newline`, `$out`) are quoted
+    /// The value of a variable for the edge, as `append_variable` appends it. Any name is valid; a
+    /// name without a binding has the empty value. Paths (`$in`, `$in_newline`, `$out`) are quoted
     /// for a shell, except in `rspfile`, `depfile` and `dyndep`, which name files themselves.
     ///
     /// The pool of an edge and its dyndep file are fixed by the values at its build statement. For

@@ -9,19 +9,19 @@ use std::alloc::{AllocError, AllocFailed};
 use std::{error, fmt};
 
 /// Why a client's work on a graph went no further. The errors of this crate's calls convert into it
-/// by `?`; lack of memory is `OutOfMemory`, whichever call met it.
+/// by `?`; lack of memory is `OutOfMemory`, whichever call ran out of it.
 #[derive(Debug, PartialEq, Eq, Drop)]
 pub enum Error {
     /// The files are not a graph, or a request about their graph has no answer.
     Graph(GraphFault),
-    /// A path is empty, so that it has no clean form.
+    /// A path is empty, and so has no clean form.
     EmptyPath,
     /// An allocation failed.
     OutOfMemory,
 }
 
-/// `FILE:LINE:COLUMN: TEXT`, or `TEXT` where the fault has no place. In names U+FFFD replaces
-/// invalid UTF-8.
+/// `FILE:LINE:COLUMN: TEXT`, or `TEXT` if the fault has no place. In names U+FFFD replaces invalid
+/// UTF-8.
 impl fmt::Display for Error {
     ghost output = { λ error. Some (error_text error) };
 

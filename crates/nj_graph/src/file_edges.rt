@@ -16,7 +16,7 @@ impl<'g> File<'g> {
         self.graph
     }
 
-    /// Its number, for calls that take one.
+    /// Its number, for calls that take numbers.
     pub fn number(self) -> FileNo
         ensures number { slice_get (files_of (file_of self.entry).graph) result.0
             ≡ Some (file_of self.entry).path }

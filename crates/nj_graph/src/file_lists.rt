@@ -47,7 +47,7 @@ impl<'g> FileList<'g> {
         Files::new(self.graph, &self.numbers)
     }
 
-    /// Their numbers, for calls that take some.
+    /// Their numbers, for calls that take numbers.
     pub fn numbers(&self) -> &[FileNo]
         ensures paths { map (path_at (files_of self.now.graph)) result.now ≡ self.now.paths }
         ensures known { All (λ file. file.0 < length (files_of self.now.graph)) result.now }

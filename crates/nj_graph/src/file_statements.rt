@@ -10,8 +10,8 @@ use nj_scope::{FileSource, FileTable, ScopeNo, SourceFault};
 use std::alloc::{AllocError, Global};
 use std::rc::RcSlice;
 
-/// How a statement names a file: the statements of one that is included are in the scope of the
-/// `include`, those of another in a new scope within the scope of the `subninja`.
+/// How a statement names a file: the statements of an included file are in the scope of the
+/// `include`, those of any other file in a new scope within the scope of the `subninja`.
 #[derive(Clone, Copy)]
 pub(crate) enum Naming {
     Include,
@@ -19,7 +19,7 @@ pub(crate) enum Naming {
 }
 
 impl Reader {
-    /// Opens the file that the word of a statement names; the statement is at this place.
+    /// Opens the file that the word of a statement names; the statement is at the given place.
     pub(crate) fn open_named<S: FileSource>(
         &mut self,
         alloc: Global,
@@ -45,7 +45,7 @@ impl Reader {
         Ok(Opened { path, scope, text })
     }
 
-    // The path that a word gives.
+    // The path that a word expands to.
     fn path(&self, alloc: Global, file: OpenFile<'_>, word: &Word<'_>) -> Result<String, GraphFault>
         requires { file.scope.0 < length self.now.declarations.scopes }
         ensures { InFile self.now file.entry (λ main site entries.
@@ -62,7 +62,7 @@ impl Reader {
         }
     }
 
-    // Opens the file at the path for the word at this place.
+    // Opens the file at the path for the word at the given place.
     fn open_file<S: FileSource>(
         &mut self,
         alloc: Global,
@@ -112,7 +112,7 @@ impl Reader {
 
 // The text of the file at the path, which is read unless the table has it; a fault is placed at the
 // word at this place. The name in the fault is copied before the file is read, so that a failed
-// read is reported as such.
+// read is reported as a failed read.
 pub(crate) fn text_at<S: FileSource>(
     alloc: Global,
     source: &mut S,

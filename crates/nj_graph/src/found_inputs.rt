@@ -10,17 +10,17 @@ use nj_edges::{EdgeGraph, EdgeNo, NeedsSearch};
 use nj_names::RoundSet;
 use std::alloc::{AllocError, Global};
 
-/// Undeclared inputs that were found, and the search for the next ones.
+/// Undeclared inputs that were found, and the search for further inputs.
 #[derive(Drop)]
 pub(crate) struct FoundInputs<'a> {
     pub(crate) inputs: Vec<UndeclaredInput>,
-    // the files of those of one edge
+    // the files of the inputs that were found for one edge
     files: RoundSet,
     search: NeedsSearch<'a>,
 }
 
 impl<'a> FoundInputs<'a> {
-    /// None of the edges and files of a graph.
+    /// Nothing found yet among the edges and files of a graph.
     pub(crate) fn none_in(
         alloc: Global,
         graph: &'a EdgeGraph,
@@ -35,8 +35,8 @@ impl<'a> FoundInputs<'a> {
         })
     }
 
-    /// Adds the undeclared inputs among those that a log names for an edge by these numbers of its
-    /// paths.
+    /// Adds the undeclared inputs among those that a log names for an edge by the given numbers of
+    /// the log's paths.
     pub(crate) fn add_edge(
         &mut self,
         graph: &EdgeGraph,
@@ -87,7 +87,7 @@ impl<'a> FoundInputs<'a> {
         }
     }
 
-    // The same of a file that some edge makes.
+    // The same for a file that an edge makes.
     fn add_made(
         &mut self,
         graph: &EdgeGraph,

@@ -17,8 +17,8 @@ pub struct Graph {
     pub(crate) declared: Declared,
 }
 
-/// All of a graph beside its edges and defaults: one value, so that a function whose edges change
-/// owns no more than that at each of its ends.
+/// All of a graph except its edges and defaults: one value, so that a function that changes the
+/// edges owns only this value at each of its exits.
 #[derive(Drop)]
 pub(crate) struct Declared {
     pub(crate) declarations: Declarations,
@@ -44,14 +44,14 @@ impl Model for Graph {
 }
 
 impl Graph {
-    /// How many rules are listed: the rules of the main file's scope, `phony` among them.
+    /// The number of listed rules: the rules of the main file's scope, `phony` among them.
     pub fn main_rule_count(&self) -> usize
         ensures { result ≡ length (main_rules self.now) }
     {
         self.declared.main_rules.len()
     }
 
-    /// The name of the rule at this index. The rules are in byte order of their names.
+    /// The name of the rule at the given index. The rules are in byte order of their names.
     pub fn main_rule(&self, index: usize) -> &[u8]
         requires { index < length (main_rules self.now) }
         ensures { result.now ≡ (main_rule_at self.now index).name }
@@ -62,7 +62,7 @@ impl Graph {
         )
     }
 
-    /// Whether the rule at this index has a `description` line.
+    /// Whether the rule at the given index has a `description` line.
     pub fn has_description(&self, index: usize) -> bool
         requires { index < length (main_rules self.now) }
         ensures { result ≡ has_description (main_rule_at self.now index) }
@@ -70,9 +70,9 @@ impl Graph {
         self.description(index).is_some()
     }
 
-    /// The value of the last `description` line of the rule at this index, not expanded: `${name}`
-    /// is a reference, and an escape is the byte that it means. It is empty if there
-    /// is no such line.
+    /// The value of the last `description` line of the rule at the given index, not expanded:
+    /// `${name}` is a reference, and an escape is the byte that it stands for. The value is empty
+    /// if the rule has no `description` line.
     pub fn description_text(&self, alloc: Global, index: usize) -> Result<Vec<u8>, AllocError>
         requires { index < length (main_rules self.now) }
         ensures { IfOk result (λ text.
@@ -84,7 +84,7 @@ impl Graph {
         }
     }
 
-    // The value of the last `description` line of the rule at this index.
+    // The value of the last `description` line of the rule at the given index.
     fn description(&self, index: usize) -> Option<&LateValue>
         requires { index < length (main_rules self.now) }
         ensures { option_copied result ≡ description (main_rule_at self.now index) }
@@ -110,7 +110,7 @@ pub(crate) fn rules_of_main(alloc: Global, rules: &[Rule]) -> Result<Vec<usize>,
     Ok(numbers)
 }
 
-// The name of the rule with the given number; empty if there is none.
+// The name of the rule with the given number; empty if no rule has the number.
 pub(crate) fn rule_name(rules: &[Rule], number: usize) -> &[u8]
     ensures { result.now ≡ rule_name rules.now number }
 {
@@ -120,7 +120,7 @@ pub(crate) fn rule_name(rules: &[Rule], number: usize) -> &[u8]
     }
 }
 
-// The value of the last `description` line of the rule with the given number; `None` if there is
+// The value of the last `description` line of the rule with the given number; `None` if it has
 // none.
 fn description_of(rules: &[Rule], number: usize) -> Option<&LateValue>
     ensures { option_copied result ≡ option_and_then description (slice_get rules.now number) }
@@ -131,8 +131,8 @@ fn description_of(rules: &[Rule], number: usize) -> Option<&LateValue>
     }
 }
 
-/// Which rules are listed: those of the main file's scope, and no others. Where no two of them have
-/// the same name, their names are in strictly ascending byte order, so that each occurs once.
+/// Which rules are listed: exactly the rules of the main file's scope. If their names are distinct,
+/// the names are in strictly ascending byte order, without duplicates.
 pub fn rules_by_name()
     ensures rise { NamesRise }
     ensures listed { ListsMainRules }

@@ -13,7 +13,7 @@ impl Deref for Graph {
 
     ghost deref_gives = { λ g edges. edges ≡ g.built.graph };
 
-    /// A graph answers queries about its edges and files by these.
+    /// Returns the edges and files of the graph, for queries about them.
     fn deref(&self) -> &EdgeGraph
         ensures { result.now ≡ self.now.built.graph }
     {
@@ -22,7 +22,7 @@ impl Deref for Graph {
 }
 
 impl Graph {
-    /// The name of the rule of an edge: of the rule that was in force before its statement.
+    /// The name of the rule of an edge, which is the rule that was in force before its statement.
     pub fn rule_name(&self, edge: EdgeNo) -> &[u8]
         requires { edge.0 < length (edges_of self.now) }
         ensures held { result.now ≡ rule_name self.now.declarations.rules
@@ -43,8 +43,8 @@ impl Graph {
         self.built.place(edge)
     }
 
-    /// The defaults in force: the files of the `default` lines in their order, or the roots where
-    /// there is no such line ("Default target statements" in the Ninja manual).
+    /// The defaults in force: the files of the `default` lines in their order, or the roots if
+    /// there is no `default` line ("Default target statements" in the Ninja manual).
     pub fn defaults(&self) -> &[FileNo]
         ensures files { AreFiles (files_of self.now) result.now
             (defaults_in_force self.now.built.defaults (edges_of self.now)) }

@@ -9,7 +9,7 @@ use crate::handles::{Edge, File};
 use nj_edges::{EdgeNo, FileNo};
 
 impl Graph {
-    /// The file at this path, which must be clean; `None` if no edge names it.
+    /// The file at the given path, which must be clean; `None` if no edge names it.
     pub fn file(&self, path: &[u8]) -> Option<File<'_>>
         ensures { option_map file_of result ≡ (if is_named (edges_of self.now) path.now
             then Some (file_in self.now path.now) else None) }
@@ -20,7 +20,7 @@ impl Graph {
         }
     }
 
-    /// The edge with the given number; `None` past the last one.
+    /// The edge with the given number; `None` past the last edge.
     pub fn edge(&self, number: EdgeNo) -> Option<Edge<'_>>
         ensures { option_map edge_of result ≡ (if nat_lt number.0 (length (edges_of self.now))
             then Some (edge_in self.now number.0) else None) }
@@ -39,8 +39,8 @@ impl Graph {
         Files::new(self, self.roots())
     }
 
-    /// The defaults in force: the files of the `default` lines in their order, or the roots where
-    /// there is no such line ("Default target statements" in the Ninja manual).
+    /// The defaults in force: the files of the `default` lines in their order, or the roots if
+    /// there is no `default` line ("Default target statements" in the Ninja manual).
     pub fn default_files(&self) -> Files<'_>
         ensures { result ≡ files_in self.now
             (defaults_in_force self.now.built.defaults (edges_of self.now)) }

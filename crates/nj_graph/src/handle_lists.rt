@@ -44,7 +44,7 @@ impl<'g> Files<'g> {
         }
     }
 
-    /// Their numbers, for calls that take some.
+    /// Their numbers, for calls that take numbers.
     pub fn numbers(&self) -> &'g [FileNo]
         ensures paths { (graph : GraphModel) (paths : List (List ℕ))
             → self.now ≡ files_in graph paths
@@ -56,21 +56,22 @@ impl<'g> Files<'g> {
         self.left
     }
 
-    /// How many there are.
+    /// The number of files.
     pub fn len(&self) -> usize
         ensures { result ≡ length self.now }
     {
         self.left.len()
     }
 
-    /// Whether there are none.
+    /// Whether the list is empty.
     pub fn is_empty(&self) -> bool
         ensures { result ≡ is_empty self.now }
     {
         self.left.is_empty()
     }
 
-    /// The first so many, and the others. If there are fewer, the first list has all of them.
+    /// The first `count` files, and the others. If there are fewer files, the first list has all of
+    /// them.
     pub fn split_at(&self, count: usize) -> (Files<'g>, Files<'g>)
         ensures first { result.0 ≡ take count self.now }
         ensures others { result.1 ≡ drop count self.now }
@@ -86,7 +87,7 @@ impl<'g> Files<'g> {
         )
     }
 
-    /// The first one, if any.
+    /// The first file, if any.
     pub fn first(&self) -> Option<File<'g>>
         ensures { option_map file_of result ≡ slice_get self.now 0 }
     {
@@ -149,7 +150,7 @@ impl<'g> Edges<'g> {
         }
     }
 
-    /// Their numbers, for calls that take some.
+    /// Their numbers, for calls that take numbers.
     pub fn numbers(&self) -> &'g [EdgeNo]
         ensures numbers { (graph : GraphModel) (numbers : List ℕ)
             → self.now ≡ edges_in graph numbers
@@ -161,21 +162,21 @@ impl<'g> Edges<'g> {
         self.left
     }
 
-    /// How many there are.
+    /// The number of edges.
     pub fn len(&self) -> usize
         ensures { result ≡ length self.now }
     {
         self.left.len()
     }
 
-    /// Whether there are none.
+    /// Whether the list is empty.
     pub fn is_empty(&self) -> bool
         ensures { result ≡ is_empty self.now }
     {
         self.left.is_empty()
     }
 
-    /// The first one, if any.
+    /// The first edge, if any.
     pub fn first(&self) -> Option<Edge<'g>>
         ensures { option_map edge_of result ≡ slice_get self.now 0 }
     {

@@ -29,7 +29,7 @@ impl Model for Loaded {
     ghost use Rattle.nj_scope.specs.ReadingList.{ReadStatement};
     ghost use Rattle.nj_graph.specs.Graph.{IsGraphOf};
 
-    // each path was read once, and it is the graph of some statements
+    // each path was read once, and the graph is that of some statements
     ghost invariant = { λ l. EachPathOnce l.files
         × ((entries : List ReadStatement) × IsGraphOf l.graph entries) };
 }
@@ -42,7 +42,7 @@ impl Loaded {
         &self.graph
     }
 
-    /// The files that were read, each path once; also paths at which there was no file.
+    /// The files that were read, each path once, including paths without a file.
     pub fn files(&self) -> &FileTable
         ensures { result.now ≡ self.now.files }
     {
@@ -61,11 +61,12 @@ impl Loaded {
 ///
 /// # Errors
 ///
-/// The first fault in reading order, with its place: a statement comes before those below it, and
-/// the statements of an included file before those after the `include`. After all reading, a
-/// dependency cycle, at the lowest-numbered edge that lies on one. A file that cannot be read, or a
-/// failed allocation, ends the reading where it happens. Where the source fails at a file, that is
-/// the fault, at the place of the word that names the file; the file is not tried again.
+/// The first fault in reading order, with its place: a statement comes before the statements below
+/// it, and the statements of an included file before the statements after the `include`. After all
+/// reading, a dependency cycle, at the lowest-numbered edge that lies on a cycle. A file that
+/// cannot be read, or a failed allocation, ends the reading where it happens. Where the source
+/// fails at a file, that is the fault, at the place of the word that names the file; the file is
+/// not tried again.
 pub fn load<S: FileSource>(alloc: Global, source: &mut S, main: &str) -> Result<Loaded, GraphFault>
     ensures loads { Loads main.now (S.state source.old) (S.state source.new) result }
     ensures main { IfOk result (λ loaded. main_of loaded.graph.origins ≡ main.now) }

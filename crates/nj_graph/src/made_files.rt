@@ -15,7 +15,7 @@ pub(crate) struct MadeFile {
     pub(crate) maker: EdgeNo,
 }
 
-/// For each path of a log, the file at its clean path; `None` if no edge makes that.
+/// For each path of a log, the file at its clean path; `None` if no edge makes the file.
 pub(crate) fn made_files(
     alloc: Global,
     graph: &EdgeGraph,

@@ -10,8 +10,8 @@ use nj_needs::Needs;
 use std::alloc::{AllocError, Global};
 use std::marker::Model;
 
-/// The edges with commands that files need and that are left, each after all that it needs itself,
-/// in the order in which they are first completed from left to right: the value of
+/// The remaining edges with commands that files need, each after all that it needs itself, in the
+/// order in which they are first completed from left to right: the value of
 /// [`FileList::needed_commands`].
 #[derive(Drop)]
 pub struct NeededCommands<'g> {
@@ -47,8 +47,8 @@ impl<'g> Iterator for NeededCommands<'g> {
 }
 
 impl<'g> FileList<'g> {
-    /// The edges with commands that the files need ([`Needs`]). It reserves all the memory that the
-    /// walk needs, and fails only if an allocation fails.
+    /// The edges with commands that the files need ([`Needs`]). This call reserves all the memory
+    /// of the walk, and fails only if an allocation fails.
     pub fn needed_commands(&self, alloc: Global) -> Result<NeededCommands<'_>, AllocError>
         ensures { IfOk result (λ commands. commands ≡ commands_needed self.now) }
     {

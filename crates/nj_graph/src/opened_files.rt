@@ -7,8 +7,8 @@ use crate::graph::Graph;
 use crate::origins::Opening;
 
 impl Graph {
-    /// How many files were opened: the main file, and one more for each `include` and `subninja`
-    /// statement, also where it opens a file again ("Ninja file reference" in the Ninja manual).
+    /// The number of opened files: the main file, and one more for each `include` and `subninja`
+    /// statement, even if it opens a file again ("Ninja file reference" in the Ninja manual).
     pub fn opening_count(&self) -> usize
         ensures held { result ≡ length self.now.origins.openings }
         ensures stated { OfStatements self.now (λ entries. result ≡ files_opened entries) }
@@ -16,8 +16,8 @@ impl Graph {
         self.declared.origins.opening_count()
     }
 
-    /// The file that was opened at this index, in reading order; the main file is the first one.
-    /// `None` past the last one.
+    /// The opened file at the given index, in reading order; the main file is first. `None` past
+    /// the last file.
     pub fn opening(&self, index: usize) -> Option<Opening<'_>>
         ensures held { option_map opening_model result ≡ slice_get self.now.origins.openings index }
         ensures stated { OfStatements self.now (λ entries. option_map opening_model result

@@ -10,11 +10,11 @@ use nj_text::Spot;
 use std::alloc::{AllocError, Global};
 use std::marker::Model;
 
-/// A file that was opened. One that is opened again counts again.
+/// An opened file. A file that is opened again counts again.
 #[derive(Clone, Copy, Debug, PartialEq, Eq)]
 pub struct Opening<'a> {
-    /// The path as it was opened: the main file's as given, another's as the statement that names
-    /// it gives.
+    /// The path as it was opened: as given for the main file, else as the statement that names the
+    /// file expands it.
     pub path: &'a [u8],
     /// The place of the `include` or `subninja` that names it; `None` for the main file.
     pub named_at: Option<PlaceRef<'a>>,
@@ -22,7 +22,7 @@ pub struct Opening<'a> {
     pub scope: ScopeNo,
 }
 
-// A place in a file whose name has a number.
+// A place in a file, with the number of the file's name.
 #[derive(Clone, Copy)]
 pub(crate) struct HeldPlace {
     pub(crate) file: usize,
@@ -36,7 +36,7 @@ pub(crate) struct HeldPool {
     pub(crate) depth: u64,
 }
 
-// A file that was opened, whose name has a number.
+// An opened file, with the number of its name.
 #[derive(Clone, Copy)]
 pub(crate) struct HeldOpening {
     pub(crate) file: usize,
@@ -44,13 +44,12 @@ pub(crate) struct HeldOpening {
     pub(crate) scope: ScopeNo,
 }
 
-/// Where the rules and the pools were declared that were read so far, and which statements opened
-/// which files.
+/// Where each rule and pool read so far was declared, and which statement opened each file.
 #[derive(Drop)]
 pub(crate) struct Origins {
     // The names under which files were opened, without duplicates.
     names: Names,
-    // The rules but `phony`.
+    // The rules except `phony`.
     rules: Vec<HeldPlace>,
     pools: Vec<HeldPool>,
     openings: Vec<HeldOpening>,
@@ -68,7 +67,8 @@ impl Model for Origins {
 }
 
 impl Origins {
-    /// The main file is opened, and nothing is read of it yet. Names are hashed by these keys.
+    /// The origins once the main file is opened and nothing of it is read yet. Names are hashed
+    /// with the given keys.
     pub(crate) fn new(alloc: Global, keys: HashKeys, main: &str) -> Result<Origins, AllocError>
         ensures { IfOk result (λ o. o ≡ origins_read main.now []) }
     {
@@ -88,7 +88,7 @@ impl Origins {
         })
     }
 
-    /// A rule is declared by the statement at this place.
+    /// Adds the rule that the statement at the given place declares.
     pub(crate) fn add_rule(&mut self, place: PlaceRef<'_>) -> Result<(), AllocError>
         ensures { OnOk result (self.new ≡ record self.old {
           rules = self.old.rules ++ Some (place_text place.entry) ∷ [];
@@ -99,7 +99,7 @@ impl Origins {
         Ok(())
     }
 
-    /// A pool of this depth is declared by the statement at this place.
+    /// Adds the pool of the given depth that the statement at the given place declares.
     pub(crate) fn add_pool(&mut self, place: PlaceRef<'_>, depth: u64) -> Result<(), AllocError>
         ensures { OnOk result (self.new ≡ record self.old {
           pools = self.old.pools
@@ -111,8 +111,8 @@ impl Origins {
         Ok(())
     }
 
-    /// The statement at this place opens the file at the path, whose statements are in the scope
-    /// with the given number.
+    /// Adds the file at the path, which the statement at the given place opens, and whose
+    /// statements are in the scope with the given number.
     pub(crate) fn add_opening(
         &mut self,
         place: PlaceRef<'_>,
@@ -143,7 +143,7 @@ impl Origins {
         Some(lend_place(&self.names, *place))
     }
 
-    /// The place of the statement that declares the pool at this index.
+    /// The place of the statement that declares the pool at the given index.
     pub(crate) fn pool_place(&self, index: usize) -> Option<PlaceRef<'_>>
         ensures { option_map place_text result
             ≡ option_map (λ p. p.place) (slice_get self.now.pools index) }
@@ -152,7 +152,7 @@ impl Origins {
         Some(lend_place(&self.names, pool.place))
     }
 
-    /// The depth of the pool at this index.
+    /// The depth of the pool at the given index.
     pub(crate) fn pool_depth(&self, index: usize) -> Option<u64>
         ensures { result ≡ option_map (λ p. p.depth) (slice_get self.now.pools index) }
     {
@@ -160,14 +160,14 @@ impl Origins {
         Some(pool.depth)
     }
 
-    /// How many files were opened.
+    /// The number of opened files.
     pub(crate) fn opening_count(&self) -> usize
         ensures { result ≡ length self.now.openings }
     {
         self.openings.len()
     }
 
-    /// The file that was opened at this index.
+    /// The opened file at the given index.
     pub(crate) fn opening(&self, index: usize) -> Option<Opening<'_>>
         ensures { option_map opening_model result ≡ slice_get self.now.openings index }
     {
@@ -183,7 +183,7 @@ impl Origins {
     }
 }
 
-// The place, whose file gets a number.
+// The place, with its file's name replaced by a number.
 fn keep_place(names: &mut Names, place: PlaceRef<'_>) -> Result<HeldPlace, AllocError>
     ensures held { IfOk result (λ held. place_held names.new held ≡ place_text place.entry) }
     ensures known { IfOk result (λ held. held.file < length names.new) }

@@ -1,4 +1,4 @@
-//! The edges that files need, and those that a change of files affects.
+//! The edges that files need, and the edges that a change of files affects.
 
 ghost use Rattle.std.specs.Prelude.{◌≡◌, ◌∷◌, [], IfOk};
 ghost use Rattle.nj_graph.specs.Cited.{ListsAffected, ListsNeeded, file_of};
@@ -8,11 +8,11 @@ use crate::handles::File;
 use std::alloc::{AllocError, Global};
 
 impl<'g> File<'g> {
-    /// The edges that a change of the file affects: those that have it as an input, and those that
-    /// need an output of these through any chain of inputs, in reading order.
+    /// The edges that a change of the file affects: the edges with the file as an input, and the
+    /// edges that need their outputs through any chain of inputs. In reading order.
     ///
-    /// Takes time in proportion to these edges, but for a flag for each edge of the graph. Fails
-    /// only if an allocation fails.
+    /// Takes time in proportion to the affected edges, apart from a flag for each edge of the
+    /// graph. Fails only if an allocation fails.
     pub fn affected_edges(self, alloc: Global) -> Result<EdgeList<'g>, AllocError>
         ensures { IfOk result (ListsAffected (file_of self.entry).graph
             ((file_of self.entry).path ∷ [])) }
@@ -27,8 +27,8 @@ impl<'g> File<'g> {
     /// The edges that the file needs through any chain of inputs, phony edges among them, without
     /// duplicates, nearest first.
     ///
-    /// Takes time in proportion to these edges and their inputs, but for a flag for each edge of the
-    /// graph. Fails only if an allocation fails.
+    /// Takes time in proportion to the needed edges and their inputs, apart from a flag for each
+    /// edge of the graph. Fails only if an allocation fails.
     pub fn needed_edges(self, alloc: Global) -> Result<EdgeList<'g>, AllocError>
         ensures { IfOk result (ListsNeeded (file_of self.entry).graph
             ((file_of self.entry).path ∷ [])) }
@@ -42,7 +42,8 @@ impl<'g> File<'g> {
 }
 
 impl<'g> FileList<'g> {
-    /// The edges that a change of the files affects, as for one ([`File::affected_edges`]).
+    /// The edges that a change of the files affects, as for a single file
+    /// ([`File::affected_edges`]).
     pub fn affected_edges(&self, alloc: Global) -> Result<EdgeList<'g>, AllocError>
         ensures { IfOk result (ListsAffected self.now.graph self.now.paths) }
     {
@@ -53,7 +54,7 @@ impl<'g> FileList<'g> {
         })
     }
 
-    /// The edges that the files need, as for one ([`File::needed_edges`]).
+    /// The edges that the files need, as for a single file ([`File::needed_edges`]).
     pub fn needed_edges(&self, alloc: Global) -> Result<EdgeList<'g>, AllocError>
         ensures { IfOk result (ListsNeeded self.now.graph self.now.paths) }
     {

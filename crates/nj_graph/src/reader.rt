@@ -34,7 +34,7 @@ impl<'a> OpenFile<'a> {
         }
     }
 
-    /// The fault of this cause at a place of the file, or out of memory.
+    /// The fault with the given cause at a place in the file, or out of memory.
     pub(crate) fn fault(self, alloc: Global, spot: Spot, cause: Cause) -> GraphFault
         ensures { IsFault (Some (fault_at self.entry.name.now spot cause)) result }
     {
@@ -60,7 +60,8 @@ pub(crate) struct Reader {
 }
 
 impl Reader {
-    /// Nothing is read yet of the main file. Names and paths are hashed by these keys.
+    /// A reader that has read nothing of the main file yet. Names and paths are hashed with the
+    /// given keys.
     pub(crate) fn new(alloc: Global, keys: HashKeys, main: &str) -> Result<Reader, AllocError>
         ensures { IfOk result (λ r. IsNew main.now r) }
     {
@@ -99,7 +100,7 @@ impl Reader {
         self.read_text(alloc, source, file, text.as_slice())
     }
 
-    // Reads the statements of an open file, and of those that it names.
+    // Reads the statements of an open file, and of the files that it names.
     #[cycle(reading)]
     fn read_text<S: FileSource>(
         &mut self,
@@ -151,7 +152,7 @@ impl Reader {
         }
     }
 
-    // Reads a statement itself. Returns the file that it names, if it names one.
+    // Reads a statement itself. Returns the file that it names, if any.
     fn read_item<S: FileSource>(
         &mut self,
         alloc: Global,

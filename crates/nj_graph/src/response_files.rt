@@ -7,8 +7,8 @@ use memchr::memmem;
 use std::alloc::{AllocError, Global};
 
 /// A command without its response file: the contents of the file, on one line, replace the `@` and
-/// the name after it ("Rule variables" in the Ninja manual). Where the first occurrence of the name
-/// has no `@` directly before it, or there is none, the command stays the same.
+/// the name after it ("Rule variables" in the Ninja manual). If the name does not occur, or its
+/// first occurrence has no `@` directly before it, the command stays the same.
 ///
 /// # Errors
 ///

@@ -9,10 +9,10 @@ use nj_faults::PlaceRef;
 use nj_scope::{Rule, RuleNo};
 
 impl Graph {
-    /// The rules of all scopes in the order of their numbers: `phony`, which is always there and
-    /// has no lines, and then those that `rule` statements declare, in reading order ("Rules" in
+    /// The rules of all scopes in the order of their numbers: `phony`, which always exists and has
+    /// no lines, and then the rules that `rule` statements declare, in reading order ("Rules" in
     /// the Ninja manual). Rules of different scopes may have the same name. The lines of a rule are
-    /// kept as they were written: `LateValue::written` gives a value as a text.
+    /// kept as they were written: `LateValue::written` returns a value as a text.
     pub fn rules(&self) -> &[Rule]
         ensures held { result.now ≡ self.now.declarations.rules }
         ensures stated { OfStatements self.now (λ entries. result.now ≡ rules_read entries) }
@@ -33,7 +33,7 @@ impl Graph {
 }
 
 impl<'g> Edge<'g> {
-    /// Its rule: the one that was in force before its statement.
+    /// Its rule, which is the rule that was in force before its statement.
     pub fn rule(self) -> &'g Rule
         ensures held { slice_get (edge_of self.entry).graph.declarations.rules
             (detail_of_edge (edge_of self.entry)).rule ≡ Some result.now }
@@ -43,7 +43,7 @@ impl<'g> Edge<'g> {
         &self.graph.rules()[self.rule_number().0]
     }
 
-    /// The number of its rule, by which that is found in [`Graph::rules`].
+    /// The number of its rule in [`Graph::rules`].
     pub fn rule_number(self) -> RuleNo
         ensures there { result.0 < length (edge_of self.entry).graph.declarations.rules }
         ensures held { result.0 ≡ (detail_of_edge (edge_of self.entry)).rule }

@@ -8,9 +8,9 @@ use crate::handles::Edge;
 use nj_scope::ScopeNo;
 
 impl Graph {
-    /// How many scopes there are: the main file's, which has the number 0, and one more for each
-    /// file that a `subninja` statement opened, numbered in reading order ("Evaluation and scoping"
-    /// in the Ninja manual).
+    /// The number of scopes: the main file's, which has the number 0, and one more for each file
+    /// that a `subninja` statement opened, numbered in reading order ("Evaluation and scoping" in
+    /// the Ninja manual).
     pub fn scope_count(&self) -> usize
         ensures held { result ≡ length self.now.declarations.scopes }
         ensures stated { OfStatements self.now (λ entries. result ≡ scopes_opened entries) }
@@ -18,9 +18,10 @@ impl Graph {
         self.declared.declarations.scope_count()
     }
 
-    /// The value of a name, as `builddir`, in the scope with the given number after all statements:
-    /// the last binding of the scope itself, else that of the nearest scope around it ("Evaluation
-    /// and scoping" in the Ninja manual). `None` if none of them binds the name.
+    /// The value of a name, such as `builddir`, in the scope with the given number after all
+    /// statements: the last binding of the scope itself, else the binding of the nearest enclosing
+    /// scope that binds the name ("Evaluation and scoping" in the Ninja manual). `None` if none of
+    /// the scopes binds the name.
     pub fn scope_value(&self, scope: ScopeNo, name: &[u8]) -> Option<&[u8]>
         requires { scope.0 < length self.now.declarations.scopes }
         ensures main { OfStatements self.now (λ entries.

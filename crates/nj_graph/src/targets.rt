@@ -1,4 +1,4 @@
-//! Targets, as words of a command line name them.
+//! Targets, as named by words of a command line.
 
 ghost use Rattle.std.specs.Prelude.{◌≡◌, ◌<◌, Some, All, IfOk, length, map, option_map};
 ghost use Rattle.nj_graph.specs.Cited.{edges_of, files_of, target, first_made_of, made_target, clean_target, picked, targets_named, targets_or, Picks, PicksFile, PicksFiles, PicksTargets, defaults_in_force, file_in, file_of};
@@ -12,11 +12,11 @@ use nj_text::{TextFault, clean_path};
 use std::alloc::Global;
 use std::convert::AsSlice;
 
-/// The file that a word of a command line means, by its number ([`Graph::target`]).
+/// The file that a word of a command line denotes, by its number ([`Graph::target`]).
 ///
 /// # Errors
 ///
-/// Those of [`Graph::target`].
+/// The errors of [`Graph::target`].
 pub fn pick_target(alloc: Global, graph: &Graph, word: &[u8]) -> Result<FileNo, GraphFault>
     ensures { Picks (files_of graph.now) (picked (edges_of graph.now) word.now) result }
 {
@@ -25,14 +25,14 @@ pub fn pick_target(alloc: Global, graph: &Graph, word: &[u8]) -> Result<FileNo, 
 }
 
 impl Graph {
-    /// The file that a word of a command line means: the one at its path, which is cleaned first;
-    /// for `FILE^` the first output of an edge that has FILE as an input, the edge of the smallest
-    /// number ("Running Ninja" in the Ninja manual).
+    /// The file that a word of a command line denotes: the file at its path, which is cleaned
+    /// first; for `FILE^` the first output of the lowest-numbered edge that has FILE as an input
+    /// ("Running Ninja" in the Ninja manual).
     ///
     /// # Errors
     ///
-    /// An empty word, a file that no edge names, and for `FILE^` one that no edge has as an input;
-    /// or an allocation failed. The fault has no place.
+    /// An empty word, a file that no edge names, and for `FILE^` a file that no edge has as an
+    /// input; or an allocation failed. The fault has no place.
     pub fn target(&self, alloc: Global, word: &[u8]) -> Result<File<'_>, GraphFault>
         ensures { PicksFile self.now (picked (edges_of self.now) word.now) result }
     {
@@ -43,7 +43,7 @@ impl Graph {
         }
     }
 
-    // The file that a clean path means.
+    // The file that a clean path denotes.
     fn clean_target(&self, alloc: Global, path: &[u8]) -> Result<File<'_>, GraphFault>
         ensures { PicksFile self.now (clean_target (edges_of self.now) path.now) result }
     {
@@ -80,12 +80,12 @@ impl Graph {
         }
     }
 
-    /// The files that words of a command line mean, in their order, each as [`Graph::target`] has
-    /// it; the defaults in force if there are no words.
+    /// The files that words of a command line denote, in their order, each as by [`Graph::target`];
+    /// the defaults in force if there are no words.
     ///
     /// # Errors
     ///
-    /// The fault of the first word that means no file; or an allocation failed.
+    /// The fault of the first word that does not denote a file; or an allocation failed.
     pub fn targets<W: AsSlice<u8>>(
         &self,
         alloc: Global,
@@ -102,11 +102,12 @@ impl Graph {
         })
     }
 
-    /// The files that words of a command line mean, in their order, by their numbers ([`Graph::targets`]).
+    /// The files that words of a command line denote, in their order, by their numbers
+    /// ([`Graph::targets`]).
     ///
     /// # Errors
     ///
-    /// Those of [`Graph::targets`].
+    /// The errors of [`Graph::targets`].
     pub fn pick_targets<W: AsSlice<u8>>(
         &self,
         alloc: Global,
@@ -124,12 +125,12 @@ impl Graph {
         self.pick_named(alloc, words)
     }
 
-    /// The files that words of a command line mean, in their order: none if there are no words. For
-    /// this library's own crates.
+    /// The files that words of a command line denote, in their order: no files if there are no
+    /// words. For this library's own crates.
     ///
     /// # Errors
     ///
-    /// The fault of the first word that means no file; or an allocation failed.
+    /// The fault of the first word that does not denote a file; or an allocation failed.
     pub fn pick_named<W: AsSlice<u8>>(
         &self,
         alloc: Global,

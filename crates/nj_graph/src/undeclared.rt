@@ -1,4 +1,4 @@
-//! Inputs that deps logs name for edges, and that these do not declare.
+//! Inputs that deps logs name for edges, and that the edges do not declare.
 
 ghost use Rattle.std.specs.Prelude.{◌≡◌, ◌<◌, [], length, map, option_map, All, IfOk, OnOk, bytes_eq};
 ghost use Rattle.nj_graph.specs.Cited.{OfStatements, AllByRecursion, IsDistinct, clean_path_of, is_among, name_at, has, each_once, edges_of, files_of, AreThose, AreUndeclared, IsUndeclared, input_of_edge, paths_of_output, AreMade, IsFound, IsKnownIfAny, inputs_by_number, numbers_if_any, numbers_of};
@@ -17,11 +17,11 @@ pub struct UndeclaredInput {
     pub file: FileNo,
 }
 
-/// The inputs that edges use without declaring them ("Deps" in the Ninja manual): a deps log names a
-/// file for the first output of an edge whose value of `deps` is not empty, another edge makes that
-/// file, and the edge needs that maker through no chain of inputs. So it may run before the file is
-/// made. By edge, then in the log's order, without duplicates. An edge for which the log names
-/// `build.ninja`, by that very path, is left out.
+/// The inputs that edges use without declaring them ("Deps" in the Ninja manual): a deps log names
+/// a file for the first output of an edge whose value of `deps` is not empty, another edge makes
+/// that file, and the edge does not need that maker through any chain of inputs. The edge may then
+/// run before the file is made. By edge, then in the log's order, without duplicates. An edge for
+/// which the log names the exact path `build.ninja` is left out.
 ///
 /// Call it before [`Graph::join_deps`], after which the files of the log are inputs.
 ///
@@ -47,7 +47,7 @@ pub fn undeclared_inputs(
     Ok(found.inputs)
 }
 
-// Adds the undeclared inputs of all edges, by the numbers under which a log has their first outputs.
+// Adds the undeclared inputs of all edges, by a log's numbers of their first outputs.
 fn add_edges(
     found: &mut FoundInputs<'_>,
     graph: &EdgeGraph,
@@ -97,7 +97,7 @@ fn paths_named(log: &DepsLog, output: Option<PathNo>) -> &[PathNo]
     }
 }
 
-// Whether one of the paths with the given numbers is this.
+// Whether a path is among the paths with the given numbers.
 fn has_path(log: &DepsLog, numbers: &[PathNo], path: &[u8]) -> bool
     requires each_path_once { IsDistinct bytes_eq log.now.paths }
     requires known { AllByRecursion (λ number. number < length log.now.paths)
@@ -110,7 +110,7 @@ fn has_path(log: &DepsLog, numbers: &[PathNo], path: &[u8]) -> bool
     }
 }
 
-// Whether this is one of the numbers.
+// Whether a number is among the given numbers.
 fn has_number(numbers: &[PathNo], wanted: PathNo) -> bool
     ensures { result ≡ has (numbers_of numbers.now) wanted.0 }
 {

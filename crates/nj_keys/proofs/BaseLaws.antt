@@ -1,4 +1,4 @@
--- A text is told by the text that it is mapped to.
+-- A text is determined by the text that it is mapped to.
 use Rattle.std.proofs.Common.{◌≡◌, ◌≢◌, ◌<◌, ◌≤◌, ◌-◌, ◌^◌, ℕ, zero, suc, max, true, false, cond, leb, Some}
 use Rattle.std.proofs.Common.{None}
 use Rattle.std.proofs.Common.{List, [], ◌∷◌, ◌++◌, length, take, drop, get_or, position, bytes_eq, refl, sym}
@@ -57,12 +57,12 @@ digit-goes_on b text digit =
       other 92 (inr (omega arith)),
     ) refl
 
--- a text begins with no digit
+-- a text does not begin with a digit
 abbrev BeginsPlain : List ℕ → Type 0
 BeginsPlain [] = Unit {0}
 BeginsPlain (b ∷ text) = is_ascii_digit b ≡ false
 
--- digits, and a text that begins with none
+-- digits, and a text that does not begin with a digit
 cut : (ds es x y : List ℕ) → all_ascii_digits ds ≡ true → all_ascii_digits es ≡ true → BeginsPlain x
     → BeginsPlain y → ds ++ x ≡ es ++ y → (ds ≡ es) × (x ≡ y)
 cut [] [] x y all also plain clear is = (refl, is)

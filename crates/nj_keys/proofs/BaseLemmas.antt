@@ -53,7 +53,7 @@ module _ (folders : List (List ℕ)) (before : List ℕ) (b : ℕ) (after rest :
       ap (λ n. mapped_after folders (before ++ b ∷ []) n after) is
       ∙ ap (mapped_after folders before (suc left)) (sym rest-is)
 
-  -- a byte at which a directory of this length counts, or none
+  -- a byte at which a directory of the given length counts, or no directory
   pub step-outside : (out written : List ℕ) (may : Bool) (size : ℕ) → may ≡ may_begin before
       → size ≡ cond may (longest_at folders rest) 0
       → written ≡ out ++ front_mapped folders size rest

@@ -53,7 +53,8 @@ with_blank : mapped (codes "/home/a b" ∷ []) (codes "cc '/home/a b/x.c'")
     ≡ codes "cc '" ++ first (codes "/x.c'")
 with_blank = refl
 
--- a directory after a letter, one that ends with a digit, one given twice, and an empty text in place of one
+-- a directory after a letter, a directory that ends with a digit, a repeated directory, and an empty text in
+-- place of one
 after_letter : mapped (codes "/a" ∷ []) (codes "x/a x/b/a") ≡ codes "x" ++ first (codes " x/b/a")
 after_letter = refl
 

@@ -1,4 +1,6 @@
--- Edges whose fields have one text agree, and those with one key have one text, as far as SHA-256 tells.
+-- Edges whose fields have the same text agree, and edges with the same key have the same text, as far as
+-- SHA-256 tells texts
+-- apart.
 use Rattle.std.proofs.Common.{◌≡◌, ◌<◌, ◌^◌, ℕ, Bool, true, false, cond, List, [], ◌∷◌, ◌++◌, map, length}
 use Rattle.std.proofs.Common.{drop, get_or}
 use Rattle.std.proofs.Common.{refl, sym, ap, ◌∙◌, inl, inr, append-nil, bytes_eq, All}
@@ -112,7 +114,7 @@ module _ (folders : List (List ℕ)) (edges : List EdgePaths) (keys : ℕ → Li
       let kept = of-kind test folders edges keys OrderOnly p.order_only_inputs refl in
       of-each test folders edges keys p ∙ (λ i. explicit i ++ implicit i ++ kept i)
 
--- ---- edges of one text
+-- ---- edges of the same text
 
 pub agree : TextsTellMapped
 agree folders others e f keys more short also is =
@@ -188,7 +190,7 @@ alike folders e f keys more few none never short also is =
     texts-told folders few (texts_of e) (texts_of f) none never
     (agree folders folders e f keys more short also is)
 
--- ---- edges of one key
+-- ---- edges of the same key
 
 key-is : (folders : List (List ℕ)) (e : StatedEdge) (key : List ℕ) (fields : Fields)
     → IsKey folders e.edges e.entries e.number key → AreFieldsOf folders e fields

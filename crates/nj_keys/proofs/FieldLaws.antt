@@ -1,4 +1,4 @@
--- Each part is read off the front of a text of fields in one way only.
+-- Each part can be read off the front of a text of fields in only one way.
 use Rattle.std.proofs.Common.{◌≡◌, ◌<◌, ◌^◌, ℕ, Bool, true, false, List, [], ◌∷◌, ◌++◌, length, take, drop}
 use Rattle.std.proofs.Common.{refl, sym, ap, ◌∙◌, append_assoc, arith}
 use Rattle.std.specs.Prelude.{◌&&◌, decimal}

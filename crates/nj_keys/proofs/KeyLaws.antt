@@ -1,4 +1,4 @@
--- An edge has one key only, and has one where no edge needs itself.
+-- An edge has at most one key, and has a key if no edge needs itself.
 use Rattle.std.proofs.Common.{◌≡◌, ◌<◌, ℕ, zero, suc, Option, Some, None, List, [], ◌∷◌, ◌++◌, map, refl, sym}
 use Rattle.std.proofs.Common.{ap, ◌∙◌, subst, arith}
 use Rattle.std.specs.Prelude.{length, Contains}

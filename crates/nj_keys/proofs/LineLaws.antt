@@ -1,4 +1,4 @@
--- Some edges have one text only, and the texts of pages join.
+-- A list of edges has only one text, and the texts of pages join.
 use Rattle.std.proofs.Common.{◌≡◌, ℕ, List, [], ◌∷◌, ◌++◌, length, reverse, refl, sym, ap, ◌∙◌, subst}
 use Rattle.std.proofs.Common.{append_assoc, arith}
 use Rattle.std.proofs.lemmas.List.{append-nil, length_push, reverse-append, reverse-reverse}

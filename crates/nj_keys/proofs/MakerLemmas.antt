@@ -1,4 +1,4 @@
--- The makers of an edge's inputs, and the keys that are kept of them.
+-- The makers of an edge's inputs, and their kept keys.
 use Rattle.std.proofs.Common.{◌≡◌, ◌<◌, inl, inr, ℕ, zero, suc, Option, Some, None, List, [], ◌∷◌, map}
 use Rattle.std.proofs.Common.{length}
 use Rattle.std.proofs.Common.{true, false, get_or, replicate, refl, sym, ap, ◌∙◌, subst, arith}
@@ -14,7 +14,7 @@ use Rattle.nj_keys.specs.Keys.{fields_of, fields_text, IsKey, Needs}
 use Rattle.nj_keys.specs.Keys.IsKey.{digest}
 use Rattle.nj_keys.specs.Inside.Keeping.{kept_key, made_by, IsKept, IsMissing, KeepsKeys, MakesOne}
 
--- the key that is kept of an edge is its key
+-- the kept key of an edge is its key
 pub key-of-kept : (folders : List (List ℕ)) (edges : List EdgePaths) (entries : List ReadStatement)
     (keys : List (Option (List ℕ))) (e : ℕ)
     → IsKept keys e → KeepsKeys folders edges entries keys → IsKey folders edges entries e (kept_key keys e)
@@ -38,7 +38,7 @@ no-keys count keys is e key found =
     let both : Some key ≡ None = sym (get_or_from_slice_get keys e (Some key) None found) ∙ none in
     absurd cc
 
--- the key of an edge, from those that are kept
+-- the key of an edge, from the kept keys
 pub kept-digest : (edges : List EdgePaths) (keys : List (Option (List ℕ))) (edge : ℕ)
     (folders : List (List ℕ)) (entries : List ReadStatement)
     → ((f : ℕ) → Needs edges edge f → IsKept keys f) → KeepsKeys folders edges entries keys
@@ -80,7 +80,7 @@ kept-unless keys e below some = kept-if keys e (get_or keys e None) (slice_get-g
 
 -- ---- makers of files
 
--- the first of some files is one that an edge makes
+-- the first of some files is made by an edge
 pub first-makes : (files : List GraphFile) (file : GraphFile) (edge : GraphEdge)
     → Some file ≡ slice_get files 0
     → made_by file ≡ Some edge → MakesOne files edge
@@ -90,7 +90,7 @@ first-makes (other ∷ files) file edge first made =
     let is : file ≡ other = cc in
     inl (subst (λ f. made_by f ≡ Some edge) is made)
 
--- without any
+-- without files
 pub none-makes : (files : List GraphFile) (edge : GraphEdge) → None ≡ slice_get files 0 → MakesOne files edge
     → ⊥
 none-makes [] edge first makes = makes
@@ -107,7 +107,7 @@ module _ (g : GraphModel) where
       let same : edge_in g n ≡ edge = cc in
       (ap (λ e. e.graph) (sym same), ap (λ e. Some e.number) same)
 
-  -- an edge that makes one of these files is the maker of one of their paths
+  -- an edge that makes one of the given files is the maker of one of their paths
   pub makes-needed : (paths : List (List ℕ)) (edge : GraphEdge) → MakesOne (files_in g paths) edge
       → (edge.graph ≡ g) × Contains (makers paths) (Some edge.number)
   makes-needed [] edge makes = elim makes [ ]

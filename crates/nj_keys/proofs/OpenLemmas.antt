@@ -87,7 +87,7 @@ module _ (g : GraphModel) (rank : ℕ → ℕ) (ranked : IsRank (edges_of g) ran
     are,
   )
 
-  -- no more are open than there are edges
+  -- at most as many edges are open as the graph has
   pub open-length : (keys : List (Option (List ℕ))) → length keys ≡ length (edges_of g)
       → (least : ℕ) (frames : List Frame) → least ≤ length (edges_of g)
       → AreOpen g keys rank least frames → least + length frames ≤ length (edges_of g)
@@ -142,7 +142,7 @@ module _ (g : GraphModel) (rank : ℕ → ℕ) (ranked : IsRank (edges_of g) ran
             (needed-makes g paths maker needs);
       }
 
-  -- the first one
+  -- the first edge
   pub open-first : (keys : List (Option (List ℕ))) (frame : Frame) (edge : GraphEdge) → edge.graph ≡ g
       → IsMissing keys edge.number → edge_of frame.edge ≡ edge → frame.inputs ≡ inputs_in edge
       → AreOpen g keys rank 0 (frame ∷ [])
@@ -182,7 +182,7 @@ module _ (g : GraphModel) (rank : ℕ → ℕ) (ranked : IsRank (edges_of g) ran
         ),
       )
 
-  -- the makers of the inputs of an edge are kept, where none of those that may have no key is missing
+  -- the keys of the makers of an edge's inputs are kept, if none of the makers that may lack a key lacks it
   pub makers-kept : (keys : List (Option (List ℕ))) → length keys ≡ length (edges_of g)
       → (least : ℕ) (edge : GraphEdge) (inputs : List GraphFile) → IsOpen g keys rank least edge inputs
       → ((maker : GraphEdge) → MakesOne inputs maker → IsMissing keys maker.number → ⊥)

@@ -1,4 +1,4 @@
--- A page of keys, and the next ones, are all keys.
+-- A page of keys and the pages after it are all keys.
 use Rattle.std.proofs.Common.{◌≡◌, ℕ, true, Option, Some, None, List, ◌++◌, refl, sym, ap, ◌∙◌, subst}
 use Rattle.std.proofs.Common.{append-nil, take-append-drop}
 use Rattle.std.specs.List.{concat}

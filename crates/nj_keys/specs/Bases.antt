@@ -1,4 +1,4 @@
--- Base directories: those that differ between places where the same build lies. In a text a zero byte and a number
+-- Base directories: directories that differ between places where the same build lies. In a text a zero byte and a number
 -- stand for them.
 use Rattle.std.specs.Prelude.{◌≡◌, ◌≢◌, ◌<◌, ◌^◌, ℕ, zero, suc, ◌-◌, ◌==◌, Bool, true, false, ◌&&◌, ◌||◌, not, if◌then◌else◌}
 use Rattle.std.specs.Prelude.{unwrap_or, List, [], ◌∷◌, ◌++◌, length, take, drop, reverse, max, position, bytes_eq, nat_eq}
@@ -14,13 +14,13 @@ is_quote b = b == 34 || b == 39
 abbrev pub is_separator : ℕ → Bool
 is_separator b = b == 32 || b == 9 || b == 10 || b == 13 || is_quote b || b == 61 || b == 58 || b == 44
 
--- a byte of a path: no separator, and none of `&`, `(`, `)`, `;`, `<`, `>` and `|`, which end a word of `sh`
+-- a byte of a path: neither a separator, nor `&`, `(`, `)`, `;`, `<`, `>` or `|`, which end a word of `sh`
 abbrev pub is_path_byte : ℕ → Bool
 is_path_byte b = not (is_separator b || b == 38 || b == 40 || b == 41 || b == 59 || b == 60 || b == 62 || b == 124)
 
 -- ---- where a directory counts
 
--- a path may begin after this text: no `/` stands after its last separator
+-- a path may begin after the text: no `/` stands after its last separator
 abbrev pub may_begin : (before : List ℕ) → Bool
 may_begin before = not (list_any is_slash (take_while (λ b. not (is_separator b)) (reverse before)))
 
@@ -29,8 +29,8 @@ abbrev pub begins_with_quote : List ℕ → Bool
 begins_with_quote [] = false
 begins_with_quote (b ∷ text) = is_quote b
 
--- The path of a directory ends before this text: at a `/`, at no path byte, or at the end. A `\` before a quote is part of
--- that.
+-- The path of a directory ends before the text: at a `/`, at a byte that is not part of a path, at a `\` before a quote, or at
+-- the end.
 abbrev pub ends_before : (text : List ℕ) → Bool
 ends_before [] = true
 ends_before (b ∷ text) = is_slash b || not (is_path_byte b) || b == 92 && begins_with_quote text
@@ -39,7 +39,7 @@ ends_before (b ∷ text) = is_slash b || not (is_path_byte b) || b == 92 && begi
 abbrev pub stands_at : (text folder : List ℕ) → Bool
 stands_at text folder = starts_with nat_eq text folder && ends_before (drop (length folder) text)
 
--- the length of the longest directory that does; 0 if none does
+-- the length of the longest directory at the front of a text; 0 if no directory is there
 abbrev pub longest_at : (folders : List (List ℕ)) → (text : List ℕ) → ℕ
 longest_at [] text = 0
 longest_at (folder ∷ folders) text = max (if stands_at text folder then length folder else 0) (longest_at folders text)
@@ -54,8 +54,8 @@ counted folders before text = if may_begin before then longest_at folders text e
 abbrev pub token : (folders : List (List ℕ)) → (folder : List ℕ) → List ℕ
 token folders folder = 0 ∷ decimal (unwrap_or (position (bytes_eq folder) folders) 0)
 
--- the text that stands for the front of a text, where a directory of this length counts: its token, or the first byte
--- where none does
+-- the text that stands for the front of a text, where a directory of the given length counts: its token, or the first byte if
+-- the length is 0
 abbrev pub front_mapped : (folders : List (List ℕ)) → (length : ℕ) → (text : List ℕ) → List ℕ
 front_mapped folders zero text = take 1 text
 front_mapped folders (suc more) text = token folders (take (suc more) text)
@@ -75,11 +75,12 @@ mapped folders text = mapped_after folders [] 0 text
 
 -- ---- a law
 
--- no zero byte stands in a text, as in none of a manifest and in no word of a command line
+-- a text has no zero byte, like the texts of a manifest and the words of a command line
 abbrev pub HasNoZero : (text : List ℕ) → Type 0
 HasNoZero text = All (λ b. b ≢ 0) text
 
--- Other texts are mapped to other texts, whatever the directories are. There are fewer of them than 2^64, as memory holds.
+-- Different texts are mapped to different texts, whatever the directories are. There are fewer than 2^64 directories, as
+-- memory holds.
 abbrev pub MappedTells : Type 0
 MappedTells = (folders : List (List ℕ)) (one other : List ℕ) → length folders < 2 ^ 64 → HasNoZero one → HasNoZero other
     → mapped folders one ≡ mapped folders other → one ≡ other

@@ -1,4 +1,4 @@
--- Keys of edges, which are made of their commands and files and of the keys of the edges that make their inputs.
+-- Keys of edges, made from their commands and files and from the keys of the edges that make their inputs.
 use Rattle.std.specs.Prelude.{◌≡◌, ◌≢◌, ◌<◌, ◌^◌, ◌⊎◌, ℕ, Option, Some, None, unwrap_or, if◌then◌else◌, List, [], ◌∷◌, ◌++◌}
 use Rattle.std.specs.Prelude.{map, length, All, Contains, codes, decimal}
 use Rattle.std.specs.List.{flat_map, AllByRecursion}
@@ -13,7 +13,7 @@ use Rattle.nj_keys.specs.Bases.{mapped, HasNoZero}
 
 -- ---- the contents of a key
 
--- an input, with the key of the edge that makes it, which is empty where none does
+-- an input, with the key of the edge that makes it, which is empty for a source
 pub record InputFields : Type 0 where
   pub kind : Kind
   pub path : List ℕ
@@ -47,7 +47,7 @@ bars OrderOnly = codes "||"
 abbrev pub input_text : InputFields → List ℕ
 input_text input = field (bars input.kind) ++ field input.path ++ field input.key
 
--- all that a key is made of, as text
+-- all contents of a key, as text
 abbrev pub fields_text : Fields → List ℕ
 fields_text f =
     field f.command ++ field f.response_file ++ field f.response
@@ -55,7 +55,7 @@ fields_text f =
 
 -- ---- the fields of an edge
 
--- a variable of an edge; a phony edge has none
+-- a variable of an edge; a phony edge has no variables
 abbrev pub variable_of : List EdgePaths → List ReadStatement → (edge : ℕ) → (name : List ℕ) → List ℕ
 variable_of edges entries edge name = if (edge_at edges edge).is_phony then [] else late_text_of entries edge name
 
@@ -74,7 +74,7 @@ abbrev pub maker_key : (keys : ℕ → List ℕ) → (maker : Option ℕ) → Li
 maker_key keys (Some edge) = keys edge
 maker_key keys None = []
 
--- an input of this kind at a path
+-- an input of the given kind at a path
 abbrev pub input_fields : (folders : List (List ℕ)) → List EdgePaths → (keys : ℕ → List ℕ) → Kind → (path : List ℕ) → InputFields
 input_fields folders edges keys kind path = record { kind = kind; path = mapped folders path; key = maker_key keys (maker_of edges path) }
 
@@ -101,7 +101,7 @@ fields_of folders edges entries keys edge = record {
 abbrev pub input_makers : List EdgePaths → (edge : ℕ) → List (Option ℕ)
 input_makers edges edge = map (maker_of edges) (inputs_of (edge_at edges edge))
 
--- edge e needs edge f, which makes an input of it
+-- edge e needs edge f, which makes one of its inputs
 abbrev pub Needs : List EdgePaths → (e f : ℕ) → Type 0
 Needs edges e f = Contains (input_makers edges e) (Some f)
 
@@ -117,7 +117,7 @@ pub data IsKey (folders : List (List ℕ)) (edges : List EdgePaths) (entries : L
 abbrev pub line : List EdgePaths → (edge : ℕ) → (key : List ℕ) → List ℕ
 line edges edge key = encode_lower key ++ 32 ∷ unwrap_or (first_output (edge_at edges edge)) [] ++ 10 ∷ []
 
--- The text has a line for each of these edges, in their order, with its key.
+-- The text has a line for each of the given edges, in their order, with its key.
 pub data ListsKeys (folders : List (List ℕ)) (edges : List EdgePaths) (entries : List ReadStatement) :
     (numbers : List ℕ) → (text : List ℕ) → Type 0 where
   none : ListsKeys folders edges entries [] []
@@ -126,7 +126,7 @@ pub data ListsKeys (folders : List (List ℕ)) (edges : List EdgePaths) (entries
 
 -- ---- laws
 
--- each text and the number of outputs are below 2^64, as all are that memory holds
+-- the length of each text and the number of outputs are below 2^64, as for all that memory holds
 pub record AreShort (f : Fields) : Type 0 where
   pub command : length f.command < 2 ^ 64
   pub response_file : length f.response_file < 2 ^ 64
@@ -135,7 +135,8 @@ pub record AreShort (f : Fields) : Type 0 where
   pub outputs : AllByRecursion (λ path. length path < 2 ^ 64) f.outputs
   pub inputs : AllByRecursion (λ input. (length input.path < 2 ^ 64) × (length input.key < 2 ^ 64)) f.inputs
 
--- other fields have another text: their text tells each command, response file, output and input, with its kind and key
+-- different fields have different texts: the text determines each command, response file, output and input, with its kind and
+-- key
 abbrev pub TextsTellFields : Type 0
 TextsTellFields = (one other : Fields) → AreShort one → AreShort other → fields_text one ≡ fields_text other → one ≡ other
 
@@ -145,7 +146,7 @@ pub record StatedEdge : Type 0 where
   pub entries : List ReadStatement
   pub number : ℕ
 
--- its fields
+-- the fields of an edge
 abbrev pub fields_in : (folders : List (List ℕ)) → (keys : ℕ → List ℕ) → StatedEdge → Fields
 fields_in folders keys e = fields_of folders e.edges e.entries keys e.number
 
@@ -159,7 +160,7 @@ pub record EdgeTexts : Type 0 where
   pub implicit_inputs : List (List ℕ)
   pub order_only_inputs : List (List ℕ)
 
--- those of an edge
+-- the texts and the paths of an edge, from its statements
 abbrev pub texts_of : StatedEdge → EdgeTexts
 texts_of e = record {
   command = variable_of e.edges e.entries e.number (codes "command");
@@ -171,7 +172,7 @@ texts_of e = record {
   order_only_inputs = (edge_at e.edges e.number).order_only_inputs;
 }
 
--- with tokens in place of the directories that count
+-- the texts and the paths with tokens in place of the directories that count
 abbrev pub texts_mapped : (folders : List (List ℕ)) → EdgeTexts → EdgeTexts
 texts_mapped folders t = record {
   command = mapped folders t.command;
@@ -183,7 +184,7 @@ texts_mapped folders t = record {
   order_only_inputs = map (mapped folders) t.order_only_inputs;
 }
 
--- no zero byte stands in any of them
+-- no text or path of an edge has a zero byte
 pub record HaveNoZero (t : EdgeTexts) : Type 0 where
   pub command : HasNoZero t.command
   pub response_file : HasNoZero t.response_file
@@ -193,14 +194,14 @@ pub record HaveNoZero (t : EdgeTexts) : Type 0 where
   pub implicit_inputs : All HasNoZero t.implicit_inputs
   pub order_only_inputs : All HasNoZero t.order_only_inputs
 
--- edges whose fields have one text agree but for what tokens stand for, whatever graphs and directories they have
+-- edges whose fields have the same text agree except for what tokens stand for, whatever graphs and directories they have
 abbrev pub TextsTellMapped : Type 0
 TextsTellMapped = (folders others : List (List ℕ)) (e f : StatedEdge) (keys more : ℕ → List ℕ)
     → AreShort (fields_in folders keys e) → AreShort (fields_in others more f)
     → fields_text (fields_in folders keys e) ≡ fields_text (fields_in others more f)
     → texts_mapped folders (texts_of e) ≡ texts_mapped others (texts_of f)
 
--- with the same directories, their texts and paths are the same
+-- with the same directories, and without zero bytes, their texts and paths are the same
 abbrev pub TextsTellEdges : Type 0
 TextsTellEdges = (folders : List (List ℕ)) (e f : StatedEdge) (keys more : ℕ → List ℕ)
     → length folders < 2 ^ 64 → HaveNoZero (texts_of e) → HaveNoZero (texts_of f)
@@ -213,34 +214,34 @@ pub record AreFieldsOf (folders : List (List ℕ)) (e : StatedEdge) (fields : Fi
   pub are_keys : (f : ℕ) → Needs e.edges e.number f → IsKey folders e.edges e.entries f (keys f)
   pub fields_are : fields ≡ fields_in folders keys e
 
--- two different texts with one SHA-256
+-- two different texts with the same SHA-256
 pub record AreConfused (one other : List ℕ) : Type 0 where
   pub differ : one ≢ other
   pub same : sha256 one ≡ sha256 other
 
--- edges with one key have the same fields, unless SHA-256 confuses the texts of theirs
+-- edges with the same key have the same fields, unless SHA-256 confuses the texts of their fields
 abbrev pub KeysTellFields : Type 0
 KeysTellFields = (folders others : List (List ℕ)) (e f : StatedEdge) (key : List ℕ) (one other : Fields)
     → IsKey folders e.edges e.entries e.number key → IsKey others f.edges f.entries f.number key
     → AreFieldsOf folders e one → AreFieldsOf others f other → AreShort one → AreShort other
     → (one ≡ other) ⊎ AreConfused (fields_text one) (fields_text other)
 
--- an edge has one key only
+-- an edge has at most one key
 abbrev pub KeysAreUnique : Type 0
 KeysAreUnique = (folders : List (List ℕ)) (edges : List EdgePaths) (entries : List ReadStatement) (e : ℕ) (key other : List ℕ)
     → IsKey folders edges entries e key → IsKey folders edges entries e other → key ≡ other
 
--- each edge of a graph has one, and so has each that a walk visits
+-- each edge of a graph has a key, and so has each edge that a walk visits
 abbrev pub EdgesHaveKeys : Type 0
 EdgesHaveKeys = (folders : List (List ℕ)) (g : GraphModel) (entries : List ReadStatement) → IsGraphOf g entries
     → (e : ℕ) → e < length (edges_of g) → (key : List ℕ) × IsKey folders (edges_of g) entries e key
 
--- some edges have one text only
+-- a list of edges has only one text
 abbrev pub LinesAreUnique : Type 0
 LinesAreUnique = (folders : List (List ℕ)) (edges : List EdgePaths) (entries : List ReadStatement) (numbers text other : List ℕ)
     → ListsKeys folders edges entries numbers text → ListsKeys folders edges entries numbers other → text ≡ other
 
--- the texts of two pages, one after the other, are the text of both
+-- the texts of two pages, one after the other, are the text of the edges of both
 abbrev pub PagesOfLinesJoin : Type 0
 PagesOfLinesJoin = (folders : List (List ℕ)) (edges : List EdgePaths) (entries : List ReadStatement) (numbers more text rest : List ℕ)
     → ListsKeys folders edges entries numbers text → ListsKeys folders edges entries more rest

@@ -12,7 +12,7 @@ use Rattle.nj_graph.specs.Graph.{edges_of, files_of, IsGraphOf}
 use Rattle.nj_graph.specs.Handles.{commands_needed, edges_in, GraphFiles}
 use Rattle.nj_keys.specs.Keys.{ListsKeys}
 
--- the edges that make the files, one for each; a source has none
+-- the edges that make the files, one for each file; `None` for a source
 abbrev pub makers_of_files : GraphFiles → List (Option ℕ)
 makers_of_files files = row_of_paths (edges_of files.graph) files.paths
 
@@ -26,7 +26,7 @@ left_at files mark =
     let g = files.graph.built.graph in
     rest (makers_of g) (count_of g) (is_phony g) (makers_of_files files) mark
 
--- a walk to the files that has these left, since it has returned none
+-- a walk to the files that begins after a mark
 pub record BeginsAfter (files : GraphFiles) (mark : List ℕ) (walk : WalkState) : Type 0 where
   pub numbers : List FileNo
   pub are_files : map (path_at (files_of files.graph)) numbers ≡ files.paths
@@ -34,25 +34,27 @@ pub record BeginsAfter (files : GraphFiles) (mark : List ℕ) (walk : WalkState)
 
 -- ---- laws
 
--- what is left at the mark at which a page stopped; nothing is if it stopped at none
+-- what is left at the mark at which a page stopped; nothing is left if it stopped without a mark
 abbrev pub left_from : GraphFiles → (mark : Option (List ℕ)) → List ℕ
 left_from files None = []
 left_from files (Some mark) = left_at files mark
 
--- a page from a mark on, which stopped at another
+-- a page from a mark on, and the mark at which it stopped, if any
 pub record StopsFrom (files : GraphFiles) (mark : List ℕ) (limit : Option ℕ) (next : Option (List ℕ)) : Type 0 where
   pub valid : leads files mark ≡ true
   pub walk : WalkState
   pub begins : BeginsAfter files mark walk
   pub stops : StopsAt walk limit next
 
--- a page's edges, and then those that are left where it stopped, are all that were left before it; and a page can begin there
+-- the edges of a page, and then the edges left where it stopped, are all edges that were left before it; and a page can begin
+-- there
 abbrev pub PagesLeaveTheRest : Type 0
 PagesLeaveTheRest = (files : GraphFiles) (entries : List ReadStatement) → IsGraphOf files.graph entries
     → (mark : List ℕ) (limit : Option ℕ) (next : Option (List ℕ)) → StopsFrom files mark limit next
     → IfSome next (λ m. leads files m ≡ true) × (left_at files mark ≡ written limit (left_at files mark) ++ left_from files next)
 
--- The texts of pages with any limits: each page begins at the mark where the one before stopped, and the last stops at none.
+-- The texts of pages with any limits: each page begins at the mark where the page before stopped, and the last page stops
+-- without a mark.
 pub data ArePages (folders : List (List ℕ)) (files : GraphFiles) (entries : List ReadStatement) :
     (mark : Option (List ℕ)) → (texts : List (List ℕ)) → Type 0 where
   none : ArePages folders files entries None []
@@ -60,12 +62,12 @@ pub data ArePages (folders : List (List ℕ)) (files : GraphFiles) (entries : Li
       → ListsKeys folders (edges_of files.graph) entries (written limit (left_at files mark)) text
       → ArePages folders files entries next texts → ArePages folders files entries (Some mark) (text ∷ texts)
 
--- so their texts, one after another, are the text of all that was left at the first mark
+-- so the texts of pages, one after another, are the text of all edges that were left at the first mark
 abbrev pub PagesAreAll : Type 0
 PagesAreAll = (folders : List (List ℕ)) (files : GraphFiles) (entries : List ReadStatement) → IsGraphOf files.graph entries
     → (mark : List ℕ) (texts : List (List ℕ)) → ArePages folders files entries (Some mark) texts
     → ListsKeys folders (edges_of files.graph) entries (left_at files mark) (concat texts)
 
--- and before the first page, with the empty mark, that is every command that the files need
+-- and at the empty mark, before the first page, every command that the files need is left
 abbrev pub StartLeavesAll : Type 0
 StartLeavesAll = (files : GraphFiles) → edges_in files.graph (left_at files []) ≡ commands_needed files

@@ -8,11 +8,11 @@ use nj_text::{TextFault, clean_path};
 use std::alloc::{AllocError, Global};
 use std::marker::Model;
 
-/// Directories by their clean absolute paths, numbered from 0. In a text a zero byte, which no
-/// manifest holds, and the number stand for the path of a directory where this counts: where no `/`
-/// stands between it and the last blank, quote, `=`, `:` or `,` before it, and where `/`, no byte
-/// of a path or the end follows. Of several the longest counts. So texts of builds that lie in
-/// different directories agree.
+/// Directories by their clean absolute paths, numbered from 0. In a text a zero byte, which a
+/// manifest does not contain, and the number stand for the path of a directory where the directory
+/// counts: where no `/` stands between it and the last blank, quote, `=`, `:` or `,` before it, and
+/// where `/`, a byte that is not part of a path, or the end follows. Of several directories the
+/// longest counts. So texts of builds that lie in different directories agree.
 #[derive(Drop)]
 pub struct Bases {
     folders: Vec<Vec<u8>>,
@@ -28,7 +28,7 @@ impl Model for Bases {
 }
 
 impl Bases {
-    /// No directories.
+    /// Returns bases without directories.
     pub fn new(alloc: Global) -> Bases
         ensures { result ≡ [] }
     {
@@ -103,14 +103,15 @@ fn append_mapped(folders: &[Vec<u8>], out: &mut Vec<u8>, text: &[u8]) -> Result<
     Ok(())
 }
 
-// Whether a path may begin after a byte, where it may or may not before.
+// Whether a path may begin after a byte, given whether it may begin before the byte.
 fn may_begin_after(may_begin: bool, byte: u8) -> bool
     ensures { result ≡ may_begin_after may_begin byte }
 {
     is_separator(byte) || (may_begin && byte != b'/')
 }
 
-// The length of the directory that counts at the front of a text; 0 if none does.
+// Returns the length of the directory that counts at the front of a text, or 0 if no directory
+// does.
 fn counted(folders: &[Vec<u8>], may_begin: bool, text: &[u8]) -> usize
     ensures longest { result ≡ (if may_begin then longest_at (paths folders.now) text.now else 0) }
     ensures fits { result ≤ length text.now }
@@ -122,7 +123,8 @@ fn counted(folders: &[Vec<u8>], may_begin: bool, text: &[u8]) -> usize
     }
 }
 
-// The length of the longest directory that stands at the front of a text; 0 if none does.
+// Returns the length of the longest directory at the front of a text, or 0 if no directory is
+// there.
 fn longest_at(folders: &[Vec<u8>], text: &[u8]) -> usize
     ensures longest { result ≡ longest_at (paths folders.now) text.now }
     ensures fits { result ≤ length text.now }
@@ -162,7 +164,7 @@ fn is_path_byte(byte: u8) -> bool
     !is_separator(byte) && !matches!(byte, b'&' | b'(' | b')' | b';' | b'<' | b'>' | b'|')
 }
 
-// Whether a path may begin after a byte, whatever is before it.
+// Whether a path may begin after a byte, whatever is before the byte.
 fn is_separator(byte: u8) -> bool
     ensures { result ≡ is_separator byte }
 {
@@ -176,8 +178,8 @@ fn is_quote(byte: u8) -> bool
     matches!(byte, b'"' | b'\'')
 }
 
-// Appends the text that stands for the front of a text: the token of a directory of this length, or
-// the first byte if the length is 0.
+// Appends the text that stands for the front of a text: the token of a directory of the given
+// length, or the first byte if the length is 0.
 fn append_front(
     folders: &[Vec<u8>],
     out: &mut Vec<u8>,
@@ -198,7 +200,7 @@ fn append_front(
     }
 }
 
-// The number of the first directory at this path; 0 if there is none.
+// Returns the number of the first directory at the given path, or 0 if no directory has the path.
 fn number_of(folders: &[Vec<u8>], path: &[u8]) -> usize
     ensures { result ≡ unwrap_or (position (bytes_eq path.now) (paths folders.now)) 0 }
 {

@@ -11,7 +11,7 @@ use std::alloc::{AllocError, Global};
 // The key of an edge.
 pub(crate) type Key = [u8; 32];
 
-/// The text of the fields of an edge, where the keys of the edges that make its inputs are kept.
+/// Returns the text of the fields of an edge. The keys of the edges that make its inputs are kept.
 pub(crate) fn fields_text(
     alloc: Global,
     edge: Edge<'_>,
@@ -57,7 +57,7 @@ fn push_response(text: &mut Vec<u8>, edge: Edge<'_>, bases: &Bases) -> Result<()
     push_mapped(text, bases, &content)
 }
 
-// The value of a variable of an edge; a phony edge has none.
+// Returns the value of a variable of an edge; it is empty for a phony edge.
 fn variable_of(alloc: Global, edge: Edge<'_>, name: &[u8]) -> Result<Vec<u8>, AllocError>
     ensures { OfEdge (edge_of edge.entry) (λ entries number. IfOk result (λ text. text.items
         ≡ variable_of (edges_of (edge_of edge.entry).graph) entries number name.now)) }
@@ -105,7 +105,7 @@ fn push_inputs(
     push_files(text, Kind::OrderOnly, edge.order_only_inputs(), bases, keys)
 }
 
-// Appends inputs of a kind: of each the kind, its path and the key of the edge that makes it.
+// Appends inputs of a kind: for each its kind, its path and the key of the edge that makes it.
 fn push_files(
     text: &mut Vec<u8>,
     kind: Kind,
@@ -124,7 +124,7 @@ fn push_files(
     Ok(())
 }
 
-// The sign before the inputs of a kind in a manifest.
+// Returns the sign before the inputs of a kind in a manifest.
 fn bars(kind: Kind) -> &'static [u8]
     ensures { result.now ≡ bars kind }
 {
@@ -162,7 +162,7 @@ fn push_number(text: &mut Vec<u8>, count: usize) -> Result<(), AllocError>
     Ok(())
 }
 
-// The key that is kept of the edge that makes a file; empty if there is none.
+// Returns the kept key of the edge that makes a file; it is empty if no key is kept.
 fn maker_key<'a>(keys: &'a [Option<Key>], file: File<'_>) -> &'a [u8]
     ensures { result.now ≡ maker_key (kept_key keys.now)
         (maker_of (edges_of (file_of file.entry).graph) (file_of file.entry).path) }
@@ -173,7 +173,7 @@ fn maker_key<'a>(keys: &'a [Option<Key>], file: File<'_>) -> &'a [u8]
     }
 }
 
-// The key that is kept of an edge; empty if none is.
+// Returns the kept key of an edge; it is empty if no key is kept.
 pub(crate) fn kept_key<'a>(keys: &'a [Option<Key>], edge: EdgeNo) -> &'a [u8]
     ensures { result.now ≡ kept_key keys.now edge.0 }
 {

@@ -1,4 +1,4 @@
-//! The keys of edges, each from those of the edges that make its inputs.
+//! The keys of edges, each from the keys of the edges that make its inputs.
 
 ghost use Rattle.std.specs.Prelude.{◌≡◌, ℕ, IfNone, IfOk, IfSome, OnOk, Some, length};
 ghost use Rattle.nj_keys.specs.Cited.{edges_of, GraphEdge, OfEdge, edge_of, file_of, IsKey, Needs, inputs_in, made_by, IsAcyclic, IsKept, IsMissing, KeepsKeys, MakesOne};
@@ -9,14 +9,14 @@ use nj_graph::{Edge, File, Files};
 use sha2::{Digest, Sha256};
 use std::alloc::{AllocError, Global};
 
-// An edge without a key, and those of its inputs whose makers may have none.
+// An edge without a key, and the inputs whose makers may lack a key.
 #[derive(Drop)]
 struct Frame<'g> {
     edge: Edge<'g>,
     inputs: Files<'g>,
 }
 
-// Keeps the key of an edge, after the missing ones of all edges that it needs. `keys` has a place
+// Keeps the key of an edge, after the missing keys of all edges that it needs. `keys` has a place
 // for each edge.
 pub(crate) fn keep_key(
     alloc: Global,
@@ -50,7 +50,7 @@ pub(crate) fn keep_key(
     Ok(())
 }
 
-// An edge with all its inputs.
+// Returns an edge with all its inputs.
 fn opened(edge: Edge<'_>) -> Frame<'_>
     ensures edge { edge_of result.edge ≡ edge_of edge.entry }
     ensures inputs { result.inputs ≡ inputs_in (edge_of edge.entry) }
@@ -61,7 +61,8 @@ fn opened(edge: Edge<'_>) -> Frame<'_>
     }
 }
 
-// The first of the edges that make these files which has no key; its file becomes the first one.
+// Returns the first maker of the given files that lacks a key, if any; its file becomes the first
+// file.
 fn missing_maker<'g>(files: &mut Files<'g>, keys: &[Option<Key>]) -> Option<Edge<'g>>
     ensures found { IfSome result (λ maker. MakesOne files.old (edge_of maker)) }
     ensures missing { IfSome result (λ maker. IsMissing keys.now (edge_of maker).number) }
@@ -80,7 +81,7 @@ fn missing_maker<'g>(files: &mut Files<'g>, keys: &[Option<Key>]) -> Option<Edge
     None
 }
 
-// The edge that makes a file, if it has no key.
+// Returns the edge that makes a file, if the edge lacks a key.
 fn maker_without_key<'g>(file: File<'g>, keys: &[Option<Key>]) -> Option<Edge<'g>>
     ensures maker { IfSome result (λ maker. made_by (file_of file.entry) ≡ Some (edge_of maker)) }
     ensures missing { IfSome result (λ maker. IsMissing keys.now (edge_of maker).number) }
@@ -94,7 +95,7 @@ fn maker_without_key<'g>(file: File<'g>, keys: &[Option<Key>]) -> Option<Edge<'g
     }
 }
 
-// The key of an edge. Those of the edges that make its inputs are kept.
+// Returns the key of an edge. The keys of the edges that make its inputs are kept.
 fn key_of(
     alloc: Global,
     edge: Edge<'_>,

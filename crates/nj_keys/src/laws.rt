@@ -2,23 +2,23 @@
 
 ghost use Rattle.nj_keys.specs.Cited.{EdgesHaveKeys, KeysAreUnique, LinesAreUnique, PagesOfLinesJoin, TextsTellFields, MappedTells, TextsTellEdges, TextsTellMapped, KeysTellFields, PagesAreAll, PagesLeaveTheRest, StartLeavesAll};
 
-/// Bases lose nothing: texts that agree once numbers stand for the same directories are the same, if
-/// no zero byte stands in them.
+/// Bases lose nothing: two texts without a zero byte are the same if they agree once numbers stand
+/// for the same directories.
 pub fn bases_law()
     ensures { MappedTells }
 {}
 
-/// Edges with other fields have keys of other texts: the text of an edge's fields tells its command,
-/// its response file, its outputs and its inputs, with their kinds and the keys of the edges that
-/// make them, in their order.
+/// Edges with different fields have keys of different texts: the text of an edge's fields
+/// determines its command, its response file, its outputs and its inputs, with their kinds and the
+/// keys of the edges that make them, in their order.
 pub fn fields_law()
     ensures { TextsTellFields }
 {}
 
-/// Two edges whose fields have one text, of two graphs and with bases of their own, have the same
-/// command, response file, outputs and inputs but for what their bases stand for; with the same
-/// bases, and where no zero byte stands in them, they have the same ones. Two edges with one key
-/// have the same fields, unless SHA-256 gives the two texts of these one digest. The keys of the
+/// Two edges whose fields have the same text, of two graphs and with bases of their own, have the
+/// same command, response file, outputs and inputs except for what their bases stand for; with the
+/// same bases and without zero bytes, all of them are the same. Two edges with the same key have
+/// the same fields, unless SHA-256 gives the texts of their fields the same digest. The keys of the
 /// edges that make the inputs are among the fields, so this is true of those edges too.
 pub fn edges_law()
     ensures agree { TextsTellMapped }
@@ -26,22 +26,23 @@ pub fn edges_law()
     ensures keys { KeysTellFields }
 {}
 
-/// An edge has one key only, and each edge of a graph has one.
+/// An edge has at most one key, and each edge of a graph has a key.
 pub fn keys_law()
     ensures unique { KeysAreUnique }
     ensures all { EdgesHaveKeys }
 {}
 
-/// Some edges have one text only, and the texts of pages, one after another, are the text of all.
+/// A list of edges has only one text, and the texts of pages, one after another, are the text of
+/// all their edges.
 pub fn lines_law()
     ensures unique { LinesAreUnique }
     ensures join { PagesOfLinesJoin }
 {}
 
-/// The edges of a page, and then those that are left at its mark, are those that were left before
-/// it. So the lines of pages, each from the mark of the one before until one has none, are together
-/// the lines of all that was left at the first mark; at the start that is every command that the
-/// files need.
+/// The edges of a page, and then the edges that are left at its mark, are the edges that were left
+/// before it. So the lines of pages, each from the mark of the page before until a page has no
+/// mark, are together the lines of all edges that were left at the first mark; at the start, every
+/// command that the files need is left.
 pub fn pages_law()
     ensures rest { PagesLeaveTheRest }
     ensures all { PagesAreAll }

@@ -10,21 +10,21 @@ use nj_graph::{Edge, FileList, Graph};
 use nj_needs::{Mark, MarkFault, Needs};
 use std::alloc::{AllocError, Global};
 
-/// Lines of commands, and the mark at which the rest can be had, if any are left.
+/// Lines of commands, and the mark at which the rest begins, if any lines are left.
 #[derive(Drop)]
 pub struct Page {
     pub lines: Vec<u8>,
     pub mark: Option<Mark>,
 }
 
-/// The lines of the commands that the targets need, from a mark on; at most `take` of them if there
-/// is a limit. A line is the key of an edge in hexadecimal digits, a space and its first output. In
-/// the contents of a key a number stands for each base.
+/// Returns the lines of the commands that the targets need, from a mark on: at most `take` lines,
+/// if that is a limit. A line is the key of an edge in hexadecimal digits, a space and its first
+/// output. In the contents of a key a number stands for each base.
 ///
 /// # Errors
 ///
-/// `MarkOutOfRange` if the mark leads to no edge at some step, and `OutOfMemory` if an allocation
-/// failed.
+/// `MarkOutOfRange` if a step of the mark does not lead to an edge, and `OutOfMemory` if an
+/// allocation failed.
 pub fn page_from(
     alloc: Global,
     bases: &Bases,
@@ -47,7 +47,7 @@ pub fn page_from(
     Ok(page)
 }
 
-// The lines of the commands that are left to a walk over this graph.
+// Returns the lines of the commands that are left to a walk over the given graph.
 fn next_page(
     alloc: Global,
     graph: &Graph,
@@ -74,7 +74,7 @@ fn next_page(
     Ok(Page { lines, mark })
 }
 
-// Appends the line of an edge, with the key that is kept of it.
+// Appends the line of an edge, with its kept key.
 fn push_line(lines: &mut Vec<u8>, edge: Edge<'_>, keys: &[Option<Key>]) -> Result<(), AllocError>
     ensures { OnOk result (lines.new.items ≡ lines.old.items
         ++ line (edges_of (edge_of edge.entry).graph) (edge_of edge.entry).number
@@ -88,7 +88,7 @@ fn push_line(lines: &mut Vec<u8>, edge: Edge<'_>, keys: &[Option<Key>]) -> Resul
     Ok(())
 }
 
-// The path of the first output of an edge; empty if it has none.
+// Returns the path of the first output of an edge; it is empty if the edge has no output.
 fn first_output(edge: Edge<'_>) -> &[u8]
     ensures { result.now ≡ unwrap_or (first_output (paths_of (edge_of edge.entry))) [] }
 {

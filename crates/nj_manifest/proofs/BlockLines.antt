@@ -79,7 +79,7 @@ begun-kind : (allowed : Keys) (limit : ℕ) (k : Kind) (l : Line) (ls : List Lin
     → Begins allowed limit (block_by allowed k l ls (block allowed ls)) (begun_by k l ls)
 begun-kind allowed limit k l ls e h g = grind arith
 
--- a comment gives nothing
+-- a comment adds nothing
 block-comment : (allowed : Keys) (k : Kind) (l : Line) (ls : List Line) (others : Parse (List LineModel))
     → is_comment k ≡ true → block_by allowed k l ls others
     ≡ or_last l (no_lines (lines_after l (without_comments ls))) others
@@ -127,7 +127,7 @@ block-after allowed l ls = grind arith
 abbrev pub in_front : List LineModel → Parse (List LineModel) → Parse (List LineModel)
 in_front front others = others >>= λ o. Ok (front ++ o.0, o.1)
 
--- The lines read, in front of those that are still to be read, are the whole.
+-- The lines read, in front of the lines that are still to be read, are the whole.
 abbrev pub StillReads : Keys → (front : List LineModel) → (before now : State) → Type 0
 StillReads allowed front (Between ls) now =
     (ms : List Line) × (now ≡ Between ms) × (in_front front (block allowed ms) ≡ block allowed ls)

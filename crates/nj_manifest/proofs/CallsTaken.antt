@@ -43,7 +43,7 @@ pub fails-so : {Y : Type 0} (f : ParseFault) (whole : Result Y Fault) → whole 
     → Fails f whole
 fails-so f whole h = grind arith
 
--- a call that is made where another one took nothing
+-- a call that is made where another call took nothing
 pub made-there : {Y : Type 0} (call : State → Reply Y) (before there : State) (step : Step Y) → there ≡ before
     → called (call there) ≡ step → called (call before) ≡ step
 made-there call before there step e h = ap (λ s. called (call s)) (sym e) ∙ h

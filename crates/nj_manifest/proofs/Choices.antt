@@ -24,7 +24,7 @@ named wanted spot found after = ok_or found (Placed spot (cause.Expected wanted)
 abbrev pub if_there : Wanted → Bool → State → Result State Fault
 if_there wanted there after = cond there (Ok after) (Err (Placed (spot_of after) (cause.Expected wanted)))
 
--- a word before those that follow it; none ends them
+-- a word before the words that follow it; `None` ends them
 abbrev pub words_from : Option WordModel → State → Step (List WordModel) → Step (List WordModel)
 words_from word after others = option_map_or (λ first. others >>= λ more. Ok (first ∷ more.0, more.1)) word
     (Ok ([], after))

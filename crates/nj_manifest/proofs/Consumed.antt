@@ -1,4 +1,4 @@
--- Each statement takes a line at least, and a text has no more lines than bytes.
+-- Each statement takes at least a line, and a text has at most as many lines as bytes.
 use Rattle.std.proofs.Common.{◌≡◌, ℕ, zero, suc, ◌<◌, ◌≤◌, Bool, false, Option, Some}
 use Rattle.std.proofs.Common.{Result, Ok, List, [], ◌∷◌, length, take, refl, sym, ap, subst, ◌∙◌, arith}
 use Rattle.nj_text.specs.declared.spot.Spot.{Spot}
@@ -49,7 +49,7 @@ plain-units l h = grind arith
 
 -- ---- a block
 
--- a reading of lines, without its value, leaves no more of them
+-- a reading of lines, without its value, does not leave more lines
 abbrev Within : {A : Type 0} → List Line → Parse A → Type 0
 Within {A} ls reading = (x : A) (rest : List Line) → reading ≡ Ok (x, rest) → ahead rest ≤ ahead ls
 
@@ -117,7 +117,7 @@ kind-takes : (k : Kind) (l : Line) (ls : List Line) → kind_of l ≡ k → Take
     → Takes (l ∷ ls) (next_by k l ls (next_statement ls))
 kind-takes k l ls e ih = grind (arith, last-takes, statement-takes)
 
--- A statement takes a line at least.
+-- A statement takes at least a line.
 pub statement_takes : (ls : List Line) (s : PlacedModel) (rest : List Line)
     → next_statement ls ≡ Ok (Some s, rest) → ahead rest < ahead ls
 statement_takes [] = λ s rest h. no_statement [] s rest (sym next-nothing ∙ h)
@@ -143,6 +143,6 @@ cut-lines position zero spot (b ∷ bs) =
     omega arith
 cut-lines position (suc skip) spot (b ∷ bs) = grind (arith, cut-lines position skip (spot_after b spot) bs)
 
--- A text has no more lines with units than bytes.
+-- A text has at most as many lines with units as bytes.
 pub text_has_bytes : (text : List ℕ) → ahead (text_lines text) ≤ length text
 text_has_bytes text = cut-lines _ 0 _ text

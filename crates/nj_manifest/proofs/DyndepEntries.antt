@@ -85,7 +85,7 @@ unfolding word_of_form
 word_of_form-read word want l ls us rest f =
     rw (name-read want l ls us rest _ f.here, (bytes_eq-Decides word word).1 refl) refl
 
--- ---- sections that no entry has
+-- ---- sections that entries do not have
 
 no_section-form : (want : Sign) (l : Line) (ls : List Line) (us : List TextUnit) (s s' : State)
     → s ≡ within l ls (skip us) → no_section want s ≡ Ok s' → s' ≡ within l ls (skip us)

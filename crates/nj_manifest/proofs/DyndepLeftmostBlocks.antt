@@ -122,9 +122,9 @@ module _ (k : State → Result State Fault) where
 
 -- ---- where the block of some lines fails
 
--- From this front the block continues with these bytes and is whole; or it is whole where the line has no
--- more than the
--- spaces with which it begins.
+-- From this front the block continues with the given bytes and is whole; or it is whole if the line has only
+-- the spaces
+-- with which it begins.
 pub data BlockContinues (k : State → Result State Fault) (before : List Line) (begun : List TextUnit)
     (fault : Fault) : Type 0 where
   with_text : (bytes : List ℕ) (plain : are_plain bytes ≡ true) (offered : offers fault bytes ≡ true)
@@ -135,7 +135,7 @@ pub data BlockContinues (k : State → Result State Fault) (before : List Line) 
       (some : in_lines k (continues before spaces (written []) []) ≡ Ok end)
       → BlockContinues k before begun fault
 
--- No element like this one helps there.
+-- No element like the given one helps there.
 pub record LinesStuck (k : State → Result State Fault) (ls : List Line) (fault : Fault) : Type 0 where
   pub before : List Line
   pub begun : List TextUnit
@@ -161,7 +161,7 @@ goes_after k j l before begun fault same (with_text bytes plain offered end some
 goes_after k j l before begun fault same (with_end spaces gap cut of_spaces of_blanks end some) =
     with_end spaces gap cut of_spaces of_blanks end (same (continues before spaces (written []) []) ∙ some)
 
--- after a line that gives nothing, or is read, and is not the last
+-- after a line that adds nothing, or is read, and is not the last
 lines_after_one : (k j : State → Result State Fault) (l : Line) (ls : List Line) (fault : Fault)
     → ((ms : List Line) → in_lines j (l ∷ ms) ≡ in_lines k ms) → LinesStuck k ls fault
     → LinesStuck j (l ∷ ls) fault

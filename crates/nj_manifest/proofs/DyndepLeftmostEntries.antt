@@ -248,7 +248,7 @@ tab_leftmost l ls tab k =
     (λ m ms same. (by_kind_entry (with_units (spaces_of l.units ++ m.units) m) ms (TabLine tab)
     (kind_replaced l.units m.units (element-front m.units (after_spaces l.units) same) ∙ k)))
 
--- an indented line whose units after its spaces these are
+-- an indented line with the given units after its spaces
 abbrev unexpected_at : Line → Parse (Option EntryModel)
 unexpected_at l = Err (Placed (record { line = (line_spot l).line; column = 1 }) cause.UnexpectedIndent)
 
@@ -263,7 +263,7 @@ indented_leftmost l ls k =
     ∙ ap (λ (y : List TextUnit). unexpected_at (with_units y m))
     (unspaced (spaces_of l.units) m.units (spaces_pass l.units) (no_space_same l.units m.units sees)))
 
--- after a line that gives nothing, and is not the last
+-- after a line that adds nothing, and is not the last
 goes_after : (l : Line) (before : List Line) (begun : List TextUnit) (fault : Fault)
     → ((ms : List Line) → next_entry (l ∷ ms) ≡ next_entry ms)
     → SomeEntry before begun fault ⊎ LineTooMany before begun

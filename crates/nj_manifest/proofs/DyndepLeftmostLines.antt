@@ -39,7 +39,7 @@ Seen (Err f) us = are_apart us ≡ true
 abbrev pub EntryPlain : Claim EntryModel
 EntryPlain x e ms r = (kind_units x ≡ PlainLine) × (Seen r x → entry_line (at x e ms) ≡ reported r)
 
--- There is no path here, whatever becomes of one that is.
+-- There is no path here, whatever becomes of a path that is here.
 module _ (k : State → Step EntryModel) (g : Bool × State → Step EntryModel)
     (so : (s : State) → k s ≡ (path_step s >>= g)) (begun x : List TextUnit) (d : Line) (ms : List Line)
     (meant : EntryPlain (begun ++ x) d ms (k (at x d ms))) where

@@ -147,7 +147,7 @@ path-reported : {B : Type 0} (s : State) (f g : State → Result B Fault) → ((
 unfolding no_path
 path-reported {B = B} s f g h = search rules
 
--- no section with this sign
+-- no section with the given sign
 abbrev pub unbarred : Spot → Bool × State → Step Bool
 unbarred spot there = unless_missing (not there.0) (marked spot) (Ok (true, there.1))
 

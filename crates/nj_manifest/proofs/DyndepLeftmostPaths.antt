@@ -57,7 +57,7 @@ apart_dropped : (p : TextUnit → Bool) (us : List TextUnit) → are_apart us �
 apart_dropped p [] h = h
 apart_dropped p (u ∷ us) h = grind (arith, apart_dropped p us (apart_tail u us h), apart_tail u us h)
 
--- The first of the units that are left is not at the place of this one.
+-- The first of the units that are left is not at the given place.
 elsewhere : (p : TextUnit → Bool) (spot end : Spot) (us : List TextUnit)
     → list_all (λ v. not (is_same_spot v.spot spot)) us ≡ true → is_empty (drop_while p us) ≡ false
     → is_same_spot (spot_of_first (drop_while p us) end) spot ≡ false
@@ -82,7 +82,7 @@ clear_by None false spot s = Ok (true, s)
 abbrev clear_at : List TextUnit → Line → List Line → Step Bool
 clear_at us e ms = clear_by (next_fault us) (begins_with opens_word us) (spot_of_first us e.end) (at us e ms)
 
--- No path may come here, whatever becomes of one that does.
+-- No path may come here, whatever becomes of a path that does.
 abbrev pub clear_step : State → Step Bool
 clear_step (Between ls) = Ok (true, Between ls)
 clear_step (Inside l ls) = clear_at (skip l.units) l ls
@@ -166,12 +166,12 @@ word_again : (us : List TextUnit) (e : Line) (ms : List Line)
     → path_step (at us e ms) ≡ path_here (skip us) e ms
 word_again us e ms = grind (arith, path_by, skip, skip_again)
 
--- Among units that are apart, both give the same.
+-- Among units that are apart, both have the same result.
 pub path_is_clear : (us : List TextUnit) (e : Line) (ms : List Line) → are_apart us ≡ true
     → path_step (at us e ms) ≡ clear_step (at us e ms)
 path_is_clear us e ms a = word_again us e ms ∙ path_cleared (skip us) e ms (apart_dropped is_blank us a)
 
--- Where there is no path, both report it, whether or not the units are apart.
+-- If there is no path, both report it, whether or not the units are apart.
 pub path_is_passed : (us : List TextUnit) (e : Line) (ms : List Line) (y : Bool × State)
     → clear_step (at us e ms) ≡ Ok y → path_step (at us e ms) ≡ Ok y
 path_is_passed us e ms y h = grind (arith, word_again, skip)
@@ -352,7 +352,7 @@ module _ {B : Type 0} {P : Claim B} {whole : List TextUnit} (e : Line) where
       by_fault (Some bad) f = stuck_at (bad_unit bad) (bad-offers bad) (bad_there us e bad f)
       by_fault None f = by_word (begins_with opens_word (skip us)) refl f
 
-  -- No section begins_with here with this sign.
+  -- No section begins here with the given sign.
   pub bar_turn : {us : List TextUnit} (want : Sign) → IsMark want → is_sign want [] ≡ false
       → (k : State → Step B) (g : Bool × State → Step B) → ((s : State) → k s ≡ (bar_step want s >>= g))
       → Along P whole k after_words us → settled us ≡ true

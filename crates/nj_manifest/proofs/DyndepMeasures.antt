@@ -1,4 +1,4 @@
--- Each entry of a dyndep file takes a line at least, and so does the version.
+-- Each entry of a dyndep file takes at least a line, and so does the version.
 use Rattle.std.proofs.Common.{◌≡◌, ℕ, suc, ◌<◌, ◌≤◌, Bool, true, false, cond, Option, Some, Ok, List}
 use Rattle.std.proofs.Common.{[], ◌∷◌, length, refl, ap, arith}
 use Rattle.nj_text.specs.Lines.{Line, text_lines, lines_after, Kind, CommentLine, TabLine}
@@ -51,7 +51,7 @@ form-takes (NextEntryForm.blank {l = l} {ls = ls} k e others) = let one = one_mo
 form-takes (NextEntryForm.comment {l = l} {ls = ls} k e others) = let one = one_more l ls e in let more =
     form-takes others in omega (arith, one, more)
 
--- An entry takes a line at least.
+-- An entry takes at least a line.
 pub entry-takes : (ls : List Line) (entry : EntryModel) (rest : List Line)
     → next_entry ls ≡ Ok (Some entry, rest) → ahead rest < ahead ls
 entry-takes ls entry rest h = form-takes ((next_entries_are ls (Some entry) rest).0 h)
@@ -101,7 +101,7 @@ pub version-takes : (ls rest : List Line) → version_next ls ≡ Ok rest → ah
 unfolding version_next
 version-takes ls rest h = grind (arith, bind-ok, ahead, opening-begins, oks, version-ends, fewer)
 
--- So does the next entry that a parser of these reads.
+-- So does the next entry that a parser reads from the lines.
 pub left_entry-takes : (version_read : Bool) (ls : List Line) (entry : EntryModel) (rest : List Line)
     → left_entry version_read ls ≡ Ok (Some entry, rest) → ahead rest < ahead ls
 left_entry-takes version_read ls entry rest h = grind (arith, entry-takes, bind-ok, version-takes)

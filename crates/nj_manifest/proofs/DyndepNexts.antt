@@ -75,7 +75,7 @@ begins : (ls : List Line) (x : LineStart) (m : State) → called (start_line_of 
     → Begins keys.All (lines_weight ls) (block keys.All ls) (Ok (x, m))
 begins ls x m h = start-begins keys.All ls (Ok (x, m)) (called-ok (start_line_of (Between ls)) x m h)
 
--- a line, and those that follow it
+-- a line, and the lines that follow it
 one_line : (ls : List Line) (l : Line) (others : List Line) (m t : State) (line : LineModel)
     (more : List LineModel × List Line) → m ≡ Inside (without_spaces l) others
     → block keys.All ls ≡ block_by keys.All IndentedLine l others (block keys.All others)
@@ -157,7 +157,7 @@ record Quiet (ls rest : List Line) : Type 0 where
   pub stays : (bound : Bool) (k : State → Step Bool) → if_indented bound begun after k ≡ Ok (bound, after)
   pub left : lines_from after ≡ rest
 
--- where it has one
+-- the start of a line where a block has a line
 record Spoken (ls rest : List Line) (line : LineModel) : Type 0 where
   pub after : State
   pub first : Line

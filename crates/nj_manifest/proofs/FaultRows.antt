@@ -128,7 +128,7 @@ command_after_block : refuses (codes "rule r\n\n  command = x") (Placed (at 1 1)
 unfolding on_strings
 command_after_block = refl
 
--- the last line of a key counts
+-- the last line of a key wins
 emptied_command : refuses (codes "rule r\n  command = x\n  command =") (Placed (at 1 1) cause.MissingCommand)
 unfolding on_strings
 emptied_command = refl

@@ -101,7 +101,7 @@ pipe_row = record {
   longest = refl;
 }
 
--- an empty section is one
+-- an empty section is a section
 build_row : BuildForm (units_at 1 (codes "build a: r |")) outputs rule inputs
 build_row =
     record {
@@ -142,7 +142,7 @@ statement_row = NextForm.statement refl (HeadForm.build build_row)
 abbrev HasNoForm : List ℕ → Type 0
 HasNoForm text = (found : Option PlacedModel) (rest : List Line) → NextForm (text_lines text) found rest → ⊥
 
--- the fault that is read of it
+-- the fault that its reading reports
 refused : (text : List ℕ) (fault : Fault) → first_of text ≡ Err fault → HasNoForm text
 refused text fault h found rest f = absurd (ok_is_err (sym (ap item_of (next-read f)) ∙ h))
   where

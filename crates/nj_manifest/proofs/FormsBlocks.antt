@@ -109,7 +109,7 @@ line-read allowed l ls us line f =
 
 -- ---- blocks
 
--- a reading that gives a value and lines
+-- a reading that returns a value and lines
 pub reads-it : {A : Type 0} (x : A) (ls : List Line) (y : A) (rest : List Line)
     → ◌≡◌ {A = Parse A} (Ok (x, ls)) (Ok (y, rest)) → (x ≡ y) × (ls ≡ rest)
 reads-it {A} x ls y rest e = grind arith
@@ -139,7 +139,7 @@ block_after-form allowed l ls rest lines others h = by_last l.is_last refl h
         (subst (BlockForm allowed (with_units [] l ∷ ls) []) same empty)
     by_last false e g = others g
 
--- A block that is read is one.
+-- A block that is read has the form of a block.
 pub block-form : (allowed : Keys) (ls : List Line) (lines : List LineModel) (rest : List Line)
     → block allowed ls ≡ Ok (lines, rest) → BlockForm allowed ls lines rest
 unfolding block
@@ -176,7 +176,7 @@ block-form allowed (l ∷ ls) lines rest h =
         (BlockForm.blank k)
     by_kind PlainLine k g others = no_lines-are allowed (l ∷ ls) (l ∷ ls) rest lines g (BlockForm.plain k)
 
--- A block that is there is read.
+-- A block in its form is read.
 pub block-read : {allowed : Keys} {ls rest : List Line} {lines : List LineModel}
     → BlockForm allowed ls lines rest → block allowed ls ≡ Ok (lines, rest)
 unfolding block

@@ -36,7 +36,7 @@ use Rattle.nj_manifest.proofs.FormsWords.{fault_after_blanks, word-form, word-re
 use Rattle.nj_manifest.proofs.FormsWords.{section_skips, section-form, section-read}
 use Rattle.nj_manifest.proofs.FormsValues.{equals_value-form, equals_value-read}
 
--- a step that gives a value ends there
+-- a step that returns a value ends there
 pub gives-it : {A : Type 0} (x : A) (s : State) (y : A) (t : State) → ◌≡◌ {A = Step A} (Ok (x, s)) (Ok (y, t))
     → (x ≡ y) × (s ≡ t)
 gives-it x s y t h = (value-is x s (y, t) h, after-is x s (y, t) h)
@@ -391,7 +391,7 @@ keyword_of word us rest name f h =
           (same_bytes name.name word h) f;
     }
 
--- where no test passes, the last is taken
+-- if all tests fail, the last alternative is taken
 none_of : {A : Type 0} (b r p d i u : Bool) (x1 x2 x3 x4 x5 x6 x7 : A)
     → (b || (r || (p || (d || (i || (u || false)))))) ≡ false
     → cond b x1 (cond r x2 (cond p x3 (cond d x4 (cond i x5 (cond u x6 x7))))) ≡ x7
@@ -414,7 +414,7 @@ whole_build : (us rest : List TextUnit) (outputs : OutputsModel) (name : NameMod
     → BuildForm us outputs name inputs
 whole_build us rest outputs name inputs k f = grind arith
 
--- A first line that is there is read.
+-- A first line in its form is read.
 pub head-read : (l : Line) (ls : List Line) (head : HeadModel) → HeadForm l head
     → head_next (Inside l ls) ≡ Ok (head, Between (lines_after l ls))
 unfolding head_next head_after
@@ -562,7 +562,7 @@ after_the_word l ls us name head s f h =
         binding_is l ls us name head s f (or_from _ _ eb
         (or_from _ _ er (or_from _ _ ep (or_from _ _ ed (or_from _ _ ei (or_from _ _ eu refl)))))) g
 
--- A first line that is read is one, read to its end.
+-- A first line that is read has the form of a first line, and is read to its end.
 pub head-form : (l : Line) (ls : List Line) (head : HeadModel) (s : State)
     → head_next (Inside l ls) ≡ Ok (head, s) → HeadForm l head × (s ≡ Between (lines_after l ls))
 unfolding head_next

@@ -22,7 +22,7 @@ use Rattle.nj_manifest.proofs.FormsKeys.{rule-form, rule-read, pool-form, pool-r
 
 -- ---- a statement with its block
 
--- A statement that is read with its block is one.
+-- A statement that is read with its block has the form of a statement.
 with_block-form : (spot : Spot) (head : HeadModel) (ls : List Line) (item : StatementModel) (rest : List Line)
     → with_block spot head ls ≡ Ok (item, rest) → StatementForm head ls item rest
 with_block-form spot (Alone one) ls item rest h =
@@ -57,7 +57,7 @@ with_block-form spot (BuildHead outputs rule inputs) ls item rest h =
     (StatementForm.build (subst (λ (ms : List Line). BlockForm keys.All ls lines.0.0 ms) same.1
     (block-form keys.All ls lines.0.0 lines.0.1 lines.1)))
 
--- A statement that is there is read with its block.
+-- A statement in its form is read with its block.
 with_block-read : (spot : Spot) {head : HeadModel} {ls rest : List Line} {item : StatementModel}
     → StatementForm head ls item rest → with_block spot head ls ≡ Ok (item, rest)
 with_block-read spot StatementForm.alone = refl
@@ -125,7 +125,7 @@ next-form (l ∷ ls) found rest h = by_kind (kind_of l) refl (sym (next-line l l
     by_kind BlankLine k g others = by_last_blank l.is_last refl k others g
     by_kind PlainLine k g others = statement-form l ls found rest k g
 
--- A statement of this form that is next is read.
+-- A statement of the given form that is next is read.
 pub next-read : {ls rest : List Line} {found : Option PlacedModel} → NextForm ls found rest
     → next_statement ls ≡ Ok (found, rest)
 next-read (NextForm.statement {l = l} {ls = ls} {rest = rest} {head = head} {item = item} k f s) =

@@ -26,7 +26,7 @@ use Rattle.nj_manifest.proofs.FormsGaps.{both_parts, front_passes, after_stops, 
 use Rattle.nj_manifest.proofs.FormsGaps.{skip_again, skip_gap, gap_of, gap_passes, gap_cut, blanks_end}
 use Rattle.nj_manifest.proofs.FormsGaps.{end_of_blanks}
 
--- the lexer within a line, before these units
+-- the lexer within a line, before the given units
 abbrev pub within : Line → List Line → List TextUnit → State
 within l ls us = Inside (with_units us l) ls
 
@@ -237,7 +237,7 @@ pipe2_stops us rest f = grind (arith, two_bytes 124 124 us f.gap f.run rest refl
 pub pipe_at_stops : (us rest : List TextUnit) → SignForm sign.PipeAt us rest → Stops us false false true
 pipe_at_stops us rest f = grind (arith, two_bytes 124 64 us f.gap f.run rest refl f.cut f.blanks f.of_sign)
 
--- ---- a sign that is there
+-- ---- a sign that is present
 
 -- a run after the blanks
 cut_here : (us run rest : List TextUnit) → skip us ≡ run ++ rest → us ≡ gap_of us ++ run ++ rest
@@ -314,7 +314,7 @@ form_of_sign sign.PipeAt l ls us (u ∷ v ∷ vs) n e h =
       refl,
     )
 
--- A sign that is read is there.
+-- A sign that is read is present.
 pub sign-form : (want : Sign) (l : Line) (ls : List Line) (us : List TextUnit) (s : State)
     → (want ≡ sign.LineEnd → ⊥) → called (sign_of want (within l ls us)) ≡ Ok (true, s)
     → (rest : List TextUnit) × SignForm want us rest × (s ≡ within l ls rest)
@@ -343,7 +343,7 @@ pub sign-none : (want : Sign) (l : Line) (ls : List Line) (us : List TextUnit) �
     ≡ Ok (false, within l ls (skip us))
 sign-none want l ls us n h = sign_at-gives want l ls (skip us) (next_fault (skip us)) false n h
 
--- a sign that is there, after the blanks
+-- a sign that is present, after the blanks
 pub record IsBetweenStatements (want : Sign) (l : Line) (ls : List Line) (us rest : List TextUnit) : Type 0
   where
     pub no_fault : next_fault (skip us) ≡ None
@@ -375,7 +375,7 @@ sign_comes sign.PipeAt l ls us rest n f = grind (
   two_bytes 124 64 us f.gap f.run rest refl f.cut f.blanks f.of_sign,
 )
 
--- A sign that is there is read.
+-- A sign that is present is read.
 pub sign-read : (want : Sign) (l : Line) (ls : List Line) (us rest : List TextUnit)
     → (want ≡ sign.LineEnd → ⊥) → SignForm want us rest
     → called (sign_of want (within l ls us)) ≡ Ok (true, within l ls rest)
@@ -384,7 +384,7 @@ sign-read want l ls us rest n f =
     sign_at-gives want l ls (skip us) (next_fault (skip us)) true it.no_fault it.is_there
     ∙ ap (λ (s : State). Ok (true, s)) it.after_is
 
--- ---- signs that have to be there
+-- ---- signs that are required
 
 pub after_skips : (want : Sign) (miss : Wanted) (l : Line) (ls : List Line) (us : List TextUnit)
     → expect_sign want miss (within l ls (skip us)) ≡ expect_sign want miss (within l ls us)
@@ -418,7 +418,7 @@ after-read want miss l ls us rest n f =
 nothing_there : (us : List TextUnit) → is_empty us ≡ true → us ≡ []
 nothing_there us h = grind arith
 
--- The end of a line is read where there are only blanks.
+-- The end of a line is read if there are only blanks before it.
 pub end-form : (miss : Wanted) (l : Line) (ls : List Line) (us : List TextUnit) (s : State)
     → expect_sign sign.LineEnd miss (within l ls us) ≡ Ok s → AreBlanks us × (s ≡ Between (lines_after l ls))
 end-form miss l ls us s h = grind (

@@ -20,7 +20,7 @@ use Rattle.nj_manifest.proofs.Framing.{bind-ok, after-is, value-is}
 use Rattle.nj_manifest.proofs.FormsGaps.{skip, skip_gap, skip_stops, gap_of, gap_passes, gap_cut}
 use Rattle.nj_manifest.proofs.FormsTokens.{within, after-form, after-read, end-form, end-read}
 
--- the join that opens the line, if one does
+-- the join that opens the line, if any
 pub record Opening (us opening others : List TextUnit) : Type 0 where
   pub cut : us ≡ opening ++ others
   pub opens : is_opening opening ≡ true
@@ -57,7 +57,7 @@ value_by-read : (l : Line) (ls : List Line) (f : Option UnitFault) (us : List Te
     × (s ≡ within l ls [])
 value_by-read l ls f us value s h = grind arith
 
--- A value that is read is one.
+-- A value that is read has the form of a value.
 pub value-form : (l : Line) (ls : List Line) (us : List TextUnit) (value : WordModel) (s : State)
     → called (value_of (within l ls us)) ≡ Ok (value, s) → ValueForm us l.end value × (s ≡ within l ls [])
 value-form l ls us value s h =
@@ -85,7 +85,7 @@ same_value : (value : WordModel) (spot : Spot) (run : List TextUnit) → value.s
     → value.parts ≡ parts_of run → record { spot = spot; parts = parts_of run } ≡ value
 same_value value spot run s p = rw (← s, ← p) refl
 
--- A value that is there is read.
+-- A value in its form is read.
 pub value-read : (l : Line) (ls : List Line) (us : List TextUnit) (value : WordModel)
     → ValueForm us l.end value → called (value_of (within l ls us)) ≡ Ok (value, within l ls [])
 value-read l ls us value f = grind (arith, opening_passed, append_assoc, skip_gap, within, same_value)

@@ -91,7 +91,7 @@ form_of_word us (u ∷ vs) end word e b is =
       parts = ap (λ (w : WordModel). w.parts) is ∙ ap parts_of run;
     }
 
--- A word that is read is one.
+-- A word that is read has the form of a word.
 pub word-form : (l : Line) (ls : List Line) (us : List TextUnit) (word : WordModel) (s : State)
     → called (path_word_of (within l ls us)) ≡ Ok (Some word, s)
     → (rest : List TextUnit) × WordForm us word rest × (s ≡ within l ls rest)
@@ -121,7 +121,7 @@ word_by-gives : (l : Line) (ls : List Line) (f g : Option UnitFault) (t : Bool)
     → word_by l ls f g t us taken left ≡ Ok (Some word, within l ls rest)
 word_by-gives l ls f g t us taken left run rest word a b c d e p q = grind arith
 
--- A word that is there is read, where no bad unit ends it.
+-- A word in its form is read, unless a bad unit ends it.
 pub word-read : (l : Line) (ls : List Line) (us rest : List TextUnit) (word : WordModel)
     → WordForm us word rest → next_fault rest ≡ None
     → called (path_word_of (within l ls us)) ≡ Ok (Some word, within l ls rest)
@@ -157,7 +157,7 @@ words_from-read : (w : WordModel) (after : State) (others : Step (List WordModel
     → (more : List WordModel) × (others ≡ Ok (more, s)) × (w ∷ more ≡ ws)
 words_from-read w after others ws s h = grind arith
 
--- Words that are read are so.
+-- Words that are read have the form of words.
 pub words-form : (l : Line) (ls : List Line) (words : List WordModel) (us : List TextUnit) (s : State)
     → words_next (within l ls us) ≡ Ok (words, s)
     → (rest : List TextUnit) × WordsForm us words rest × (s ≡ within l ls (skip rest))
@@ -209,7 +209,7 @@ words_without_fault : {us rest : List TextUnit} {words : List WordModel} → Wor
 words_without_fault none n = n
 words_without_fault (more f fs) n = word_without_fault f
 
--- Words that are there are read, where neither a word nor a bad unit is next.
+-- Words in their form are read, if neither a word nor a bad unit is next.
 pub words-read : (l : Line) (ls : List Line) {us rest : List TextUnit} {words : List WordModel}
     → WordsForm us words rest → next_fault (skip rest) ≡ None → begins_with opens_word (skip rest) ≡ false
     → words_next (within l ls us) ≡ Ok (words, within l ls (skip rest))
@@ -251,7 +251,7 @@ section-form want l ls us words s n h =
               ∙ sign-left_out want l ls us after e,
         )
 
--- A section that is there is read, and one that is left out is not.
+-- A section that is present is read, and an omitted section is not.
 pub section-read : (want : Sign) (l : Line) (ls : List Line) {us rest : List TextUnit}
     {words : List WordModel} → (want ≡ sign.LineEnd → ⊥) → SectionForm want us words rest
     → next_fault (skip rest) ≡ None → begins_with opens_word (skip rest) ≡ false

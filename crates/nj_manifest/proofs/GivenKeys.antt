@@ -34,7 +34,7 @@ bytes_eq-swap a b = by_tests (bytes_eq a b) (bytes_eq b a) refl refl
 abbrev last : (key : List ℕ) → List LineModel → Option LineModel
 last key lines = last_line (λ l. l.name) lines key
 
--- whether there is such a line, and it has a value with a part
+-- whether there is a line, and its value has a part
 abbrev has_part : Option LineModel → Bool
 has_part line = unwrap_or (option_map (λ (l : LineModel). not (is_empty l.value.parts)) line) false
 
@@ -60,7 +60,7 @@ last-named key (l ∷ ls) = ap is_some (last-cons key l ls)
     by_test found true false a e h = absurd (true≢false e)
     by_test found false true a e h = absurd (true≢false (sym e))
 
--- the first line counts only where none after it has the key
+-- the first line matters only if no later line has the key
 pub gives-cons : (key : List ℕ) (l : LineModel) (ls : List LineModel)
     → gives key (l ∷ ls) ≡ cond (bytes_eq l.name key
     && not (list_any (λ (m : LineModel). bytes_eq m.name key) ls)) (not (is_empty l.value.parts))

@@ -28,7 +28,8 @@ use Rattle.nj_manifest.proofs.LeftmostKinds.{kind_units, spaces_of, after_spaces
 use Rattle.nj_manifest.proofs.LeftmostKinds.{unspaced, kind_replaced, no_space_same, identifier_no_space}
 use Rattle.nj_manifest.proofs.LeftmostKinds.{identifier_spaced, indented_spaces, tab_place}
 
--- Where the block of some lines fails: no element like this one helps there, and some text does, with a block
+-- Where the block of some lines fails: no element like the given one helps there, and some text does, with a
+-- block
 -- after it.
 pub record BlockStuck (allowed : Keys) (ls : List Line) (fault : Fault) : Type 0 where
   pub before : List Line
@@ -206,7 +207,7 @@ tab_here allowed l ls tab h =
 
 -- ---- where it is after the first line
 
--- after a line that gives nothing, and is not the last
+-- after a line that adds nothing, and is not the last
 stuck_after_comment : (allowed : Keys) (l : Line) (ls : List Line) (fault : Fault)
     → ((ms : List Line) → block allowed (l ∷ ms) ≡ block allowed ms) → BlockStuck allowed ls fault
     → BlockStuck allowed (l ∷ ls) fault

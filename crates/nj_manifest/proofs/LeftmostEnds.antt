@@ -26,7 +26,7 @@ use Rattle.nj_manifest.proofs.Choices.{unless_missing}
 use Rattle.nj_manifest.proofs.BlockLines.{in_front}
 use Rattle.nj_manifest.proofs.GivenKeys.{gives-cons}
 
--- the keys that a block of this statement takes
+-- the keys that a block of the given statement accepts
 abbrev pub keys_of : HeadModel → Keys
 keys_of (Alone item) = keys.All
 keys_of (RuleHead name) = keys.OfRule
@@ -88,7 +88,7 @@ pool_whole : (spot : Spot) (name : NameModel) (front : List LineModel)
 unfolding whole_pool
 pool_whole spot name front = grind (arith, common_steps)
 
--- A reading of a block up to these lines reads a statement with them.
+-- A reading of a block up to the given lines reads a statement with them.
 pub closed : (spot : Spot) (h : HeadModel) (ls : List Line) (front : List LineModel)
     → block (keys_of h) ls ≡ in_front front (block (keys_of h) (map written (closing h)))
     → (item : StatementModel) × (rest : List Line) × (with_block spot h ls ≡ Ok (item, rest))
@@ -167,7 +167,7 @@ by_block : {A : Type 0} (r : Parse (List LineModel)) (k : List LineModel × List
     (f : Fault) → ((lines : List LineModel × List Line) → k lines ≡ Err f → ⊥) → (r >>= k) ≡ Err f → r ≡ Err f
 by_block r k f n h = grind arith
 
--- A fault of syntax after the first line is one of the block.
+-- A fault of syntax after the first line is a fault of the block.
 pub fault_of_block : (spot : Spot) (h : HeadModel) (ls : List Line) (f : Fault) → with_block spot h ls ≡ Err f
     → is_syntax f ≡ true → ((item : StatementModel) → h ≡ Alone item → ⊥) × (block (keys_of h) ls ≡ Err f)
 fault_of_block spot h ls f e s = grind (arith, no_err, by_block, rule_fault, pool_fault)

@@ -28,11 +28,11 @@ use Rattle.nj_manifest.proofs.LeftmostWords.{word_of, word_x, word_reads, word_f
 use Rattle.nj_manifest.proofs.LeftmostWords.{bad_word_reads, one_more_reads, fits-word}
 use Rattle.nj_manifest.proofs.LeftmostSections.{colon_settled}
 
--- a word that has to be there
+-- a word that is required
 abbrev pub file_word : State → Step WordModel
 file_word s = word_call s >>= λ found. path_there found.0 found.1
 
--- where it is missing or broken, and a text that may be written there
+-- where the word is missing or broken, and a text that may be written there
 pub record FileStuck (us : List TextUnit) (e : Line) (fault : Fault) : Type 0 where
   pub used : List TextUnit
   pub left : List TextUnit

@@ -1,5 +1,4 @@
--- ` and `|@` both. || The units before a reading that it sees: the first one, and both of `||` and
--- `|@`.||` and `|@` both.
+-- The units before a reading that it sees: the first one, and both of `||` and `|@`.
 use Rattle.std.proofs.Common.{arith, ◌≡◌, ℕ, Bool, true, false, ◌&&◌, ◌||◌, not, List, [], ◌∷◌, ◌++◌}
 use Rattle.std.proofs.Common.{take}
 use Rattle.std.proofs.Common.{sym, ap, ◌∙◌}

@@ -13,7 +13,7 @@ use Rattle.nj_text.proofs.Lists.{AllIn, AllIn-take_while}
 use Rattle.nj_manifest.proofs.LeftmostRuns.{both_parts, after_stops, run_passed}
 use Rattle.nj_manifest.proofs.LeftmostFronts.{front, begins-same}
 
--- the kind of a line with these units
+-- the kind of a line with the given units
 abbrev pub kind_units : List TextUnit → Kind
 kind_units us = kind_after_spaces (drop_while is_space_unit us) (begins_with is_space_unit us)
 
@@ -40,7 +40,7 @@ pub unspaced : (sp x : List TextUnit) → AllIn is_space_unit sp → begins_with
     → after_spaces (sp ++ x) ≡ x
 unspaced sp x a h = run_passed is_space_unit sp x a h
 
--- after some spaces, or none
+-- after any number of spaces
 pub kind_spaced : (sp x : List TextUnit) → AllIn is_space_unit sp → begins_with is_space_unit x ≡ false
     → kind_units (sp ++ x) ≡ kind_after_spaces x (begins_with is_space_unit sp)
 kind_spaced sp x a h = grind (arith, unspaced, spaced_begins)

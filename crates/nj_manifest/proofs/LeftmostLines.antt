@@ -37,7 +37,7 @@ line_is : (allowed : Keys) (s : State) → line_next allowed s
 unfolding line_next
 line_is allowed s = refl
 
--- a line that each block of the kind takes
+-- a line that each block of the kind accepts
 abbrev pub key_bytes : Keys → List ℕ
 key_bytes keys.OfRule = codes "command=x"
 key_bytes keys.OfPool = codes "depth=x"

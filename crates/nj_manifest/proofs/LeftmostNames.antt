@@ -1,4 +1,4 @@
--- Names along a line: where one is read, and where there is none.
+-- Names along a line: where a name is read, and where there is no name.
 use Rattle.std.proofs.Common.{arith, ◌≡◌, ℕ, Bool, true, false, Option, Some, None, Ok, Err, List, [], ◌∷◌}
 use Rattle.std.proofs.Common.{◌++◌}
 use Rattle.std.proofs.Common.{refl, sym, ap, ◌∙◌, append_assoc}
@@ -88,7 +88,7 @@ name_reads want gap run x u e ms b bs g i h n =
 
 -- ---- the result of reading a name
 
--- the same element means the same identifier
+-- the same element begins with the same identifier
 pub same_run : (x y : List TextUnit) → element x ≡ element y
     → take_while in_identifier x ≡ take_while in_identifier y
 same_run x y h = grind (arith, begins-same, element-front, element-identifier, none_taken)
@@ -97,7 +97,7 @@ same_run x y h = grind (arith, begins-same, element-front, element-identifier, n
 pub no_blank_there : (us x : List TextUnit) → element x ≡ element (skip us) → begins_with is_blank x ≡ false
 no_blank_there us x h = begins-same is_blank x (skip us) (element-front x (skip us) h) ∙ skip_stops us
 
--- The name that is read; with the same element in its place it is read too.
+-- The name that is read; with the same element in its place a name is read too.
 pub record NamePasses (want : Wanted) (t : List TextUnit → Bool) (us : List TextUnit) (e : Line) : Type 0
   where
     pub passes : Passes (name_next want) t after_name us

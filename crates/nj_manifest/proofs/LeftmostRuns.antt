@@ -66,11 +66,11 @@ skip_gap gap us h = drop_while-append is_blank gap us h
 
 -- ---- tests on the meaning of a unit
 
--- an ordinary byte that passes one test and so not another
+-- an ordinary byte that passes one test and so fails another
 pub no_other : (p : ℕ → Bool) (test : Meaning → Bool) → ((b : ℕ) → p b ≡ true → test (Ordinary b) ≡ false)
     → (m : Meaning) → is_ordinary_in p m ≡ true → test m ≡ false
 no_other p test f m h = grind arith
 
--- a byte that passes is not this one, which does not pass
+-- a byte that passes differs from a byte that does not pass
 pub not_byte : (p : ℕ → Bool) (n : ℕ) → p n ≡ false → (b : ℕ) → p b ≡ true → eqb b n ≡ false
 not_byte p n e b h = grind arith

@@ -168,7 +168,7 @@ is_pipe_at = record { none = λ us h. no_and _ _ (colon_no_pipe us h); mark = pi
 
 -- ---- a section
 
--- The units of a section that is there, up to its end or a fault in it; a word may always follow.
+-- The units of a section that is present, up to its end or a fault in it; a word may always follow.
 pub record SectionRun (want : Sign) (us : List TextUnit) : Type 0 where
   pub used : List TextUnit
   pub left : List TextUnit
@@ -192,7 +192,7 @@ pub data SectionSeen (want : Sign) (us : List TextUnit) (e : Line) : Type 0 wher
   faulty : (fault : Fault) (of : (bytes : List ℕ) → offers fault bytes ≡ true) (run : SectionRun want us)
       (here : FailsAt (section_next want) us e fault run.used run.left) → SectionSeen want us e
 
--- units that fit here are settled, where these are
+-- units that fit in place of settled units are settled
 pub fits_settled : (us x : List TextUnit) → settled us ≡ true → Fits after_words us x → settled x ≡ true
 fits_settled us x h h1 = grind arith
 

@@ -27,7 +27,7 @@ use Rattle.nj_manifest.proofs.LeftmostSteps.{bad-place, bad-kept, bad-offers, or
 use Rattle.nj_manifest.proofs.LeftmostSteps.{Outcome, stuck, stick, arrive, OfWanted}
 use Rattle.nj_manifest.proofs.LeftmostNames.{no_blank_there}
 
--- a sign as a step, which gives nothing
+-- a sign as a step, which returns no value
 abbrev pub led_on : Result State Fault → Step Bool
 led_on r = r >>= λ t. Ok (true, t)
 
@@ -81,7 +81,7 @@ step_ok r s h = rw h refl
 step_bad : (r : Result State Fault) (f : Fault) → r ≡ Err f → led_on r ≡ Err f
 step_bad r f h = rw h refl
 
--- ---- where a sign is not there
+-- ---- where a sign is absent
 
 there_too : (us x : List TextUnit) → element x ≡ element (skip us) → skip x ≡ x
 there_too us x h = none_passed is_blank x (no_blank_there us x h)

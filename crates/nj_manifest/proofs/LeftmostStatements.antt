@@ -130,7 +130,7 @@ stuck_first l ls fault s =
           plain_bad (with_units (s.begun ++ m.units) m) ms (met_before m fault) n.0 n.1;
     }
 
--- the lines after one that is not the last
+-- the lines after a line that is not the last
 after_more : (l : Line) (ms : List Line) → l.is_last ≡ false → lines_after l ms ≡ ms
 after_more l ms h = ap (λ (t : Bool). cond t (with_units [] l ∷ ms) ms) h
 
@@ -254,7 +254,7 @@ tab_leftmost l ls tab k =
     (λ m ms same. (next-kind (with_units (spaces_of l.units ++ m.units) m) ms (TabLine tab)
     (kind_replaced l.units m.units (element-front m.units (after_spaces l.units) same) ∙ k)))
 
--- an indented line whose units after its spaces these are
+-- an indented line with the given units after its spaces
 abbrev unexpected_at : Line → Parse (Option PlacedModel)
 unexpected_at l = Err (Placed (record { line = (line_spot l).line; column = 1 }) cause.UnexpectedIndent)
 
@@ -269,7 +269,7 @@ indented_leftmost l ls k =
     ∙ ap (λ (y : List TextUnit). unexpected_at (with_units y m))
     (unspaced (spaces_of l.units) m.units (spaces_pass l.units) (no_space_same l.units m.units sees)))
 
--- after a line that gives nothing, and is not the last
+-- after a line that adds nothing, and is not the last
 leftmost_after : (l : Line) (ls : List Line) (fault : Fault)
     → ((ms : List Line) → next_statement (l ∷ ms) ≡ next_statement ms) → ComesLeftmost ls fault
     → ComesLeftmost (l ∷ ls) fault

@@ -23,11 +23,11 @@ use Rattle.nj_manifest.specs.Leftmost.{offers_next, offers}
 use Rattle.nj_manifest.proofs.LeftmostRuns.{gap_of, skip, gap_passes, gap_cut}
 use Rattle.nj_manifest.proofs.LeftmostFronts.{front, front-append, element-front}
 
--- the lexer within a line, before these units
+-- the lexer within a line, before the given units
 abbrev pub at : List TextUnit → Line → List Line → State
 at us e ms = Inside (with_units us e) ms
 
--- the units of bytes that mean themselves
+-- the units of bytes that stand for themselves
 abbrev pub text : List ℕ → List TextUnit
 text bytes = map written_unit bytes
 
@@ -90,7 +90,7 @@ opens-no_fault t us h = grind arith
 
 -- ---- units that come here in place of others
 
--- a string that may be written, or units that are seen as those that are here
+-- a string that may be written, or units that are seen as the given units are
 abbrev pub Fits : (List TextUnit → Bool) → List TextUnit → List TextUnit → Type 0
 Fits t us x = (t x ≡ true) ⊎ (front x ≡ front us)
 
@@ -137,7 +137,7 @@ pub record FailsAt {A : Type 0} (f : State → Step A) (us : List TextUnit) (e :
   pub refuses : (x : List TextUnit) (d : Line) (ms : List Line) → element x ≡ element left
       → f (at (used ++ x) d ms) ≡ Err (met_before (with_units x d) fault)
 
--- the place of the first of the units, if that is a bad one
+-- the place of the first of the units, if that unit is bad
 pub fault-place : (us : List TextUnit) (end : Spot) (f : UnitFault) → next_fault us ≡ Some f
     → fault_spot f ≡ spot_of_first us end
 fault-place us end f h = grind arith
@@ -156,7 +156,7 @@ bad-kept l bad = grind arith
 pub bad-offers : (bad : UnitFault) (bytes : List ℕ) → offers (bad_unit bad) bytes ≡ true
 bad-offers bad bytes = grind arith
 
--- A text that begins with this wanted element begins with one that the fault expects.
+-- A text that begins with the wanted element begins with an element that the fault expects.
 abbrev pub OfWanted : Wanted → Fault → Type 0
 OfWanted want fault = (bytes : List ℕ) → offers_next want (drop_while is_space bytes) ≡ true
     → offers fault bytes ≡ true
@@ -175,7 +175,7 @@ pub record Along {B : Type 0} (P : Claim B) (whole : List TextUnit) (k : State �
   pub goes : (x : List TextUnit) (e : Line) (ms : List Line) → Fits t us x
       → P (begun ++ x) e ms (k (at x e ms))
 
--- The reading of the whole fails where no element like this one helps, and some text does.
+-- The reading of the whole fails where no element like the given one helps, and some text does.
 pub record Stuck {B : Type 0} (P : Claim B) (whole : List TextUnit) (e : Line) (fault : Fault) : Type 0 where
   pub begun : List TextUnit
   pub left : List TextUnit

@@ -57,7 +57,7 @@ first_after_sound (u ∷ used) x h = grind (arith, first_after_sound used x)
 first_is_next : (x : List TextUnit) (bad : UnitFault) → next_fault x ≡ Some bad → first_fault x ≡ Some bad
 first_is_next x bad h = grind arith
 
--- the units before the first bad one
+-- the units before the first bad unit
 record Sound (us : List TextUnit) (bad : UnitFault) : Type 0 where
   used : List TextUnit
   left : List TextUnit

@@ -1,4 +1,4 @@
--- Words along a line: those that are read, and the bad unit that ends them.
+-- Words along a line: the words that are read, and the bad unit that ends them.
 use Rattle.std.proofs.lemmas.Grind.{common_steps}
 use Rattle.std.proofs.Common.{◌≡◌, ℕ, zero, suc, ◌<◌, Bool, true, false, cond, ◌&&◌, not, eqb, Option, Some}
 use Rattle.std.proofs.Common.{None, Ok, Err, inl, inr, List, [], ◌∷◌, ◌++◌, length, refl, sym, ap, ◌∙◌}
@@ -34,11 +34,11 @@ abbrev pub is_sound : Option UnitFault → Bool
 is_sound None = true
 is_sound (Some bad) = false
 
--- a word may end before these units
+-- a word may end before the given units
 abbrev pub ends_word : List TextUnit → Bool
 ends_word us = not (begins_with in_word us) && is_sound (next_fault us)
 
--- words end before these units
+-- words end before the given units
 abbrev pub settled : List TextUnit → Bool
 settled us = not (begins_with is_blank us) && (not (begins_with opens_word us) && is_sound (next_fault us))
 
@@ -102,7 +102,7 @@ opening_no_fault m spot h = grind arith
 opening_no_pipe : (m : Meaning) → opens_word_meaning m ≡ true → is_ordinary_in (λ c. eqb c 124) m ≡ false
 opening_no_pipe m h = grind arith
 
--- a bad unit is in no word
+-- a bad unit does not belong to a word
 bad_no_word : (m : Meaning) (spot : Spot) (bad : UnitFault) → fault_of m spot ≡ Some bad
     → in_word_meaning m ≡ false
 bad_no_word m spot bad h = grind arith

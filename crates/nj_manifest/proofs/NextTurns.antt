@@ -71,7 +71,7 @@ statement-steps l ls = grind (arith, after-steps)
 abbrev pub nothing_more : List Line → Parse (Option PlacedModel)
 nothing_more rest = Ok (None, rest)
 
--- the next statement at a line of this kind, given the next one after it
+-- the next statement at a line of the given kind, given the next statement after it
 abbrev pub next_by : Kind → Line → List Line → Parse (Option PlacedModel) → Parse (Option PlacedModel)
 next_by CommentLine l ls others = or_last l (nothing_more (lines_after l (without_comments ls))) others
 next_by (TabLine tab) l ls others = Err (Placed tab cause.Tab)

@@ -97,7 +97,7 @@ begun-next (l ∷ ls) = by_comment (is_comment (kind_of l)) refl (begun-next ls)
 start-begins : (ls : List Line) (r : Reply LineStart) → start_line_of (Between ls) ≡ r → Begins (opening ls) r
 start-begins ls r h = subst (Begins (opening ls)) h (begun-next ls)
 
--- The line that was begun is a plain one.
+-- The line that was begun is plain.
 middle-begins : (l : Line) (ls : List Line) (r : Reply LineStart) → kind_of l ≡ PlainLine
     → start_line_of (Inside l ls) ≡ r → Begins (opening (l ∷ ls)) r
 unfolding opening
@@ -148,7 +148,7 @@ abbrev state_in : Reply LineStart → State
 state_in (Ok (x, s)) = s
 state_in (Err f) = Failed f
 
--- the lines after a blank one
+-- the lines after a blank line
 blank-kind : (k : Kind) (l : Line) (ls : List Line) (after : State)
     → begun_by k l ls ≡ Ok (start.Blank, after) → lines_ahead after < ahead (l ∷ ls)
 blank-kind k l ls after h = grind arith
@@ -157,7 +157,7 @@ blank-begun : (ls : List Line) (after : State) → begun ls ≡ Ok (start.Blank,
     → lines_ahead after < ahead ls
 blank-begun ls after h = grind arith
 
--- After a blank line there are fewer.
+-- After a blank line fewer lines are left.
 pub blank-falls : (before after : State)
     → Answers (λ start. start) (Ok start.Blank) after (start_line_of before)
     → lines_ahead after < lines_ahead before

@@ -34,13 +34,13 @@ item_of (Err f) = Err f
 abbrev pub first_of : List ℕ → Result (Option PlacedModel) Fault
 first_of text = item_of (next_statement (text_lines text))
 
--- a result before those that follow it; a fault ends them
+-- a result before the results that follow it; a fault ends them
 abbrev outcomes_from : Parse (Option PlacedModel) → (List Line → List (Result (Option PlacedModel) Fault))
     → List (Result (Option PlacedModel) Fault)
 outcomes_from (Ok r) others = Ok r.0 ∷ others r.1
 outcomes_from (Err f) others = Err f ∷ []
 
--- the results of this many readings, each from the lines after the one before
+-- the results of the given number of readings, each from the lines after the one before
 abbrev outcomes : (turns : ℕ) → List Line → List (Result (Option PlacedModel) Fault)
 outcomes zero ls = []
 outcomes (suc turns) ls = outcomes_from (next_statement ls) (outcomes turns)

@@ -1,4 +1,4 @@
--- The words of a section, one by one: each takes a unit at least, so a limit that is large enough does not
+-- The words of a section, one by one: each takes at least a unit, so a limit that is large enough does not
 -- matter.
 use Rattle.std.proofs.Common.{◌≡◌, ℕ, zero, suc, ◌<◌, ◌≤◌, Bool, true, false, cond, Option, Some, None, Ok}
 use Rattle.std.proofs.Common.{Err, List, [], ◌∷◌, ◌++◌, length, refl, sym, ap, ◌∙◌, append_assoc, arith}

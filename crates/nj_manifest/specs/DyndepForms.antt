@@ -1,4 +1,4 @@
--- The forms of dyndep files, and the laws that exactly these are read.
+-- The forms of dyndep files, and the laws that exactly the texts of the forms are read.
 use Rattle.std.specs.Prelude.{◌≡◌, Bool, true, false, Option, Some, None, Ok, List, [], ◌∷◌, codes, ◌↔◌, ◌⊎◌}
 use Rattle.std.specs.List.{list_any}
 use Rattle.nj_text.specs.declared.sign.Sign.TheVariants as sign
@@ -33,14 +33,14 @@ EntriesAreTheForms =
     (l : Line) (ls : List Line) (entry : EntryModel) (s : State)
     → (entry_line (Inside l ls) ≡ Ok (entry, s)) ↔ (EntryForm l.units entry × (s ≡ Between (lines_after l ls)))
 
--- a block with one line at most, `restat = VALUE`, and whether it has a value that is not empty
+-- a block with at most one line, `restat = VALUE`, and whether it has a value that is not empty
 pub record RestatForm (ls : List Line) (restat : Bool) (rest : List Line) : Type 0 where
   pub lines : List LineModel
   pub block : BlockForm keys.All ls lines rest
   pub one_at_most : (lines ≡ []) ⊎ ((line : LineModel) × (lines ≡ line ∷ []) × (line.name ≡ codes "restat"))
   pub value : list_any (λ line. has_text line.value) lines ≡ restat
 
--- The next entry of some lines, and the lines after it; or none. Comments and blank lines are skipped.
+-- The next entry of some lines, or `None`, and the lines after it. Comments and blank lines are skipped.
 pub data NextEntryForm : List Line → Option EntryModel → (rest : List Line) → Type 0 where
   statement : {l : Line} {ls rest : List Line} {entry : EntryModel} {restat : Bool} → kind_of l ≡ PlainLine → EntryForm l.units entry
       → RestatForm (lines_after l ls) restat rest → NextEntryForm (l ∷ ls) (Some (record entry { restat = restat })) rest
@@ -53,7 +53,7 @@ pub data NextEntryForm : List Line → Option EntryModel → (rest : List Line) 
       → NextEntryForm (l ∷ ls) None (lines_after l (without_comments ls))
   nothing : NextEntryForm [] None []
 
--- An entry is read from lines, or none, exactly where the forms allow it.
+-- An entry, or `None`, is read from lines exactly if the forms allow it.
 abbrev pub NextEntriesAreTheForms : Type 0
 NextEntriesAreTheForms =
     (ls : List Line) (found : Option EntryModel) (rest : List Line) → (next_entry ls ≡ Ok (found, rest)) ↔ NextEntryForm ls found rest

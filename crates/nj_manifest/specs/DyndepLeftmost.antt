@@ -1,5 +1,5 @@
--- Where the first fault of an entry of a dyndep file is: the elements before it begin some entry, and with the element
--- at the fault they begin none.
+-- Where the first fault of an entry of a dyndep file is: some entry begins with the elements before it, and no entry
+-- begins with these elements and the one at the fault.
 use Rattle.std.specs.Prelude.{◌≡◌, ℕ, Bool, true, ◌&&◌, not, Option, Some, Ok, Err, List, [], ◌∷◌, ◌++◌, map, ◌⊎◌}
 use Rattle.std.specs.List.{list_all}
 use Rattle.nj_text.specs.Units.{TextUnit}
@@ -15,7 +15,7 @@ abbrev pub are_apart : List TextUnit → Bool
 are_apart [] = true
 are_apart (u ∷ us) = list_all (λ v. not (is_same_spot v.spot u.spot)) us && are_apart us
 
--- the elements of these lines are apart
+-- the elements of each of the given lines are apart
 abbrev pub AreApart : List Line → Type 0
 AreApart ls = list_all (λ l. are_apart l.units) ls ≡ true
 
@@ -24,8 +24,8 @@ abbrev pub NamesPlaceInEntry : Fault → Line → Type 0
 NamesPlaceInEntry (Placed spot cause.DyndepShape) l = spot ≡ line_spot l
 NamesPlaceInEntry fault l = NamesThePlaceOf fault l
 
--- From this front an entry continues: in the same line with these bytes, which begin with an element that the fault
--- names as expected, and then with these lines. Each byte means itself.
+-- From this front an entry continues: in the same line with `bytes`, which begin with an element that the fault names
+-- as expected, and then with `lines`. Each byte stands for itself.
 pub record SomeEntry (before : List Line) (begun : List TextUnit) (fault : Fault) : Type 0 where
   pub bytes : List ℕ
   pub lines : List (List ℕ)
@@ -36,8 +36,8 @@ pub record SomeEntry (before : List Line) (begun : List TextUnit) (fault : Fault
   pub rest : List Line
   pub reads : next_entry (continues before begun (written bytes) (map written lines)) ≡ Ok (Some entry, rest)
 
--- If this line has only the spaces with which it begins, an entry is complete: the line is one too many in the entry's block. (Between the
--- spaces and the element there may be a join, and blanks after it.)
+-- If the line has only the spaces with which it begins, an entry is complete: the line is one too many in the entry's
+-- block. (Between the spaces and the element there may be a join, and blanks after it.)
 pub record LineTooMany (before : List Line) (begun : List TextUnit) : Type 0 where
   pub spaces : List TextUnit
   pub gap : List TextUnit
@@ -48,8 +48,9 @@ pub record LineTooMany (before : List Line) (begun : List TextUnit) : Type 0 whe
   pub rest : List Line
   pub reads : next_entry (continues before spaces (written []) []) ≡ Ok (Some entry, rest)
 
--- From this front, with this element after it, no entry continues: whatever follows, each unit of the line at its own place, the result
--- is this fault. A departure from the form names the first unit of the element, and so keeps its place.
+-- From this front, with the given element after it, no entry continues: whatever follows, if each unit of the line has its
+-- own place, the result is the given fault. A departure from the form names the first unit of the element, and so keeps its
+-- place.
 abbrev pub RefusesEntry : (before : List Line) → (begun element : List TextUnit) → Fault → Type 0
 RefusesEntry before begun here fault =
     (l : Line) (ls : List Line) → element l.units ≡ here → are_apart (begun ++ l.units) ≡ true
@@ -71,8 +72,8 @@ abbrev pub DyndepFaultsAreLeftmost : Type 0
 DyndepFaultsAreLeftmost =
     (ls : List Line) (fault : Fault) → AreApart ls → next_entry ls ≡ Err fault → EntryComesLeftmost ls fault
 
--- Each unit of a text has a place of its own, and so have the units of the lines that are left of it after the version, and
--- after an entry.
+-- Each unit of a text has a place of its own, and so has each unit of the lines that are left after the version, and after
+-- an entry.
 abbrev pub UnitsOfStringsAreApart : Type 0
 UnitsOfStringsAreApart =
     ((text : List ℕ) → AreApart (text_lines text))

@@ -34,7 +34,8 @@ version_line s = do
   value ← if bytes_eq name.0.name (codes "ninja_dyndep_version") then equals_value name.1 else Err (Placed name.0.spot cause.DyndepVersion)
   if is_first_version (version_pair_of (expanded no_values value.0.parts)) then Ok value.1 else Err (Placed name.0.spot cause.DyndepVersion)
 
--- the version on the first line that counts, and the lines after it; a text without such a line has none
+-- the version on the first line that is neither blank nor a comment, and the lines after it; a text without such a line
+-- has no version
 abbrev pub version_from : Option Line × List Line → Result (List Line) Fault
 version_from (Some l, ls) = version_line (Inside l ls) >>= λ end. Ok (lines_from end)
 version_from (None, ls) = Err (Placed (first_line_spot ls) cause.DyndepVersion)
@@ -53,7 +54,7 @@ pub record EntryModel : Type 0 where
   pub ins : List WordModel
   pub restat : Bool
 
--- this identifier; any other departs from the form
+-- the given identifier; any other departs from the form
 unfoldable pub word_of_form : (word : List ℕ) → Wanted → State → Result State Fault
 word_of_form word wanted s = do
   name ← name_next wanted s
@@ -63,23 +64,23 @@ word_of_form word wanted s = do
 abbrev pub is_same_spot : Spot → Spot → Bool
 is_same_spot a b = a.line == b.line && a.column == b.column
 
--- what reading a path here says about whether one is here
+-- whether a path is here, by the result of reading a path here
 abbrev pub no_path_by : Spot → Reply (Option WordModel) → Result State Fault
 no_path_by spot (Ok (None, after)) = Ok after
 no_path_by spot (Ok (Some word, after)) = Err (Placed spot cause.DyndepShape)
 no_path_by spot (Err unit) = if is_same_spot (fault_spot unit) spot then Err (bad_unit unit) else Err (Placed spot cause.DyndepShape)
 
--- There is no path here. One that is here departs from the form at its first unit, whether or not a bad unit breaks it later.
+-- There is no path here. A path here departs from the form at its first unit, whether or not a bad unit breaks it later.
 unfoldable pub no_path : State → Result State Fault
 no_path s = let here = skip_blanks_of s in no_path_by (spot_of here) (path_word_of here)
 
--- no section begins here with this sign
+-- no section begins here with the given sign
 unfoldable pub no_section : Sign → State → Result State Fault
 no_section want s = do
   there ← called (sign_of want (skip_blanks_of s))
   if not there.0 then Ok there.1 else Err (Placed (spot_of (skip_blanks_of s)) cause.DyndepShape)
 
--- After `build`: the one explicit output. Where there is none, implicit outputs depart from the form at their `|`.
+-- After `build`: the one explicit output. Without it, implicit outputs depart from the form at their `|`.
 unfoldable pub output_next : State → Step WordModel
 output_next s = do
   found ← called (path_word_of s)
@@ -108,7 +109,7 @@ entry_line s = do
   ins ← added_inputs rule
   Ok (record { out = out.0; outs = outs.0; ins = ins.0; restat = false }, ins.1)
 
--- a value that is not empty, where each reference in it is
+-- a value that is not empty, with each reference in it empty
 abbrev pub has_text : WordModel → Bool
 has_text value = not (is_empty (expanded no_values value.parts))
 
@@ -121,14 +122,14 @@ if_indented bound other s indented = Ok (bound, s)
 abbrev pub in_block : (bound : Bool) → State → (line : State → Step Bool) → Step Bool
 in_block bound s line = called (start_line_of s) >>= λ first. if_indented bound first.0 first.1 line
 
--- The block, `restat = VALUE` at most: whether it has a value that is not empty. A second line departs from the form at its key.
+-- The block, at most `restat = VALUE`: whether its value is not empty. A second line departs from the form at its key.
 unfoldable pub restat_block : State → Step Bool
 restat_block s = in_block false s (λ line. do
   key ← word_of_form (codes "restat") wanted.VariableName line
   value ← equals_value key
   in_block (has_text value.0) value.1 (λ extra. name_next wanted.VariableName extra >>= λ name. Err (Placed name.0.spot cause.DyndepShape)))
 
--- the entry on the first line that counts, and the lines after it; at the end of the text there is none
+-- the entry on the first line that is neither blank nor a comment, and the lines after it; `None` at the text's end
 abbrev pub entry_from : Option Line × List Line → Parse (Option EntryModel)
 entry_from (Some l, ls) = do
   entry ← entry_line (Inside l ls)
@@ -154,7 +155,7 @@ abbrev pub left_entry : (version_read : Bool) → List Line → Parse (Option En
 left_entry true ls = next_entry ls
 left_entry false ls = version_next ls >>= next_entry
 
--- the next entry of these
+-- the next entry of what is left
 abbrev pub entry_of : DyndepLeft → Parse (Option EntryModel)
 entry_of (WholeFile ls) = left_entry false ls
 entry_of (Entries ls) = left_entry true ls

@@ -22,11 +22,11 @@ use Rattle.nj_manifest.specs.Statements.{PoolModel, BuildModel, DefaultModel, In
 
 -- ---- parts of a line
 
--- units that are blanks, all of them
+-- units all of which are blanks
 abbrev pub AreBlanks : List TextUnit → Type 0
 AreBlanks us = list_all is_blank us ≡ true
 
--- Units that are blanks, an identifier, and the rest. The identifier has a byte at least, and is as long as possible.
+-- Units that are blanks, an identifier, and the rest. The identifier has at least a byte, and is as long as possible.
 pub record IdentifierForm (us : List TextUnit) (name : NameModel) (rest : List TextUnit) : Type 0 where
   pub gap : List TextUnit
   pub first : TextUnit
@@ -61,7 +61,7 @@ pub record WordForm (us : List TextUnit) (word : WordModel) (rest : List TextUni
   pub place : word.spot ≡ first.spot
   pub parts : word.parts ≡ parts_of (first ∷ others)
 
--- paths, none or some, and the rest
+-- any number of paths, and the rest
 pub data WordsForm : (us : List TextUnit) → List WordModel → (rest : List TextUnit) → Type 0 where
   none : {us : List TextUnit} → WordsForm us [] us
   more : {us after rest : List TextUnit} {word : WordModel} {words : List WordModel}
@@ -102,7 +102,7 @@ is_opening [] = true
 is_opening (u ∷ []) = opens_line u
 is_opening (u ∷ v ∷ us) = false
 
--- Blanks, and after them all the others, among which there is no bad unit. A value without units is placed where its
+-- Blanks, and after them all other units, among which there is no bad unit. A value without units is placed where its
 -- line ends.
 pub record ValueForm (us : List TextUnit) (end : Spot) (value : WordModel) : Type 0 where
   pub opening : List TextUnit
@@ -166,7 +166,7 @@ pub record FileForm (word : List ℕ) (us : List TextUnit) (file : WordModel) : 
   pub of_file : WordForm after_keyword file after_file
   pub end : AreBlanks after_file
 
--- `default` and paths, one at least
+-- `default` and at least one path
 pub record DefaultForm (us : List TextUnit) (targets : List WordModel) : Type 0 where
   pub after_keyword : List TextUnit
   pub after_targets : List TextUnit
@@ -204,7 +204,7 @@ pub record BlockLineForm (allowed : Keys) (l : Line) (line : LineModel) : Type 0
   pub key : allows allowed line.name ≡ true
 
 -- The lines of a block, and the lines after it. Comments may be among them. The block ends before a line that is not
--- indented, but after it if it is a blank one.
+-- indented, but after it if that line is blank.
 pub data BlockForm (allowed : Keys) : List Line → List LineModel → (rest : List Line) → Type 0 where
   line : {l : Line} {ls rest : List Line} {first : LineModel} {others : List LineModel} → BlockLineForm allowed l first
       → BlockForm allowed (lines_after l ls) others rest → BlockForm allowed (l ∷ ls) (first ∷ others) rest
@@ -232,7 +232,7 @@ pub record Gives (key : List ℕ) (lines : List LineModel) : Type 0 where
 -- a first line's statement, with the block that the lines after it begin with
 pub data StatementForm : HeadModel → List Line → StatementModel → (rest : List Line) → Type 0 where
   alone : {item : StatementModel} {ls : List Line} → StatementForm (Alone item) ls item ls
-  -- a rule gives its command, and of the two keys of a response file both or neither
+  -- a rule has its command, and of the two keys of a response file both or neither
   rule : {name : NameModel} {ls rest : List Line} {lines : List LineModel} → BlockForm keys.OfRule ls lines rest
       → Gives (codes "command") lines → (Gives (codes "rspfile") lines ↔ Gives (codes "rspfile_content") lines)
       → StatementForm (RuleHead name) ls (RuleModel name lines) rest
@@ -253,7 +253,7 @@ pub data LackForm (spot : Spot) : HeadModel → List Line → Fault → Type 0 w
   depth : {name : NameModel} {ls rest : List Line} {lines : List LineModel} → BlockForm keys.OfPool ls lines rest
       → list_any (λ l. bytes_eq l.name (codes "depth")) lines ≡ false → LackForm spot (PoolHead name) ls (Placed spot cause.MissingDepth)
 
--- The next statement of some lines, and the lines after it; or none. Comments and blank lines are skipped.
+-- The next statement of some lines, or `None`, and the lines after it. Comments and blank lines are skipped.
 pub data NextForm : List Line → Option PlacedModel → (rest : List Line) → Type 0 where
   statement : {l : Line} {ls rest : List Line} {head : HeadModel} {item : StatementModel} → kind_of l ≡ PlainLine → HeadForm l head
       → StatementForm head (lines_after l ls) item rest → NextForm (l ∷ ls) (Some (record { spot = line_spot l; item = item })) rest

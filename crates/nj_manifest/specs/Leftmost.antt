@@ -1,5 +1,5 @@
--- Where the first fault of some lines is: the elements before it begin some statement, and with the element at the
--- fault they begin none.
+-- Where the first fault of some lines is: some statement begins with the elements before it, and no statement begins
+-- with these elements and the one at the fault.
 use Rattle.std.specs.Prelude.{◌≡◌, ℕ, Bool, true, false, ◌||◌, ◌==◌, Some, Ok, Err, List, [], ◌∷◌, ◌++◌, map, take}
 use Rattle.std.specs.List.{take_while, list_all}
 use Rattle.nj_text.specs.declared.sign.Sign.TheVariants as sign
@@ -14,7 +14,7 @@ use Rattle.nj_manifest.specs.declared.cause.Wanted.TheVariants as wanted
 use Rattle.nj_manifest.specs.Faults.{Fault, Placed, is_syntax}
 use Rattle.nj_manifest.specs.Statements.{PlacedModel, next_statement}
 
--- whole lines, the first units of one more, and from there on the rest of that line and the others
+-- whole lines, the first units of one more line, and from there on the rest of that line and the other lines
 abbrev pub continues : (before : List Line) → (begun : List TextUnit) → Line → List Line → List Line
 continues before begun l ls = before ++ with_units (begun ++ l.units) l ∷ ls
 
@@ -26,21 +26,21 @@ element_by true two_bytes us = take_while in_identifier us
 element_by false true us = take 2 us
 element_by false false us = take 1 us
 
--- The first element of the units: a whole identifier; `||` or `|@`; else one unit. There is none where a line ends.
+-- The first element of the units: a whole identifier; `||` or `|@`; else one unit. The end of a line has no element.
 abbrev pub element : List TextUnit → List TextUnit
 element us = element_by (begins_with in_identifier us) (is_sign sign.Pipe2 us || is_sign sign.PipeAt us) us
 
 -- ---- lines that are written after a front
 
--- a byte that means itself (its place does not matter here)
+-- a byte that stands for itself (its place does not matter here)
 abbrev pub written_unit : ℕ → TextUnit
 written_unit b = record { spot = first_spot; bytes = b ∷ []; means = Ordinary b }
 
--- these bytes as a line
+-- the given bytes as a line
 abbrev pub written : List ℕ → Line
 written bytes = record { units = map written_unit bytes; end = first_spot; is_last = false }
 
--- whether each byte may occur in a line and mean itself
+-- whether each byte may occur in a line and stand for itself
 abbrev pub are_plain : List ℕ → Bool
 are_plain bytes = list_all is_ordinary_byte bytes
 
@@ -63,7 +63,7 @@ met_before l (Placed spot cause.UnexpectedIndent) =
     Placed (record { line = (line_spot l).line; column = 1 }) cause.UnexpectedIndent
 met_before l fault = fault
 
--- whether these bytes, which follow spaces, begin with an element that is wanted
+-- whether the bytes, which follow spaces, begin with a wanted element
 abbrev pub offers_next : Wanted → List ℕ → Bool
 offers_next wanted.Statement bytes = begins_with is_identifier_byte bytes
 offers_next wanted.RuleName bytes = begins_with is_identifier_byte bytes
@@ -81,8 +81,8 @@ abbrev pub offers : Fault → List ℕ → Bool
 offers (Placed spot (cause.Expected wanted)) bytes = offers_next wanted (drop_while is_space bytes)
 offers fault bytes = true
 
--- From this front a statement continues: in the same line with these bytes, which begin with an element that the fault
--- names as expected, and then with these lines. Each byte means itself.
+-- From this front a statement continues: in the same line with `bytes`, which begin with an element that the fault
+-- names as expected, and then with `lines`. Each byte stands for itself.
 pub record SomeStatement (before : List Line) (begun : List TextUnit) (fault : Fault) : Type 0 where
   pub bytes : List ℕ
   pub lines : List (List ℕ)
@@ -93,7 +93,7 @@ pub record SomeStatement (before : List Line) (begun : List TextUnit) (fault : F
   pub rest : List Line
   pub reads : next_statement (continues before begun (written bytes) (map written lines)) ≡ Ok (Some placed, rest)
 
--- from this front, with this element after it, no statement continues: whatever follows, the result is this fault
+-- from this front, with the given element after it, no statement continues: whatever follows, this fault is the result
 abbrev pub Refuses : (before : List Line) → (begun element : List TextUnit) → Fault → Type 0
 Refuses before begun here fault =
     (l : Line) (ls : List Line) → element l.units ≡ here → next_statement (continues before begun l ls) ≡ Err (met_before l fault)

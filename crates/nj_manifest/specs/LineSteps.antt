@@ -38,7 +38,7 @@ name_next wanted s = do
   name ← ok_or found.0 (Placed (spot_of (skip_blanks_of s)) (cause.Expected wanted))
   Ok (record { spot = spot_of (skip_blanks_of s); name = name }, found.1)
 
--- the lexer after a sign that has to be there
+-- the lexer after a required sign
 unfoldable pub expect_sign : Sign → Wanted → State → Result State Fault
 expect_sign want wanted s = do
   there ← called (sign_of want s)
@@ -55,12 +55,12 @@ words_within (suc limit) s = do
   word ← called (path_word_of s)
   option_map_or (λ first. words_within limit word.1 >>= λ more. Ok (first ∷ more.0, more.1)) word.0 (Ok ([], word.1))
 
--- the words from here on, up to the first element that is not a word; each has a unit at least
+-- the words from here on, up to the first element that is not a word; each has at least a unit
 unfoldable pub words_next : State → Step (List WordModel)
 words_next (Inside l ls) = words_within (suc (length l.units)) (Inside l ls)
 words_next s = words_within (suc zero) s
 
--- the words of a section that begins with this sign, and none where the sign is not there
+-- the words of a section that begins with the given sign; without the sign there are no words
 unfoldable pub section_next : Sign → State → Step (List WordModel)
 section_next want s = do
   there ← called (sign_of want s)

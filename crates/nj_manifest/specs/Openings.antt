@@ -24,7 +24,7 @@ without_spaces l = with_units (drop_while is_space_unit l.units) l
 abbrev pub front_of : Line → Spot
 front_of l = record { line = (line_spot (without_spaces l)).line; column = 1 }
 
--- the first line that counts, by the kind of this line, and the lines after it
+-- the first line that is neither a comment nor blank, by the kind of the given line, and the lines after it
 abbrev pub opening_by : Kind → Line → List Line → Parse (Option Line) → Parse (Option Line)
 opening_by CommentLine l ls others = or_last l (Ok (None, lines_after l (without_comments ls))) others
 opening_by (TabLine tab) l ls others = Err (Placed tab cause.Tab)
@@ -32,7 +32,7 @@ opening_by IndentedLine l ls others = Err (Placed (front_of l) cause.UnexpectedI
 opening_by BlankLine l ls others = or_last l (Ok (None, lines_after l ls)) others
 opening_by PlainLine l ls others = Ok (Some l, ls)
 
--- the first line that is neither a comment nor blank; an indented one belongs to no statement
+-- the first line that is neither a comment nor blank; an indented line does not belong to a statement
 unfoldable pub opening : List Line → Parse (Option Line)
 opening [] = Ok (None, [])
 opening (l ∷ ls) = opening_by (kind_of l) l ls (opening ls)

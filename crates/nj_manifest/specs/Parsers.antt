@@ -27,8 +27,8 @@ abbrev pub Again : Fault → Result (Option (Placed Statement)) ParseFault → T
 Again fault (Ok found) = ⊥
 Again fault (Err f) = fault_text f ≡ fault
 
--- It returns the next statement of the lines that are left, and leaves the lines after it; or the first fault, and from
--- then on that fault.
+-- It returns the next statement of the lines that are left, and leaves the lines after it; or the first fault, and then
+-- that fault permanently.
 abbrev pub IsNext : (before after : Left) → Result (Option (Placed Statement)) ParseFault → Type 0
 IsNext (Lines ls) after result = ReturnsNext (next_statement ls) after result
 IsNext (Refused fault) after result = Again fault result × (after ≡ Refused fault)

@@ -31,7 +31,7 @@ rule_keys =
     codes "command" ∷ codes "depfile" ∷ codes "deps" ∷ codes "msvc_deps_prefix" ∷ codes "description" ∷ codes "dyndep"
     ∷ codes "generator" ∷ codes "pool" ∷ codes "restat" ∷ codes "rspfile" ∷ codes "rspfile_content" ∷ []
 
--- a block with these keys allows this one
+-- whether a block with the given keys allows a key
 abbrev pub allows : Keys → List ℕ → Bool
 allows keys.OfRule key = list_any (bytes_eq key) rule_keys
 allows keys.OfPool key = bytes_eq key (codes "depth")
@@ -67,8 +67,8 @@ block_by allowed IndentedLine l ls others = do
 block_by allowed BlankLine l ls others = Ok ([], lines_after l ls)
 block_by allowed PlainLine l ls others = Ok ([], l ∷ ls)
 
--- The lines of a block: those that are indented, and comments among them, up to the first line of another kind. A
--- blank line that ends them is skipped.
+-- The lines of a block: the indented lines, and comments among them, up to the first line of another kind. A blank line
+-- that ends them is skipped.
 unfoldable pub block : Keys → List Line → Parse (List LineModel)
 block allowed [] = Ok ([], [])
 block allowed (l ∷ ls) = block_by allowed (kind_of l) l ls (block allowed ls)
@@ -136,11 +136,11 @@ file_next s = do
 
 -- ---- lines that a block needs
 
--- the line of a name that counts: the last one
+-- the line of a name that is in force: the last one
 abbrev pub last_line : {X : Type 0} → (name_of : X → List ℕ) → List X → (name : List ℕ) → Option X
 last_line name_of lines name = find (λ l. bytes_eq name (name_of l)) (reverse lines)
 
--- whether the line of this key that counts has a value with a part at least
+-- whether the last line of the given key has a value with at least a part
 abbrev pub gives : (key : List ℕ) → List LineModel → Bool
 gives key lines = unwrap_or (option_map (λ l. not (is_empty l.value.parts)) (last_line (λ l. l.name) lines key)) false
 
@@ -189,7 +189,7 @@ statement_after word spot s =
     else (if bytes_eq word (codes "subninja") then alone SubninjaModel (file_next s)
     else alone (BindingModel word) (equals_value s))))))
 
--- the statement on the first line that counts, and the lines after it; at the end of the text there is none
+-- the statement on the first line that is neither blank nor a comment, and the lines after it; `None` at the text's end
 abbrev pub statement_from : Option Line × List Line → Parse (Option PlacedModel)
 statement_from (Some l, ls) = do
   word ← name_next wanted.Statement (Inside l ls)

@@ -25,7 +25,7 @@ pub enum Keys {
     All,
 }
 
-/// Whether a line may have this key.
+/// Whether a line may have the given key.
 fn allows(allowed: Keys, key: &[u8]) -> bool
     ensures { result ≡ allows allowed key.now }
 {
@@ -123,7 +123,7 @@ pub fn block<'a>(
     Ok(lines)
 }
 
-/// Whether the last line of this key has a value with a part at least.
+/// Whether the last line of the given key has a value with at least a part.
 fn gives(lines: &[Line], key: &[u8]) -> bool
     ensures { result ≡ gives key.now (lines_model lines.now) }
 {
@@ -136,7 +136,7 @@ fn gives(lines: &[Line], key: &[u8]) -> bool
     given
 }
 
-/// Whether a line has this key.
+/// Whether a line has the given key.
 fn names(lines: &[Line], key: &[u8]) -> bool
     ensures { result ≡ names key.now (lines_model lines.now) }
 {

@@ -63,7 +63,7 @@ pub enum SyntaxCause<N> {
     Tab,
     /// A `$` that begins neither a join, nor an escape, nor a reference.
     BadEscape,
-    /// Something else is where this is wanted.
+    /// Another element was found in place of the wanted one.
     Expected(Wanted),
     /// An indented line that belongs to no block, at its column 1.
     UnexpectedIndent,
@@ -83,11 +83,11 @@ pub enum SyntaxCause<N> {
 }
 
 impl<N> SyntaxCause<N> {
-    /// The same cause, with a name made of its name.
+    /// The same cause, with a name made from its name.
     ///
     /// # Errors
     ///
-    /// There was no memory to make it.
+    /// Memory for the name ran out.
     pub fn try_map<M, F: FnOnce(N) -> Result<M, AllocError> + Drop>(
         self,
         make: F,

@@ -64,7 +64,7 @@ fn entry_after<'a>(
 /// Reads the entries of a dyndep file, one after the other ("Dyndep file reference" in the Ninja
 /// manual).
 ///
-/// An entry has slices of the text.
+/// An entry borrows slices of the text.
 #[derive(Drop)]
 pub struct DyndepParser<'a> {
     lexer: Lexer<'a>,
@@ -95,8 +95,8 @@ impl<'a> DyndepParser<'a> {
         }
     }
 
-    /// The next entry; `None` at the end of the text, and from then on by every call. The first
-    /// call reads the version too.
+    /// Returns the next entry, or `None` at the end of the text, and from then on in every call.
+    /// The first call reads the version too.
     ///
     /// # Errors
     ///

@@ -13,7 +13,7 @@ use std::alloc::{AllocError, Global};
 /// A statement of a dyndep file: `build OUT | OUTS: dyndep | INS`.
 #[derive(Debug, Drop)]
 pub struct Entry<'a> {
-    /// An output of the build statement that is meant.
+    /// An output of the build statement to which the entry adds.
     pub out: Word<'a>,
     /// The additional outputs of that statement.
     pub outs: Vec<Word<'a>>,
@@ -37,7 +37,7 @@ fn value_bytes(alloc: Global, parts: &[Part]) -> Result<Vec<u8>, AllocError>
     Ok(bytes)
 }
 
-/// Whether a value is not empty where each reference in it is.
+/// Whether a value is not empty, with each reference in it empty.
 fn has_text(alloc: Global, value: &Word) -> Result<bool, AllocError>
     ensures { IfOk result (λ has. has ≡ has_text (word_model value.now)) }
 {
@@ -79,7 +79,7 @@ fn word_of_form<'a>(
     Ok(())
 }
 
-/// Refuses a path that is here, at its first unit.
+/// Refuses a path here, at its first unit.
 #[tactic(auto, unfolding(crate::specs::Dyndeps::no_path))]
 fn no_path<'a>(alloc: Global, lexer: &mut Lexer<'a>) -> Result<(), ParseFault<'a>>
     ensures { LeadsTo result lexer.new (no_path lexer.old) }
@@ -162,7 +162,7 @@ pub fn entry_line<'a>(alloc: Global, lexer: &mut Lexer<'a>) -> Result<Entry<'a>,
     })
 }
 
-/// The block, `restat = VALUE` at most: whether it has a value that is not empty.
+/// The block, at most `restat = VALUE`: whether it has a value that is not empty.
 #[tactic(auto, unfolding(crate::specs::Dyndeps::restat_block))]
 pub fn restat_block<'a>(alloc: Global, lexer: &mut Lexer<'a>) -> Result<bool, ParseFault<'a>>
     ensures { TakesStep (λ restat. restat) result lexer.new (restat_block lexer.old) }

@@ -9,13 +9,13 @@ use std::alloc::{AllocError, AllocFailed};
 use std::error::Error;
 use std::fmt;
 
-/// Why the statements of a text could not be read further. Places are of the unit at which no
-/// statement continues, unless another is named.
+/// Why the statements of a text could not be read further. Unless stated otherwise, the place is
+/// that of the unit at which no statement continues.
 #[derive(Clone, Copy, Debug, PartialEq, Eq)]
 pub enum ParseFault<'a> {
     /// A bad unit, or out of memory.
     Lex(LexFault),
-    /// Something else is where this is wanted.
+    /// Another element was found in place of the wanted one.
     Expected(Spot, Wanted),
     /// An indented line that belongs to no block; the place is column 1 of that line.
     UnexpectedIndent(Spot),

@@ -17,7 +17,7 @@ use std::marker::Model;
 /// Reads the statements of a Ninja file, one after the other ("Ninja file reference" in the Ninja
 /// manual).
 ///
-/// It keeps the text as a slice and copies no part of it; a statement has slices of the text.
+/// It keeps the text as a slice and copies no part of it; a statement borrows slices of the text.
 #[derive(Drop)]
 pub struct Parser<'a> {
     lexer: Lexer<'a>,
@@ -48,8 +48,8 @@ impl<'a> Parser<'a> {
         }
     }
 
-    /// The next statement with its block, at the place of its first byte; `None` at the end of the
-    /// text, and from then on by every call.
+    /// Returns the next statement with its block, at the place of its first byte; `None` at the end
+    /// of the text, and from then on in every call.
     ///
     /// # Errors
     ///
@@ -72,8 +72,8 @@ impl<'a> Parser<'a> {
         }
     }
 
-    /// Takes back any statement: the next one is read into the memory of its lists. The results of
-    /// calls stay the same.
+    /// Takes back any statement: the next statement is read into the memory of its lists. The
+    /// results of calls stay the same.
     pub fn reuse(&mut self, statement: Statement<'a>)
         ensures { self.new ≡ self.old }
     {

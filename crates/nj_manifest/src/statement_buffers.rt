@@ -55,7 +55,7 @@ impl<'a> Buffers<'a> {
     }
 }
 
-/// An empty list, in the memory of the one that was kept, if any.
+/// An empty list, in the memory of the kept list, if any.
 pub fn empty_list<T: Drop>(alloc: Global, kept: &mut Option<Vec<T>>) -> Vec<T>
     ensures { result.items ≡ [] }
 {

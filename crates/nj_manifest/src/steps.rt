@@ -32,7 +32,7 @@ pub fn name_next<'a>(
     }
 }
 
-/// Takes a sign that has to be there.
+/// Takes a required sign.
 #[tactic(auto, unfolding(crate::specs::LineSteps::expect_sign))]
 #[inline(always)]
 pub fn expect_sign<'a>(
@@ -70,7 +70,7 @@ pub fn words_next<'a>(
     }
 }
 
-/// The words of a section that begins with this sign; none if the sign is not there.
+/// The words of a section that begins with the given sign; none if the sign is absent.
 #[tactic(auto, unfolding(crate::specs::LineSteps::section_next))]
 #[inline(always)]
 pub fn section_next<'a>(

@@ -180,7 +180,7 @@ newest-none hash names wanted (suc c) h m below =
         absurd (omega arith)
     by rest (inr apart) = late apart.1 (rest (ap (λ b. cond b (suc c) down) (sym apart.0) ∙ h)) (cases_eq m c)
 
--- the found name is among those that count
+-- the found name is among the first `count` names
 newest-below : (hash : Hash) (names : List (List ℕ)) (wanted count : ℕ)
     → newest_below hash names wanted count ≤ count
 newest-below hash names wanted zero = omega arith
@@ -190,7 +190,7 @@ name_of-more : (names others : List (List ℕ)) (n : ℕ) → n < length names
     → name_of (names ++ others) n ≡ name_of names n
 name_of-more names others n below = get_or_append_left names others [] n below
 
--- names after those that count change nothing
+-- names after the first `count` change nothing
 newest-more : (hash : Hash) (names others : List (List ℕ)) (wanted count : ℕ) → count ≤ length names
     → newest_below hash (names ++ others) wanted count ≡ newest_below hash names wanted count
 newest-more hash names others wanted zero within = refl
@@ -210,7 +210,7 @@ module _ (hash : Hash) (names : List (List ℕ)) (name : List ℕ) where
   name_of-last : name_of longer (length names) ≡ name
   name_of-last = get_or-append_seam names name [] []
 
-  -- the name leads to the one that was the newest with its hash
+  -- the name leads to the previous newest name with its hash
   pub chained-push : (earlier : List ℕ) (before : ℕ)
       → before ≡ newest_below hash names (hash name) (length names) → AreChained hash names earlier
       → AreChained hash longer (earlier ++ before ∷ [])
@@ -235,7 +235,7 @@ module _ (hash : Hash) (names : List (List ℕ)) (name : List ℕ) where
           ∙ sym (newest-more hash names (name ∷ []) (hash (name_of names n)) n (omega arith))
           ∙ ap (λ p. newest_below hash longer (hash p) n) (sym (name_of-more names (name ∷ []) n within))
 
-  -- the name is the newest of its hash, and those of other hashes stay
+  -- the name is the newest with its hash, and the newest names of other hashes stay
   pub newest-push : (wanted : ℕ) → newest_below hash longer wanted (length longer)
       ≡ cond (hash name == wanted) (length names + 1) (newest_below hash names wanted (length names))
   newest-push wanted =
@@ -249,7 +249,8 @@ module _ (hash : Hash) (names : List (List ℕ)) (name : List ℕ) where
 
 -- ---- a search
 
--- no name from `count` on is the one that is sought, and of those before it this is the newest with its hash
+-- no name from `count` on is the sought name, and `at` is the newest of the names before `count` with its
+-- hash
 pub record IsSought (hash : Hash) (names : List (List ℕ)) (name : List ℕ) (at : ℕ) : Type 0 where
   pub count : ℕ
   pub within : count ≤ length names
@@ -271,7 +272,7 @@ searched-within names earlier name n s = grind (
   length names,
 )
 
--- a name that is another one leads to an earlier one
+-- a different name leads to an earlier name
 pub searched-next : (names : List (List ℕ)) (earlier name : List ℕ) (n : ℕ)
     → Searched names earlier name (suc n) → name_of names n ≢ name
     → Searched names earlier name (get_or earlier n 0)

@@ -69,7 +69,7 @@ module _ (flags : List Bool) (numbers : List ℕ) (number : ℕ) (below : number
     );
   }
 
--- ---- none
+-- ---- no numbers
 
 all-unflagged : (flags : List Bool) → AllByRecursion (λ flag. flag ≡ false) flags
     → sum_by unflagged flags ≡ length flags
@@ -88,7 +88,7 @@ pub flagged-none : (flags : List Bool) → All (λ flag. flag ≡ false) flags �
 unfolding IsDistinct
 flagged-none flags none = grind (arith, no-flag, length, all-unflagged, recursion_from_All)
 
--- there are no more of them than flags
+-- there are at most as many numbers as flags
 pub flagged-fit : (flags : List Bool) (numbers : List ℕ) → AreFlagged flags numbers
     → length numbers ≤ length flags
 flagged-fit flags numbers held = omega (arith, held.as_many)

@@ -88,7 +88,7 @@ module _ (marks : List ℕ) (round : ℕ) (numbers : List ℕ) (number : ℕ) (b
     );
   }
 
--- ---- none
+-- ---- no numbers
 
 all-unmarked : (round : ℕ) (marks : List ℕ) → AllByRecursion (λ mark. mark < round) marks
     → sum_by (unmarked round) marks ≡ length marks

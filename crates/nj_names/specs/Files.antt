@@ -7,6 +7,6 @@ use Rattle.nj_names.specs.declared.files.FileNo.{FileNo}
 abbrev pub path_at : (files : List (List ℕ)) → FileNo → List ℕ
 path_at files file = name_at files file.0
 
--- these are the numbers of files, and the files have these paths in this order
+-- the given numbers are of files that have the given paths, in the same order
 abbrev pub AreFiles : (files : List (List ℕ)) → (numbers : List FileNo) → (paths : List (List ℕ)) → Type 0
 AreFiles files numbers paths = map (λ file. slice_get files file.0) numbers ≡ map Some paths

@@ -2,11 +2,11 @@
 use Rattle.std.specs.Prelude.{ℕ, Bool, unwrap_or, List, [], ◌∷◌, ◌++◌, slice_get, bytes_eq, if◌then◌else◌}
 use Rattle.std.specs.List.{list_any}
 
--- whether a name is one of these
+-- whether a name is one of the given names
 abbrev pub is_among : List (List ℕ) → (name : List ℕ) → Bool
 is_among names name = list_any (bytes_eq name) names
 
--- the names with one that is added: at the end, unless it is there
+-- the names with one name added: at the end, unless it is among them
 abbrev pub with_name : (names : List (List ℕ)) → (name : List ℕ) → List (List ℕ)
 with_name names name = if is_among names name then names else names ++ name ∷ []
 

@@ -7,10 +7,10 @@ pub record NumberSetModel : Type 0 where
   pub limit : ℕ
   pub numbers : List ℕ
 
--- whether a number is one of these
+-- whether a number is one of the given numbers
 abbrev pub has : List ℕ → (number : ℕ) → Bool
 has numbers number = list_any (nat_eq number) numbers
 
--- the numbers with one that is added: at the end, unless it is there
+-- the numbers with one number added: at the end, unless it is among them
 abbrev pub with_number : List ℕ → (number : ℕ) → List ℕ
 with_number numbers number = if has numbers number then numbers else numbers ++ number ∷ []

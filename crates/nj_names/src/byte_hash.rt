@@ -11,9 +11,9 @@ pub(crate) struct Words {
     second: u64,
 }
 
-/// The state after these bytes: each whole sixteen of them is a step, and the last sixteen are
-/// another, which may take in some bytes again. So no step goes byte by byte, unless there are
-/// fewer than eight.
+/// The state after the given bytes: each whole block of sixteen is a step, and the last sixteen
+/// bytes are another step, which may take in some bytes again. So no step goes byte by byte, unless
+/// there are fewer than eight bytes.
 pub(crate) fn state_after(factor: u64, start: u64, bytes: &[u8]) -> u64
     ensures { result ≡ state_after factor start bytes.now }
 {
@@ -55,7 +55,7 @@ fn words_of(bytes: &[u8; 16]) -> Words
     }
 }
 
-/// The last sixteen bytes, or the fewer ones.
+/// The last sixteen bytes, or all if there are fewer.
 #[inline(always)]
 fn last_words(bytes: &[u8]) -> Words
     ensures { result ≡ last_words bytes.now }
@@ -66,7 +66,7 @@ fn last_words(bytes: &[u8]) -> Words
     }
 }
 
-/// Fewer bytes: the first eight and the last eight, or the fewer ones.
+/// Fewer than sixteen bytes: the first eight and the last eight, or all if fewer than eight.
 #[inline(always)]
 fn short_words(bytes: &[u8]) -> Words
     ensures { result ≡ short_words bytes.now }
@@ -83,7 +83,7 @@ fn short_words(bytes: &[u8]) -> Words
     }
 }
 
-/// A number with these bytes at its low end.
+/// A number with the given bytes at its low end.
 #[inline(always)]
 pub(crate) fn with_bytes(number: u64, bytes: &[u8]) -> u64
     ensures { result ≡ fold with_byte number bytes.now }

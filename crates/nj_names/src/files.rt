@@ -29,7 +29,7 @@ impl Model for Files {
 }
 
 impl Files {
-    /// No files, whose paths are hashed by these keys. It allocates nothing.
+    /// No files yet. Paths are hashed by the given keys. Allocates nothing.
     pub fn new(alloc: Global, keys: HashKeys) -> Files
         ensures { result ≡ [] }
     {
@@ -46,7 +46,7 @@ impl Files {
         self.names.count()
     }
 
-    /// The number of the file at this path; `None` if it was not named.
+    /// Returns the number of the file at the given path, or `None` if the path was not named.
     pub fn number(&self, path: &[u8]) -> Option<FileNo>
         ensures index { option_map (λ file. file.0) result ≡ position (bytes_eq path.now) self.now }
         ensures known { is_some result ≡ list_any (bytes_eq path.now) self.now }

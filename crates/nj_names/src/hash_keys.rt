@@ -8,7 +8,8 @@ use std::hash::BuildHasher;
 use std::marker::Model;
 
 /// The keys by which the names of a run are hashed. Names are untrusted input, and whoever knows
-/// how names are hashed can choose ones that all collide, so that each look-up goes through all.
+/// how names are hashed can choose names that all collide, so that each look-up goes through all of
+/// them.
 ///
 /// So a number is drawn for each run, and which names collide depends on all of its 64 bits
 /// ([`NameHasher`]). An attacker does not know it, and learns nothing about it from a run, whose
@@ -36,19 +37,19 @@ impl HashKeys {
         }
     }
 
-    /// The hash of these bytes, for a table that keeps hashes in place of keys. It takes in sixteen
-    /// bytes with one multiplication, twice as many as [`NameHasher`].
+    /// The hash of the given bytes, for a table that keeps hashes in place of keys. It takes in
+    /// sixteen bytes with one multiplication, twice as many as [`NameHasher`].
     ///
     /// A step has two numbers of eight bytes each. One is added to the state, the other to the
     /// factor, and the halves of the product of both sums, joined by xor, are the next state.
     /// Whoever chooses names knows neither the state nor the factor, so only by a guess can a
-    /// number make the product 0, which would drop the other one. As in [`NameHasher`], there are
-    /// pairs of names that collide for one drawn number of 300 million; nothing is known that makes
-    /// a flood of them. How many bytes there are is taken in last, in a step of its own: so `a` and
-    /// `\0a` differ, which are the same number, and bytes that make up for more or fewer of them
+    /// number make the product 0, which would drop the other number. As in [`NameHasher`], there
+    /// are pairs of names that collide for one drawn number in 300 million; no way is known to make
+    /// a flood of them. The number of bytes is taken in last, in a step of its own: so `a` and
+    /// `\0a`, which are the same number, differ, and bytes that make up for a difference in length
     /// can only be guessed.
     ///
-    /// These too are reasons, and the contract states the computation.
+    /// This too is only rationale: the contract states the computation.
     pub fn hash_bytes(&self, bytes: &[u8]) -> u64
         ensures { result ≡ hash_bytes self.now bytes.now }
     {

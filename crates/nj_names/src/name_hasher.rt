@@ -14,23 +14,23 @@ const GOLDEN_RATIO: u64 = 0x9e37_79b9_7f4a_7c15;
 /// Hashes names by a number that was drawn. A map passes a name byte by byte, and eight bytes are
 /// taken in at once: as a block, which costs one multiplication.
 ///
-/// A block is added to the state, the sum is multiplied by the factor to 128 bits, and the halves of
-/// the product, joined by xor, are the next state. The state starts as the number that was drawn,
-/// and the factor is made of it, so which names collide depends on all of its bits. Whoever chooses
-/// names chooses blocks alone, and knows neither the state nor the factor. So only by a guess can a
-/// block make the product 0, which would drop the number, and no two blocks are known to collide
-/// whatever was drawn.
+/// A block is added to the state, the sum is multiplied by the factor to 128 bits, and the halves
+/// of the product, joined by xor, are the next state. The state starts as the number that was
+/// drawn, and the factor is derived from it, so which names collide depends on all of its bits.
+/// Whoever chooses names chooses only the blocks, and knows neither the state nor the factor. So
+/// only by a guess can a block make the product 0, which would drop the number, and no two blocks
+/// are known to collide whatever was drawn.
 ///
 /// Two blocks can collide more often than once in 2^64 numbers. The worst pairs that are known
-/// differ by a third of 2^64, and collide for about one number of 300 million. So names may collide
-/// in pairs, but nothing is known that makes a flood of them. If blocks were joined with the state
-/// by xor, a block and its complement would collide for one number of 100 million.
+/// differ by a third of 2^64, and collide for about one number in 300 million. So names may collide
+/// in pairs, but no way is known to make a flood of them. If blocks were joined with the state by
+/// xor, a block and its complement would collide for one number in 100 million.
 ///
-/// A product of 64 bits would not do: there, bits act on those above them alone. Two names whose
+/// A product of 64 bits would not do: there, bits act only on the bits above them. Two names whose
 /// blocks differ in the top bit, twice in a row, would collide whatever was drawn, and the low bits
-/// of a hash, which choose a place in a table, would tell little of the blocks.
+/// of a hash, which choose a place in a table, would depend little on the blocks.
 ///
-/// These are reasons and trials, and nothing of them is proved: the contracts state the
+/// All this is rationale and experiment, and none of it is proved: the contracts state the
 /// computation.
 #[derive(Clone, Copy)]
 pub struct NameHasher {
@@ -62,7 +62,7 @@ impl NameHasher {
         }
     }
 
-    /// The hash of these bytes at once, from the state that it is in.
+    /// The hash of the given bytes at once, from the hasher's present state.
     #[tactic(auto, unfolding(crate::specs::ByteHash::hash_bytes))]
     #[inline(always)]
     pub(crate) fn hash_bytes(&self, bytes: &[u8]) -> u64

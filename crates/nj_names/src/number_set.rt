@@ -27,7 +27,7 @@ impl Model for NumberSet {
 }
 
 impl NumberSet {
-    /// None of the numbers below the limit. Fails only if an allocation fails.
+    /// An empty set of numbers below the limit. Fails only if an allocation fails.
     pub fn none_below(alloc: Global, limit: usize) -> Result<NumberSet, AllocError>
         ensures { IfOk result (λ s. s ≡ record { limit = limit; numbers = [] }) }
     {

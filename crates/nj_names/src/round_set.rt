@@ -30,7 +30,7 @@ impl Model for RoundSet {
 }
 
 impl RoundSet {
-    /// None of the numbers below the limit. Fails only if an allocation fails.
+    /// An empty set of numbers below the limit. Fails only if an allocation fails.
     pub fn none_below(alloc: Global, limit: usize) -> Result<RoundSet, AllocError>
         ensures { IfOk result (λ s. s ≡ record { limit = limit; numbers = [] }) }
     {
@@ -67,7 +67,7 @@ impl RoundSet {
         Ok(true)
     }
 
-    /// Takes all numbers from the set. It takes no pass over the numbers below the limit, except
+    /// Removes all numbers from the set. It makes no pass over the numbers below the limit, except
     /// every 2^64 - 1 times: then no round is left, all marks are reset, and the rounds start over.
     pub fn clear(&mut self)
         ensures { self.new ≡ record { limit = self.old.limit; numbers = [] } }

@@ -13,9 +13,9 @@ use std::marker::Model;
 
 /// Names without duplicates. The number of a name is its place in the order of adding.
 ///
-/// They are one text. Each is found by its hash, which is computed once for a look-up: the map
-/// leads to the newest name with that hash, and each name to the one before it with the same hash.
-/// These numbers are counted from 1, and 0 is none.
+/// The names are stored as one text. Each is found by its hash, which is computed once for a
+/// look-up: the map leads to the newest name with that hash, and each name to the previous name
+/// with the same hash. In these links names are counted from 1, and 0 is none.
 #[derive(Drop)]
 pub struct Names {
     keys: HashKeys,
@@ -42,7 +42,7 @@ impl Model for Names {
 }
 
 impl Names {
-    /// No names. Those that are added are hashed by these keys. It allocates nothing.
+    /// No names yet. Names are hashed by the given keys. Allocates nothing.
     pub fn new(alloc: Global, keys: HashKeys) -> Names
         ensures { result ≡ [] }
     {
@@ -63,7 +63,7 @@ impl Names {
         self.ends.as_slice().len()
     }
 
-    /// The number of a name; `None` if it was not added.
+    /// Returns the number of a name, or `None` if it was not added.
     pub fn number(&self, name: &[u8]) -> Option<usize>
         ensures index { result ≡ position (bytes_eq name.now) self.now }
         ensures known { is_some result ≡ list_any (bytes_eq name.now) self.now }
@@ -86,7 +86,7 @@ impl Names {
         name_at(self.text.as_slice(), self.ends.as_slice(), number)
     }
 
-    /// Adds a name, unless it is there, and returns its number.
+    /// Adds a name, unless the table has it, and returns its number.
     pub fn add(&mut self, name: &[u8]) -> Result<usize, AllocError>
         ensures added { OnOk result (self.new ≡ with_name self.old name.now) }
         ensures number { IfOk result (λ number. slice_get self.new number ≡ Some name.now) }
@@ -116,7 +116,7 @@ impl Names {
     }
 }
 
-// The newest name of a hash, counted from 1; 0 if there is none.
+// Returns the newest name with a hash, counted from 1, or 0.
 fn newest_name(newest: &NewestNames, hash: u64) -> u32
     ensures { result ≡ newest_in newest.now hash }
 {
@@ -126,7 +126,7 @@ fn newest_name(newest: &NewestNames, hash: u64) -> u32
     }
 }
 
-// The number of a name, which is sought from the newest one with its hash on.
+// Returns the number of a name, or `None`. The search starts from the newest name with its hash.
 fn find_name(text: &[u8], ends: &[u32], earlier: &[u32], newest: u32, name: &[u8]) -> Option<usize>
     requires rise { EndsRise 0 ends.now (length text.now) }
     requires chained { CanBeFound (held_names text.now ends.now) earlier.now name.now newest }
@@ -153,7 +153,7 @@ fn name_at<'a>(text: &'a [u8], ends: &[u32], number: usize) -> &'a [u8]
     part(text, start_of(ends, number), number_at(ends, number))
 }
 
-// The bytes between these places.
+// The bytes between the given places.
 #[inline(always)]
 fn part(text: &[u8], start: usize, end: usize) -> &[u8]
     requires rises { start ≤ end }

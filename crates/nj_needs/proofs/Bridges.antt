@@ -29,7 +29,7 @@ later-files : (files : List (List ℕ)) (n : FileNo) (ns : List FileNo) (p : Lis
     → AreFiles files (n ∷ ns) (p ∷ ps) → AreFiles files ns ps
 later-files files n ns p ps are = cc
 
--- files have the paths that are given for them
+-- files have the given paths
 pub paths-at : (files : List (List ℕ)) (ns : List FileNo) (paths : List (List ℕ)) → AreFiles files ns paths
     → map (path_at files) ns ≡ paths
 paths-at files [] [] are = refl

@@ -1,4 +1,4 @@
--- Lists that begin with others.
+-- Lists that begin with other lists.
 use Rattle.std.proofs.lemmas.Grind.{common_steps}
 use Rattle.std.proofs.Common.{◌≡◌, ℕ, zero, suc, ◌≤◌, Bool, not, Some, List, [], ◌∷◌, ◌++◌, length, map, take}
 use Rattle.std.proofs.Common.{filter, sym, ap, ◌∙◌, arith, append_assoc, length-append}
@@ -28,7 +28,7 @@ pub front-flat_map : {X Y : Type 0} (f : X → List Y) (xs ys : List X) → IsFr
     → IsFront (flat_map f xs) (flat_map f ys)
 front-flat_map f xs ys h = (flat_map f h.0, ap (flat_map f) h.1 ∙ flat_map-append f xs h.0)
 
--- a front of a list is no longer than the list, and one that is no shorter is the list
+-- a front of a list is at most as long as the list, and a front of the same length is the list
 pub front-length : {X : Type 0} (xs ys : List X) → IsFront xs ys → length xs ≤ length ys
 front-length xs ys h = omega (arith, ap length h.1, length-append xs h.0)
 
@@ -53,7 +53,7 @@ front-take xs ys h n is = grind (arith, common_steps)
 
 -- ---- without repeats
 
--- a longer list without its repeats begins with the shorter one without its
+-- a longer list without its repeats begins with the shorter list without its repeats
 pub first-append : (xs ys : List ℕ) → each_once nat_eq (xs ++ ys)
     ≡ each_once nat_eq xs ++ without xs (each_once nat_eq ys)
 first-append [] ys = sym (without-none (each_once nat_eq ys))

@@ -42,7 +42,7 @@ parts-written n (m ∷ ns) h = parts-at (decimal n) (mark_text (m ∷ ns)) (no_d
 
 -- ---- a written mark is read
 
--- the number of a part, before those of the others
+-- the number of a part, before the numbers of the other parts
 abbrev and_then : Option ℕ → Option (List ℕ) → Option (List ℕ)
 and_then one others = option_and_then (λ number. option_map (λ numbers. number ∷ numbers) others) one
 

@@ -6,7 +6,7 @@ use Rattle.nj_needs.specs.Growing.{targets_after, grown_targets}
 abbrev Paths : Type 0
 Paths = List (List ℕ)
 
--- a build statement with these outputs, inputs and validations
+-- a build statement with the given outputs, inputs and validations
 abbrev build : (outputs inputs validations : Paths) → (is_phony : Bool) → EdgePaths
 build outputs inputs validations is_phony = record {
   explicit_outputs = outputs;
@@ -67,7 +67,7 @@ by_phony-t = refl
 by_phony-s : grown_targets by_phony (s ∷ []) ≡ s ∷ []
 by_phony-s = refl
 
--- two targets that share a validation, and a target twice
+-- two targets that share a validation, and a repeated target
 abbrev shared : List EdgePaths
 shared = build (t ∷ []) [] (v ∷ []) false ∷ build (p ∷ []) [] (v ∷ []) false ∷ build (v ∷ []) [] [] false ∷ []
 

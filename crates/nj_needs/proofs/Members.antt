@@ -43,7 +43,7 @@ In-single y x i = elim (In-cons_cases y [] x i) [ inl e ↦ e | inr t ↦ absurd
 pub In-last : (xs : List ℕ) (x : ℕ) → In (xs ++ x ∷ []) x
 In-last xs x = In-append_right xs (x ∷ []) x (In-head x [])
 
--- two tests that are true of the same are the same
+-- two tests that are true of the same things are the same
 pub same_tests : (a b : Bool) → (a ≡ true → b ≡ true) → (b ≡ true → a ≡ true) → a ≡ b
 same_tests a b there back = grind arith
 

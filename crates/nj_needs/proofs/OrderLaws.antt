@@ -1,5 +1,5 @@
--- The needed commands are the commands of the reached edges, without duplicates, each after those
--- that it needs.
+-- The needed commands are the commands of the reached edges, without duplicates, each after the commands that
+-- it needs.
 use Rattle.std.proofs.Common.{◌≡◌, ℕ, zero, suc, ◌<◌, Bool, true, false, not, cond, Option, Some, None, List}
 use Rattle.std.proofs.Common.{[], ◌∷◌, ◌++◌, length, get_or, take, filter, refl, sym, ap, subst, ◌∙◌, ◌⊎◌}
 use Rattle.std.proofs.Common.{inl, inr, arith}
@@ -79,7 +79,7 @@ commands-reached makers count phony targets acyclic inside e =
           (ap not r.1))),
     )
 
--- ---- none twice
+-- ---- no duplicates
 
 all_differ : (x : ℕ) (xs : List ℕ) → list_any (nat_eq x) xs ≡ false
     → AllByRecursion (λ y. nat_eq x y ≡ false) xs
@@ -98,9 +98,9 @@ commands-once makers count phony targets =
     (Differ-filter (λ x. not (phony x)) (order makers count targets)
     (Differ-first (unfolded_row makers count targets)))
 
--- ---- each edge after those that it needs
+-- ---- each edge after the edges that it needs
 
--- the elements that each one wants were seen, or come before it
+-- the elements that each element wants were seen, or come before it
 Ordered : (want : ℕ → ℕ → Type 0) → (seen : List ℕ) → List ℕ → Type 0
 Ordered want seen [] = Unit {0}
 Ordered want seen (e ∷ es) = ((f : ℕ) → want e f → In seen f) × Ordered want (e ∷ seen) es

@@ -22,8 +22,8 @@ use Rattle.nj_needs.proofs.PlaceLaws.{valid-from_edge, done-front}
 
 -- ---- lists
 
--- the first occurrences in two lists: those in the first, and then those in the second that are not in the
--- first
+-- the first occurrences in two lists: those in the first list, and then those in the second that are not in
+-- the first
 first-append : (xs ys : List ℕ) → each_once nat_eq (xs ++ ys)
     ≡ each_once nat_eq xs ++ without xs (each_once nat_eq ys)
 first-append [] ys = sym (without-none (each_once nat_eq ys))
@@ -48,7 +48,7 @@ differ-front (x ∷ xs) e ys d = false_from_ne_true (list_any (nat_eq e) (x ∷ 
       | inr t ↦ let never : list_any (nat_eq e) xs ≡ false = differ-front xs e ys d.1 in cc
     ])
 
--- the elements after the first occurrence of one
+-- the elements after the first occurrence of an element
 same-after : (e : ℕ) (xs ys ms ns : List ℕ) → xs ++ e ∷ ms ≡ ys ++ e ∷ ns → list_any (nat_eq e) xs ≡ false
     → list_any (nat_eq e) ys ≡ false → ms ≡ ns
 same-after e [] [] ms ns is f g = cc

@@ -31,7 +31,7 @@ left-next (Some (suc more)) e left some = grind arith
 left-nil : (limit : Option ℕ) → left_after limit [] ≡ []
 left-nil limit = grind (arith, common_steps)
 
--- more may be taken, and none is
+-- if more edges may be taken and none is, no edge is left
 none-left : (limit : Option ℕ) (left : List ℕ) → limit ≢ Some 0 → written limit left ≡ []
     → left_after limit left ≡ []
 none-left None left some none = refl

@@ -1,4 +1,4 @@
--- An edge has one first place: two addresses of it are the same.
+-- An edge has exactly one first place: two addresses of it are the same.
 use Rattle.std.proofs.Common.{◌≡◌, ℕ, suc, ◌+◌, ◌<◌, ◌≤◌, Bool, true, false, ◌&&◌, Option, Some, None, List}
 use Rattle.std.proofs.Common.{[], ◌∷◌, ◌++◌, length, get_or, take, drop, refl, sym, ap, subst, ◌∙◌, inl, inr}
 use Rattle.std.proofs.Common.{arith, append_assoc}
@@ -127,7 +127,7 @@ module _ (makers : ℕ → List (Option ℕ)) (count : ℕ) (rank : ℕ → ℕ)
     ])
   ]
 
-  -- an address that continues has done less than one that ends there
+  -- an address that continues has done less than an address that ends there
   less-inside : (row : List (Option ℕ)) → ((m : ℕ) → Among row m → m < count) → (p r : ℕ) (x : List ℕ)
       → is_valid makers row (p ∷ r ∷ x) ≡ true
       → length (done makers count row (p ∷ r ∷ x)) < length (done makers count row (p ∷ []))

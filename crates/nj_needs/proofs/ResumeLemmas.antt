@@ -1,4 +1,4 @@
--- Resuming: addresses that are valid, the edges done at one, and the way to it.
+-- Resuming: addresses that are valid, the edges done at an address, and the way to it.
 use Rattle.std.proofs.Common.{◌≡◌, ℕ, zero, suc, ◌+◌, ◌<◌, ◌≤◌, Bool, true, false, ◌&&◌, Option, Some, None}
 use Rattle.std.proofs.Common.{List, [], ◌∷◌, ◌++◌, length, get_or, take, drop, refl, sym, ap, subst, ◌∙◌, inl}
 use Rattle.std.proofs.Common.{inr, arith, append_assoc}

@@ -8,7 +8,7 @@ use Rattle.std.proofs.lemmas.List.{append-nil}
 use Rattle.nj_needs.specs.Order.{order, made_by, unfolded, unfolded_row}
 use Rattle.nj_needs.proofs.Fronts.{IsFront, front-append, front-map, front-flat_map, front-first}
 
--- X is the type of files, `maker` the edge that makes one, and `checks` are the validations of an edge
+-- X is the type of files, `maker` the edge that makes a file, and `checks` are the validations of an edge
 module _ (X : Type 0) (makers : ℕ → List (Option ℕ)) (count : ℕ) (maker : X → Option ℕ) (checks : ℕ → List X)
     (targets : List X) where
   abbrev pub order_of : List X → List ℕ

@@ -7,7 +7,7 @@ use Rattle.nj_needs.specs.Pages.{ArePages}
 use Rattle.nj_needs.specs.Pages.ArePages.{no_runs, ends, stops}
 use Rattle.nj_needs.specs.Turns.{turn_bound}
 
--- edge 0 makes the input of 1 and of 2, and these two make the inputs of 3
+-- edge 0 makes the input of 1 and of 2, and edges 1 and 2 make the inputs of 3
 abbrev diamond : ℕ → List (Option ℕ)
 diamond e = slice_index_or (([]) ∷ (Some 0 ∷ []) ∷ (Some 0 ∷ []) ∷ (Some 1 ∷ Some 2 ∷ []) ∷ []) e []
 
@@ -53,12 +53,12 @@ not_0_0_0_0 = refl
 not_1 : is_valid diamond last (1 ∷ []) ≡ false
 not_1 = refl
 
--- a run of two edges, then one of one
+-- a run of two edges, then a run of one
 two-one : ArePages diamond 4 none_phony last [] (2 ∷ 1 ∷ []) ((0 ∷ 1 ∷ []) ∷ (2 ∷ []) ∷ []) (3 ∷ [])
 two-one = stops 2 (3 ∷ []) (0 ∷ 0 ∷ []) refl refl (refl, (0 ∷ [], refl, refl))
     (stops 3 [] (0 ∷ 1 ∷ []) refl refl (refl, (0 ∷ 1 ∷ 0 ∷ [], refl, refl)) (no_runs refl))
 
--- and one that ends, though it would take three
+-- and a run that ends, though it would take three edges
 two-all : ArePages diamond 4 none_phony last [] (2 ∷ 3 ∷ []) ((0 ∷ 1 ∷ []) ∷ (2 ∷ 3 ∷ []) ∷ []) []
 two-all = stops 2 (3 ∷ []) (0 ∷ 0 ∷ []) refl refl (refl, (0 ∷ [], refl, refl)) (ends refl (omega arith))
 

@@ -1,4 +1,4 @@
--- The turns of a walk: the state after each, the rest, and that one turn less is left.
+-- The turns of a walk: the state after each turn, the rest, and that one turn less is left.
 use Rattle.std.proofs.Common.{◌≡◌, ℕ, zero, suc, ◌+◌, ◌<◌, ◌≤◌, Bool, true, false, not, ◌||◌, cond, Option}
 use Rattle.std.proofs.Common.{Some, None, List, [], ◌∷◌, ◌++◌, length, get_or, set, filter, refl, sym, ap}
 use Rattle.std.proofs.Common.{subst, ◌∙◌, inl, inr, arith, append_assoc}
@@ -70,7 +70,7 @@ module _ (makers : ℕ → List (Option ℕ)) (count : ℕ) (rank : ℕ → ℕ)
   left-same phony path other place at same =
       without-same (done_now path place) (done_now other at) (needed_commands makers count phony row) same
 
-  -- an edge is opened that is not done
+  -- an edge that is not done is opened
   pub open-comes : (path : List Frame) (f : Frame) (flags : List Bool)
       → slice_get (top_row makers row path) f.at ≡ Some (Some f.edge.0)
       → list_any (nat_eq f.edge.0) (done_now path f.at) ≡ false

@@ -26,7 +26,7 @@ filter_comm p q xs = grind (arith, filter-filter, filter_agree, and_comm)
 not_or : (a b : Bool) → not (a || b) ≡ (not b && not a)
 not_or a b = grind arith
 
--- to be without one more is to be without it and without the others
+-- to be without one more element is to be without it and without the others
 pub without-cons : (x : ℕ) (xs es : List ℕ)
     → without (x ∷ xs) es ≡ filter (λ y. not (nat_eq y x)) (without xs es)
 without-cons x xs es = grind (arith, filter_agree, not_or, filter-filter)
@@ -73,7 +73,7 @@ pub without-same : (xs ys es : List ℕ) → ((x : ℕ) → list_any (nat_eq x) 
     → without xs es ≡ without ys es
 without-same xs ys es same = grind arith
 
--- one more is done that was not
+-- one more element is done that was not
 pub without-next : (xs : List ℕ) (m : ℕ) (more : List ℕ) → list_any (nat_eq m) xs ≡ false
     → without xs (each_once nat_eq (xs ++ m ∷ more))
     ≡ m ∷ without (xs ++ m ∷ []) (each_once nat_eq (xs ++ m ∷ more))

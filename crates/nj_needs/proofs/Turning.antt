@@ -100,7 +100,7 @@ module _ (makers : ℕ → List (Option ℕ)) where
     turns_left-start row = ap (λ n. length row - 0 + n) (turns_unseen-all (order makers count row))
         ∙ omega arith
 
-    -- and at the end none
+    -- and at the end no turn
     pub turns_left-end : (row : List (Option ℕ)) (place : ℕ) → length row ≤ place
         → ((x : ℕ) → In (order makers count row) x → In (done_at makers count row [] place) x)
         → turns_left makers count row [] place ≡ 0

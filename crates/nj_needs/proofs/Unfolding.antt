@@ -53,7 +53,7 @@ module _ (makers : ℕ → List (Option ℕ)) (count : ℕ) (rank : ℕ → ℕ)
   pub within : (e m : ℕ) → Among (makers e) m → m < count
   within e m a = ranked.within e m (Contains-from_Among (makers e) m a)
 
-  -- one more fuel changes nothing once there is as much as the edge's rank
+  -- more fuel changes nothing once there is as much as the edge's rank
   stable : (fuel e : ℕ) → rank e ≤ fuel → unfolded makers (suc fuel) e ≡ unfolded makers fuel e
   stable zero e h = ap (λ (us : List ℕ). us ++ e ∷ [])
       (no_makers (unfolded makers 0) (makers e) (λ m a. absurd (omega (arith, falls e m a, h))))

@@ -124,7 +124,7 @@ module _ (makers : ℕ → List (Option ℕ)) (count : ℕ) (rank : ℕ → ℕ)
     pub Below-targets : Below count row₀
     Below-targets m a = ranked.bounded m (inside₀ m a)
 
-  -- an edge in the row on top is an edge of the graph, and one of the unfolded order
+  -- an edge in the row on top is an edge of the graph, and an edge of the unfolded order
   pub top-within : (row : List (Option ℕ)) → ((m : ℕ) → Among row m → m < count) → (path : List Frame)
       → (p m : ℕ) → slice_get (top_row makers row path) p ≡ Some (Some m) → m < count
   top-within row inside [] p m at = inside m (Among-get row p m at)
@@ -147,7 +147,7 @@ module _ (makers : ℕ → List (Option ℕ)) (count : ℕ) (rank : ℕ → ℕ)
       (In-append_left (unfolded_row makers count (makers f.edge.0)) (f.edge.0 ∷ []) m deep) in
       In-row_from U row f.edge.0 m a own
 
-  -- the edges done contain those that they need
+  -- the edges done contain the edges that they need
   pub done_closed : (row : List (Option ℕ)) → ((m : ℕ) → Among row m → m < count)
       → (path : List Frame) (place : ℕ) (x y : ℕ)
       → In (done_at makers count row path place) x → In (unfolded makers count x) y

@@ -1,4 +1,4 @@
--- The makers of inputs and targets in a graph of edges. Here alone the definitions of the walk meet the graph's value.
+-- The makers of inputs and targets in a graph of edges. The definitions of the walk meet the graph's value only here.
 use Rattle.std.specs.Prelude.{ℕ, Bool, Option, List, map, length}
 use Rattle.nj_names.specs.declared.files.FileNo.{FileNo}
 use Rattle.nj_edges.specs.EdgeGraphs.{EdgeGraph}
@@ -18,7 +18,7 @@ is_phony_in edges e = (edge_at edges e).is_phony
 
 -- ---- files by their numbers
 
--- the makers of these files, one for each; a source has none
+-- the makers of the given files, one for each; a source has no maker
 abbrev pub row_of : EdgeGraph → List FileNo → List (Option ℕ)
 row_of g files = row_of_paths g.edges (map (path_at g.files) files)
 

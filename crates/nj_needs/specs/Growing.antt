@@ -12,8 +12,9 @@ use Rattle.nj_needs.specs.Order.{order}
 abbrev pub validations_of : List EdgePaths → (numbers : List ℕ) → List (List ℕ)
 validations_of edges numbers = flat_map (λ e. (edge_at edges e).validations) numbers
 
--- the targets after this many rounds. A round looks at the whole list so far: the targets are followed by the validations of all edges
--- that the list reaches, in the order in which these are first completed. So each edge adds its validations once.
+-- the targets after the given number of rounds. A round looks at the whole list so far: the targets are followed by the
+-- validations of all edges that the list reaches, in the order in which the edges are first completed. So each edge adds
+-- its validations once.
 abbrev pub targets_after : List EdgePaths → (targets : List (List ℕ)) → (rounds : ℕ) → List (List ℕ)
 targets_after edges targets zero = targets
 targets_after edges targets (suc rounds) =
@@ -34,7 +35,7 @@ abbrev pub GrownTargetsStay : Type 0
 GrownTargetsStay = (edges : List EdgePaths) (targets : List (List ℕ)) (rounds : ℕ)
     → length edges ≤ rounds → targets_after edges targets rounds ≡ grown_targets edges targets
 
--- edge e makes one of these files
+-- edge e makes one of the given files
 abbrev pub Makes : List EdgePaths → (paths : List (List ℕ)) → (e : ℕ) → Type 0
 Makes edges paths e = Contains (row_of_paths edges paths) (Some e)
 
@@ -44,7 +45,7 @@ pub data Followed (edges : List EdgePaths) (targets : List (List ℕ)) : ℕ →
   input : {e f : ℕ} → Followed edges targets e → Makes edges (inputs_of (edge_at edges e)) f → Followed edges targets f
   validation : {e f : ℕ} → Followed edges targets e → Makes edges (edge_at edges e).validations f → Followed edges targets f
 
--- without the edges of that set the grown targets cannot be made, and no others are needed
+-- without the edges of that set the grown targets cannot be made, and no other edges are needed
 abbrev pub GrownTargetsReachTheFollowed : Type 0
 GrownTargetsReachTheFollowed = (edges : List EdgePaths) (targets : List (List ℕ))
     → IsAcyclic (makers_of_inputs edges) (length edges)

@@ -20,25 +20,25 @@ EdgesComeAfterMakers = (makers : ℕ → List (Option ℕ)) (count e : ℕ) → 
 abbrev pub ComesBefore : List ℕ → ℕ → ℕ → Type 0
 ComesBefore es f e = (i : ℕ) × (j : ℕ) × (i < j) × (slice_get es i ≡ Some f) × (slice_get es j ≡ Some e)
 
--- the commands are exactly the commands of the edges without which the targets cannot be made; a phony edge has none
+-- the commands are exactly those of the edges without which the targets cannot be made; a phony edge has no command
 abbrev pub CommandsAreTheReached : Type 0
 CommandsAreTheReached = (makers : ℕ → List (Option ℕ)) (count : ℕ) (phony : ℕ → Bool) (targets : List (Option ℕ))
     → IsAcyclic makers count → AreWithin targets count
     → (e : ℕ) → Contains (needed_commands makers count phony targets) e ↔ (Reached makers targets e × (phony e ≡ false))
 
--- none of them is listed twice
+-- no command is repeated
 abbrev pub CommandsComeOnce : Type 0
 CommandsComeOnce = (makers : ℕ → List (Option ℕ)) (count : ℕ) (phony : ℕ → Bool) (targets : List (Option ℕ))
     → IsDistinct nat_eq (needed_commands makers count phony targets)
 
--- each comes after all others that its edge needs, directly or through any edges
+-- each command comes after all others that its edge needs, directly or through any edges
 abbrev pub CommandsComeAfterNeeds : Type 0
 CommandsComeAfterNeeds = (makers : ℕ → List (Option ℕ)) (count : ℕ) (phony : ℕ → Bool) (targets : List (Option ℕ))
     → IsAcyclic makers count → AreWithin targets count
     → (e f : ℕ) → Contains (needed_commands makers count phony targets) e → NeedsByChain makers e f → phony f ≡ false
     → ComesBefore (needed_commands makers count phony targets) f e
 
--- an edge has one first place
+-- an edge has exactly one first place
 abbrev pub FirstPlacesAreOne : Type 0
 FirstPlacesAreOne = (makers : ℕ → List (Option ℕ)) (count : ℕ) (targets : List (Option ℕ))
     → IsAcyclic makers count → AreWithin targets count

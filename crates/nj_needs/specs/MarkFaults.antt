@@ -4,7 +4,7 @@ use Rattle.nj_text.specs.Faults.{out_of_memory_text}
 use Rattle.nj_needs.specs.declared.mark_fault.MarkFault.{MarkFault}
 use Rattle.nj_needs.specs.declared.mark_fault.MarkFault.TheVariants.{BadMark, MarkOutOfRange, OutOfMemory}
 
--- the text gives nothing; or memory ran out, whatever the text gives
+-- the text has no meaning; or memory ran out, whatever the text means
 abbrev pub IsReadFault : {A : Type 0} → (meant : Option A) → MarkFault → Type 0
 IsReadFault meant BadMark = meant ≡ None
 IsReadFault meant MarkOutOfRange = ⊥

@@ -1,4 +1,4 @@
--- Marks and their written form. A mark is the numbers of an address; at the start of a walk it has none.
+-- Marks and their written form. A mark is the numbers of an address; at the start of a walk it has no numbers.
 use Rattle.std.specs.Prelude.{◌≡◌, ℕ, ◌==◌, ◌&&◌, Bool, false, not, nat_le, if◌then◌else◌, Option, Some, None, option_map, option_and_then, List, [], ◌∷◌, map, codes}
 use Rattle.std.specs.Prelude.{decimal}
 use Rattle.std.specs.List.{slice_split, join_with_byte}
@@ -26,10 +26,10 @@ abbrev pub numbers_in : List (List ℕ) → Option (List ℕ)
 numbers_in [] = Some []
 numbers_in (part ∷ parts) = option_and_then (λ number. option_map (λ numbers. number ∷ numbers) (numbers_in parts)) (number_of part)
 
--- the numbers of the mark that a text gives, if it gives one
+-- the numbers of the mark that a text denotes, if any
 unfoldable pub given_mark : List ℕ → Option (List ℕ)
 given_mark text = if bytes_eq text (codes "start") then Some [] else numbers_in (slice_split (λ b. b == 46) text)
 
--- the text of the mark gives the mark
+-- the text of the mark denotes the mark
 abbrev pub ReadsBack : (mark : List ℕ) → Type 0
 ReadsBack mark = given_mark (mark_text mark) ≡ Some mark

@@ -3,7 +3,7 @@ use Rattle.std.specs.Prelude.{ℕ, zero, suc, Bool, not, Option, Some, None, Lis
 use Rattle.std.specs.List.{flat_map}
 use Rattle.nj_edges.specs.Repeats.{each_once}
 
--- the list that belongs to the maker of an input: none for a source
+-- the list that belongs to the maker of an input; empty for a source
 abbrev pub made_by : {A : Type 0} → (of_edge : ℕ → List A) → (maker : Option ℕ) → List A
 made_by of_edge None = []
 made_by of_edge (Some e) = of_edge e
@@ -22,6 +22,6 @@ unfolded_row makers count row = flat_map (made_by (unfolded makers count)) row
 abbrev pub order : (makers : ℕ → List (Option ℕ)) → (count : ℕ) → (targets : List (Option ℕ)) → List ℕ
 order makers count targets = each_once nat_eq (unfolded_row makers count targets)
 
--- the ones among them that have a command
+-- the needed edges that have a command
 abbrev pub needed_commands : (makers : ℕ → List (Option ℕ)) → (count : ℕ) → (phony : ℕ → Bool) → (targets : List (Option ℕ)) → List ℕ
 needed_commands makers count phony targets = filter (λ e. not (phony e)) (order makers count targets)

@@ -6,13 +6,13 @@ use Rattle.nj_needs.specs.Needs.{AreWithin}
 use Rattle.nj_needs.specs.Order.{needed_commands}
 use Rattle.nj_needs.specs.Marks.{is_valid, rest, IsFirstPlace}
 
--- the mark after these edges of a walk that began at a mark: the address of the last of them, or that mark if there is none
+-- the mark after the given edges of a walk that began at a mark: the address of the last edge, or that mark without edges
 abbrev pub IsMarkAfter : (makers : ℕ → List (Option ℕ)) → (count : ℕ) → (targets : List (Option ℕ))
     → (begun : List ℕ) → (edges : List ℕ) → (mark : List ℕ) → Type 0
 IsMarkAfter makers count targets begun edges mark =
     MatchOption (last_or None edges) (mark ≡ begun) (λ e. IsFirstPlace makers count targets mark e)
 
--- the rest after these edges is the rest at the mark after them
+-- the rest after the given edges is the rest at the mark after them
 abbrev pub MarkKeepsTheRest : Type 0
 MarkKeepsTheRest = (makers : ℕ → List (Option ℕ)) (count : ℕ) (phony : ℕ → Bool) (targets : List (Option ℕ))
     → IsAcyclic makers count → AreWithin targets count
@@ -20,7 +20,8 @@ MarkKeepsTheRest = (makers : ℕ → List (Option ℕ)) (count : ℕ) (phony : �
     → rest makers count phony targets begun ≡ edges ++ left → IsMarkAfter makers count targets begun edges mark
     → (is_valid makers targets mark ≡ true) × (rest makers count phony targets mark ≡ left)
 
--- Runs from a mark: each takes at most the number of edges in `takes`; the edges that each returns; and the rest after the last.
+-- Runs from a mark: each takes at most the number of edges in `takes`; the edges that each returns; and the rest after the
+-- last run.
 pub data ArePages (makers : ℕ → List (Option ℕ)) (count : ℕ) (phony : ℕ → Bool) (targets : List (Option ℕ))
     : (mark : List ℕ) → (takes : List ℕ) → (pages : List (List ℕ)) → (left : List ℕ) → Type 0 where
   -- no further run
@@ -29,7 +30,7 @@ pub data ArePages (makers : ℕ → List (Option ℕ)) (count : ℕ) (phony : �
   -- a run that ends: all that was left is its page, and nothing is left
   ends : {mark page : List ℕ} {take : ℕ} → rest makers count phony targets mark ≡ page → length page ≤ take
       → ArePages makers count phony targets mark (take ∷ []) (page ∷ []) []
-  -- a run that stops before the next edge; the others continue at the mark after its page
+  -- a run that stops before the next edge; the other runs continue at the mark after its page
   stops : {mark page takes left : List ℕ} {take : ℕ} {pages : List (List ℕ)} (e : ℕ) (others next : List ℕ)
       → rest makers count phony targets mark ≡ page ++ e ∷ others → length page ≡ take
       → IsMarkAfter makers count targets mark page next → ArePages makers count phony targets next takes pages left

@@ -12,7 +12,7 @@ use Rattle.nj_needs.specs.Turns.{turn_bound}
 abbrev pub commands_of : EdgeGraph → (targets : List FileNo) → List ℕ
 commands_of g targets = needed_commands (makers_of g) (count_of g) (is_phony g) (row_of g targets)
 
--- the edges that a walk to these targets has still to return after a mark
+-- the edges that a walk to the given targets has still to return after a mark
 abbrev pub rest_of : EdgeGraph → (targets : List FileNo) → (mark : List ℕ) → List ℕ
 rest_of g targets mark = rest (makers_of g) (count_of g) (is_phony g) (row_of g targets) mark
 
@@ -34,7 +34,7 @@ pub record WalkState : Type 0 where
   pub mark : List ℕ
   -- the edges that are left
   pub left : List ℕ
-  -- the turns that were taken, including those of the resuming
+  -- the turns that were taken, including those of resuming
   pub turns : ℕ
 
 -- the edges left are always those after the mark, and the turns stay within their bound
@@ -79,7 +79,7 @@ NextIs old (Some e) new = HasReturned old new e
 abbrev pub number_of : Option EdgeNo → Option ℕ
 number_of edge = option_map (λ e. e.0) edge
 
--- a call of `next`: it returns an edge of the graph, or that none is left
+-- a call of `next`: it returns an edge of the graph, or reports that no edge is left
 pub record ReturnsNext (old : WalkState) (edge : Option EdgeNo) (new : WalkState) : Type 0 where
   pub next : NextIs old (number_of edge) new
   pub same : IsSameWalk old new

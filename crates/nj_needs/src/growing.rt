@@ -9,11 +9,11 @@ use crate::walk::top_edge;
 use nj_edges::{EdgeGraph, EdgeNo, FileNo};
 use std::alloc::{AllocError, Global};
 
-/// The targets together with the validations of the edges that they need ("Validations" in the
-/// Ninja manual): after them come the validations of each edge that this list reaches, phony or
-/// not, edge by edge in the order in which these are first completed. A file that is named again is
-/// listed again, and a source is listed too. Takes time in proportion to the edges that are
-/// reached, their inputs and validations. Fails only if an allocation fails.
+/// Returns the targets together with the validations of the edges that they need ("Validations" in
+/// the Ninja manual): after them come the validations of each edge that the list reaches, phony or
+/// not, edge by edge in the order in which the edges are first completed. A file that is named
+/// again is listed again, and a source is listed too. Takes time in proportion to the edges that
+/// are reached, their inputs and validations. Fails only if an allocation fails.
 pub fn grow_targets(
     alloc: Global,
     graph: &EdgeGraph,
@@ -63,7 +63,7 @@ fn add_validations(
     files.extend_from_slice(graph.validations(edge))
 }
 
-// The maker of a file, if it has one that is not done.
+// The maker of a file, if it has a maker that is not done.
 fn undone(flags: &[bool], maker: Option<EdgeNo>) -> Option<EdgeNo>
     requires { ForSome maker (λ e. e.0 < length flags.now) }
     ensures left { IfSome result (λ e.
@@ -77,9 +77,10 @@ fn undone(flags: &[bool], maker: Option<EdgeNo>) -> Option<EdgeNo>
     Some(edge)
 }
 
-/// Each round of validations appends to the list of the one before, and none does after as many
-/// rounds as there are edges. The edges that the grown targets reach are the least set that has the
-/// makers of the targets and, with each edge, the makers of its inputs and of its validations.
+/// Each round of validations appends to the list of the one before, and appends nothing after as
+/// many rounds as there are edges. The edges that the grown targets reach are the least set that
+/// has the makers of the targets and, with each edge, the makers of its inputs and of its
+/// validations.
 pub fn growing_law()
     ensures append { RoundsAppend }
     ensures stay { GrownTargetsStay }

@@ -9,8 +9,8 @@ pub fn unfolding_law()
     ensures edges { EdgesComeAfterMakers }
 {}
 
-/// The needed commands are exactly the commands of the edges that the targets reach; none is listed
-/// twice; and each comes after all others that its edge needs by any chain, also through phony
+/// The needed commands are exactly the commands of the edges that the targets reach; no command is
+/// repeated; and each comes after all others that its edge needs by any chain, also through phony
 /// edges.
 pub fn order_law()
     ensures reached { CommandsAreTheReached }
@@ -18,13 +18,13 @@ pub fn order_law()
     ensures after { CommandsComeAfterNeeds }
 {}
 
-/// The mark after an edge is determined: an edge has one first place in the unfolded order.
+/// The mark after an edge is determined: an edge has exactly one first place in the unfolded order.
 pub fn place_law()
     ensures { FirstPlacesAreOne }
 {}
 
 /// The rest at a mark is a suffix of the needed commands. The rest after some edges of a walk is
-/// the rest at the mark after them. So if each run continues at the mark of the one before, their
+/// the rest at the mark after them. So if each run continues at the mark of the run before, their
 /// pages, one after another, and then the rest after the last are the rest at the first mark.
 pub fn page_law()
     ensures keeps { MarkKeepsTheRest }

@@ -1,5 +1,5 @@
-//! The commands that targets need, each after those that it needs; and marks, at which a walk over
-//! them stops and is resumed, with their written form.
+//! The commands that targets need, each after the commands that it needs; and marks, at which a
+//! walk over them stops and is resumed, with their written form.
 #![tactic(auto)]
 
 mod frame;

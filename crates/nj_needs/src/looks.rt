@@ -6,9 +6,9 @@ ghost use Rattle.nj_needs.specs.Cited.{ForSome, count_of, row_in};
 
 use nj_edges::{EdgeGraph, EdgeNo, FileNo};
 
-/// The maker of the input at a place of an edge, or of the target there if there is no edge. `None`
-/// past the end, and `Some(None)` at a source. It counts nothing: a walk looks by its `Turns`,
-/// which alone has its graph.
+/// Returns the maker of the input at a place of an edge, or of the target there if no edge is
+/// given. `None` past the end, and `Some(None)` at a source. It counts nothing: a walk looks by its
+/// `Turns`, which alone has its graph.
 pub(crate) fn look_at(
     graph: &EdgeGraph,
     targets: &[FileNo],

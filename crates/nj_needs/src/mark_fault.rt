@@ -13,7 +13,7 @@ use std::fmt;
 pub enum MarkFault {
     /// The text is not a mark.
     BadMark,
-    /// The mark is an address that leads to no edge.
+    /// The mark is an address that does not lead to an edge.
     MarkOutOfRange,
     /// An allocation failed.
     OutOfMemory,

@@ -2,12 +2,12 @@
 
 ghost use Rattle.nj_needs.specs.Cited.{WrittenMarksAreGiven, GivenMarksAreWritten};
 
-/// The text that is written for a mark gives that mark.
+/// The text that is written for a mark denotes that mark.
 pub fn written_marks_are_given()
     ensures { WrittenMarksAreGiven }
 {}
 
-/// Only the text that is written for a mark gives it.
+/// Only the text that is written for a mark denotes it.
 pub fn given_marks_are_written()
     ensures { GivenMarksAreWritten }
 {}

@@ -32,8 +32,8 @@ fn has_plain_front(part: &[u8]) -> bool
     }
 }
 
-/// The part before the first `.`, and the text after it; the whole text and `None` if there is
-/// none.
+/// Returns the part before the first `.`, and the text after it; the whole text and `None` if it
+/// has no `.`.
 pub fn first_part(text: &str) -> (&str, Option<&str>)
     ensures parts { slice_split is_dot text.now
         ≡ result.0.now ∷ parts_left (option_copied result.1) }

@@ -29,7 +29,7 @@ impl Model for Mark {
 }
 
 impl Mark {
-    /// The mark at the start of a walk. It allocates nothing.
+    /// The mark at the start of a walk. Allocates nothing.
     pub fn start(alloc: Global) -> Mark
         ensures { result ≡ [] }
     {
@@ -38,7 +38,7 @@ impl Mark {
         }
     }
 
-    /// The mark of these numbers. Fails only if an allocation fails.
+    /// The mark of the given numbers. Fails only if an allocation fails.
     pub fn from_numbers(alloc: Global, numbers: &[u64]) -> Result<Mark, AllocError>
         ensures mark { IfOk result (λ mark. mark ≡ numbers.now) }
         ensures reads_back { ReadsBack numbers.now }
@@ -54,8 +54,8 @@ impl Mark {
         self.numbers.as_slice()
     }
 
-    /// The mark that a text gives: `start`, or the numbers of an address, joined by `.`, without
-    /// leading zeros.
+    /// Returns the mark that a text denotes: `start`, or the numbers of an address, joined by `.`,
+    /// without leading zeros.
     ///
     /// # Errors
     ///

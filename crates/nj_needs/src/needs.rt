@@ -36,8 +36,8 @@ impl<'g> Model for Needs<'g> {
 }
 
 impl<'g> Needs<'g> {
-    /// The next edge that is needed and is not phony. After `None` it always returns `None`. It
-    /// allocates nothing.
+    /// Returns the next edge that is needed and is not phony. After `None` it always returns
+    /// `None`. It allocates nothing.
     pub fn next(&mut self) -> Option<EdgeNo>
         ensures next { NextIs self.old (number_of result) self.new }
         ensures same { IsSameWalk self.old self.new }
@@ -46,9 +46,9 @@ impl<'g> Needs<'g> {
         next_edge(&mut self.walk, &mut self.saved)
     }
 
-    /// The address of the edge that `next` returned last, also after `None`; before any, the mark
-    /// that the walk began with. Its text reads back as that mark. Fails only if an allocation
-    /// fails.
+    /// Returns the address of the edge that `next` returned last, also after `None`; before any
+    /// edge, the mark that the walk began with. Its text reads back as that mark. Fails only if an
+    /// allocation fails.
     pub fn mark(&self, alloc: Global) -> Result<Mark, AllocError>
         ensures mark { IfOk result (λ m. m ≡ self.now.mark) }
         ensures reads_back { ReadsBack self.now.mark }

@@ -8,8 +8,8 @@ use crate::resume_point::Saved;
 use crate::walk::{Turn, Walk};
 use nj_edges::EdgeNo;
 
-/// Takes turns up to the closing of an edge that is not phony, and saves its address; `None` if
-/// nothing is left.
+/// Takes turns up to the closing of an edge that is not phony, and saves its address; returns
+/// `None` if no such edge is left.
 pub(crate) fn next_edge(walk: &mut Walk, saved: &mut Saved) -> Option<EdgeNo>
     requires { IsNeeds walk.old saved.old }
     ensures after { IsNeeds walk.new saved.new }

@@ -10,9 +10,9 @@ use nj_edges::EdgeNo;
 use std::alloc::{AllocError, Global};
 
 impl<'g> Needs<'g> {
-    /// The next edge of a page: that of `next`, unless the page has all edges that it may have.
-    /// `room` is how many it may still have, `None` for any number: it falls by one with each edge.
-    /// It allocates nothing.
+    /// Returns the next edge of a page: that of `next`, unless the page has all edges that it may
+    /// have. `room` is how many it may still have, `None` for any number: it falls by one with each
+    /// edge. It allocates nothing.
     pub fn next_on_page(&mut self, room: &mut Option<u64>) -> Option<EdgeNo>
         ensures goes_on { (begun : WalkState) → (limit : Option ℕ) → (edges : List ℕ)
             → HasSoFar begun limit edges self.old room.old
@@ -52,7 +52,7 @@ impl<'g> Needs<'g> {
     }
 }
 
-// How many there may still be after one.
+// How many edges there may still be after one more.
 fn one_fewer(room: Option<u64>) -> Option<u64>
     ensures { result ≡ option_map (λ count. count - 1) room }
 {

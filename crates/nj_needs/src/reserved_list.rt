@@ -1,14 +1,15 @@
 //! A list in reserved memory. A walk keeps all that it writes in such lists and in numbers.
 //!
-//! A call that allocates takes an allocator, or a value that lends one, as a `Vec` does. So the `Vec`
-//! of a list is private, no method lends it or its allocator, and none lets it grow. `Needs::next`
-//! reaches no other allocator, so a body of it that makes a `Vec` and drops it does not compile.
+//! A call that allocates takes an allocator, or a value that lends one, as a `Vec` does. So the
+//! `Vec` of a list is private, and no method lends it or its allocator, or lets it grow.
+//! `Needs::next` reaches no other allocator, so a body of it that makes a `Vec` and drops it does
+//! not compile.
 
 ghost use Rattle.std.specs.Prelude.{◌≡◌, ◌<◌, [], ◌∷◌, ◌++◌, length, take, MatchOption, Some, slice_get, slice_set, vec_capacity};
 
 use std::marker::Model;
 
-/// A list that keeps to the memory of the `Vec` of which it was made.
+/// A list that keeps to the memory of the `Vec` from which it was made.
 #[derive(Drop)]
 pub(crate) struct ReservedList<T> {
     list: Vec<T>,
@@ -69,7 +70,7 @@ impl<T: Copy> ReservedList<T> {
         self.list.push_reserved(item);
     }
 
-    /// Takes the last item off; `None` if there is none.
+    /// Removes and returns the last item, or `None` if the list is empty.
     pub fn pop(&mut self) -> Option<T>
         ensures items { MatchOption result ((self.old.items ≡ []) × (self.new.items ≡ []))
             (λ item. self.old.items ≡ self.new.items ++ item ∷ []) }

@@ -7,7 +7,7 @@ use crate::frame::Frame;
 use crate::reserved_list::ReservedList;
 use std::alloc::{AllocError, Global};
 
-/// The address, or the mark that the walk began with, and how many of its numbers are still those
+/// The address, or the mark that the walk began with, and how many of its numbers still are numbers
 /// of the path of open edges.
 #[derive(Drop)]
 pub(crate) struct Saved {
@@ -16,7 +16,7 @@ pub(crate) struct Saved {
 }
 
 impl Saved {
-    /// These numbers, with capacity for `capacity` numbers.
+    /// The given numbers, with capacity for `capacity` numbers.
     pub fn new(alloc: Global, numbers: &[u64], capacity: usize) -> Result<Saved, AllocError>
         requires { length numbers.now ≤ capacity }
         ensures numbers { IfOk result (λ s. s.numbers.items ≡ numbers.now) }

@@ -10,9 +10,8 @@ use crate::reserved_list::ReservedList;
 use nj_edges::EdgeNo;
 use std::alloc::{AllocError, Global};
 
-/// Where a walk is: the open edges, the first that was opened first; the next place in the
-/// inputs of the last of them, or in the targets where none is open; and for each edge whether it
-/// is done.
+/// Where a walk is: the open edges, the first opened first; the next place in the inputs of the
+/// last open edge, or in the targets if no edge is open; and for each edge whether it is done.
 #[derive(Drop)]
 pub(crate) struct Walk<'g> {
     pub turns: Turns<'g>,
@@ -54,8 +53,8 @@ impl<'g> Walk<'g> {
         })
     }
 
-    /// One turn: the next place is looked at, and an edge that is not done is opened there; or,
-    /// past the end of a row, the last open edge is closed.
+    /// Takes one turn: looks at the next place, and opens an edge there that is not done; or, past
+    /// the end of a row, closes the last open edge.
     pub fn take_turn(&mut self) -> Turn
         requires { IsWalk self.old }
         ensures walk { IsWalk self.new }

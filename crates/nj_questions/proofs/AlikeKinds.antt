@@ -183,7 +183,7 @@ module _ (c : List Rule) (again : Bool) where
   of_positional : (a : Rule) (h : Held) → Alike (clap.positional_fault c again a h)
   of_positional a h = either (is_pending a h.pending && takes_several a) _ _ none (of_settling h)
 
--- a word that is not a subcommand; one that is, where help is no subcommand
+-- a word that is not a subcommand; a word that is, if help is not a subcommand
 of_plain : (s : Shape) (word : Text) (h : Held) → Alike (clap.other_fault s None word h)
 of_plain s word h = either (bytes_eq word (45 ∷ 45 ∷ [])) _ _ none
     (of_flag_word s.rules s.args_override_self (long_of word) word h)
@@ -193,7 +193,7 @@ without_help : (named disabled : Bool) → disabled ≡ true
 without_help true disabled e = rw e none
 without_help false disabled e = none
 
--- help is no subcommand, or there is none at all
+-- help is not a subcommand, or the command has no subcommands
 abbrev pub HasNoHelp : Shape → Names → Type 0
 HasNoHelp s names = (s.disable_help_subcommand ≡ true) ⊎ (names ≡ [])
 
@@ -269,7 +269,7 @@ of_level s names helpless h words entered below under =
     (not (s.subcommand_negates_reqs && entered)
     && list_any (λ a. a.required && not (is_given a.id rows)) s.rules)))))
 
--- the kinds at the words of a command with subcommands, of which help is none
+-- the kinds at the words of a command with subcommands, if help is not a subcommand
 pub alike : (app : App) (words : List Text) → (built app).top.disable_help_subcommand ≡ true
     → Alike (fault_of app words)
 alike app words off =

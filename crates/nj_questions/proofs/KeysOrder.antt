@@ -60,7 +60,7 @@ based bases = walk_from (record nothing_held { rows = rows (codes "base") bases 
 abbrev dashed : (bases : List Text) → Walk
 dashed bases = record (based bases) { is_trailing = true }
 
--- after targets, of which the last is not yet kept
+-- after targets, when the last target is not yet kept
 abbrev targeted : (bases done : List Text) (target : Text) → Walk
 targeted bases done target = record {
   held = record {
@@ -136,7 +136,7 @@ end_fault w = or_else (clap.settle_fault shape.rules shape.args_override_self w.
     (or_else (clap.defaults_fault (settled shape.rules w.held).rows shape.rules)
     (clap.check_fault shape (finished shape.rules w.held) false))
 
--- from there on, these words have no fault, and are this question
+-- from there on, the given words have no fault, and are the given question
 record Reads (w : Walk) (words : List Text) (question : QuestionModel) : Type 0 where
   walked_through : clap.walk_fault shape [] w words ≡ []
   ended : end_fault (run w words) ≡ []

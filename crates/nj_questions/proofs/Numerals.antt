@@ -1,4 +1,4 @@
--- The number that a text gives, as the standard library reads it.
+-- The number that a text denotes, as the standard library reads it.
 use Rattle.std.proofs.Common.{◌≡◌, ◌≤◌, ℕ, Bool, true, false, Some, None, Ok, Err, List, refl, ap}
 use Rattle.std.proofs.Common.{arith}
 use Rattle.std.specs.Str.Parse.{ParsesUnsigned, digits_value, without_leading_plus}

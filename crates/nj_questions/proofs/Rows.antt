@@ -42,7 +42,7 @@ abbrev keyed : (bases : List (List ℕ)) (take : Option ℕ) (resume : Option (L
     → KeysModel
 keyed bases take resume targets = record { bases = bases; take = take; resume = resume; targets = targets }
 
--- `stale`, which takes what builds discovered
+-- `stale`, which joins what builds discovered
 abbrev judges : (targets : List (List ℕ)) (reasons no_manifest : Bool) → Result QuestionModel RefusalModel
 judges targets reasons no_manifest = Ok (record {
   folder = None;
@@ -54,7 +54,7 @@ abbrev chain : (start end : List ℕ) (validations no_order_only : Bool) → Why
 chain start end validations no_order_only =
     record { start = start; end = end; validations = validations; no_order_only = no_order_only }
 
--- `tests` without options, by the list in this file
+-- `tests` without options, by the list in the given file
 abbrev reached : (ctest : List ℕ) → TestsModel
 reached ctest =
     record { change = changed; ctest = ctest; format = None; why = false; json = false; unnamed = None }

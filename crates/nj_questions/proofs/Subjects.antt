@@ -1,4 +1,4 @@
--- Arguments that `clap` takes name a subcommand of the program.
+-- Arguments that `clap` accepts name a subcommand of the program.
 use Rattle.std.proofs.Common.{◌≡◌, Bool, true, false, Option, Some, None, List, [], ◌∷◌, refl, ap, subst}
 use Rattle.std.specs.Prelude.{⊤, ◌&&◌, not, is_some, find, if◌then◌else◌, option_map, unwrap_or}
 use Rattle.std.specs.List.{list_any}
@@ -44,7 +44,7 @@ level s names h words entered below needed passed =
     (clap.settle_fault s.rules s.args_override_self end)
     (clap.defaults_fault (settled s.rules end).rows s.rules) (clap.check_fault s rows entered) passed)
 
--- ---- and is one of the program's
+-- ---- and is a subcommand of the program
 
 abbrev IsTopic : Shape → Type 0
 IsTopic s = (rows : List Row) → is_some (subject_in s.name rows) ≡ true

@@ -23,25 +23,25 @@ flag name = record (new_rule name) { long = Some name; action = Some SetTrue }
 abbrev pub long_option : (name : List ℕ) → Rule
 long_option name = record (new_rule name) { long = Some name; value_names = 1 }
 
--- the same, which has to be there
+-- `--NAME VALUE`, which is required
 abbrev pub required_option : (name : List ℕ) → Rule
 required_option name = record (long_option name) { required = true }
 
--- `--NAME VALUE`, which may be given more than once
+-- `--NAME VALUE`, which may be repeated
 abbrev pub repeated : (name : List ℕ) → Rule
 repeated name = record (long_option name) { action = Some Append }
 
--- the same, whose value is a number of 64 bits
+-- `--NAME VALUE`, whose value is a number of 64 bits
 abbrev pub number : (name : List ℕ) → Rule
 number name = record (long_option name) { parser = Some (Unsigned 0 18446744073709551615) }
 
 -- ---- words that are not options
 
--- one that has to be there
+-- a required word
 abbrev pub word : (name : List ℕ) → Rule
 word name = record (new_rule name) { required = true }
 
--- any number of them, after the options
+-- any number of words, after the options
 abbrev pub words : (name : List ℕ) → Rule
 words name = record (new_rule name) { value_names = 1; action = Some Append }
 
@@ -89,7 +89,7 @@ tests_options = required_option (codes "ctest") ∷ repeated (codes "source-dir"
 abbrev pub why_options : List Rule
 why_options = flag (codes "validations") ∷ flag (codes "no-order-only") ∷ word (codes "A") ∷ word (codes "B") ∷ []
 
--- all of them
+-- all subcommands
 abbrev pub subcommands : List Shape
 subcommands = subcommand (codes "affected") affected_options ∷ subcommand (codes "audit") audit_options
     ∷ subcommand (codes "draw") draw_options ∷ subcommand (codes "json") []
@@ -98,7 +98,7 @@ subcommands = subcommand (codes "affected") affected_options ∷ subcommand (cod
 
 -- ---- the program
 
--- it has a version, and help is a flag alone
+-- the program has a version, and help only as a flag
 abbrev pub program : Shape
 program = record (new_shape (codes "ninja-graph")) {
   no_binary_name = true;

@@ -10,7 +10,7 @@ use Rattle.clap.specs.ValueTests.{is_unsigned_in}
 abbrev pub is_on : (name : List ℕ) → List Row → Bool
 is_on name rows = option_map_or (λ text. bytes_eq text (codes "true")) (first_of name rows) false
 
--- the value of an option; without one, a default
+-- the value of an option, or a default
 abbrev pub text_or : (name default : List ℕ) → List Row → List ℕ
 text_or name default rows = unwrap_or (first_of name rows) default
 
@@ -18,7 +18,7 @@ text_or name default rows = unwrap_or (first_of name rows) default
 abbrev pub values_in : (name : List ℕ) → List Row → List (List ℕ)
 values_in name rows = unwrap_or (all_of name rows) []
 
--- The number of 64 bits that decimal digits give, with or without zeros in front. `clap` takes a plus sign before them.
+-- The number of 64 bits that decimal digits denote, with or without leading zeros. `clap` accepts a plus sign before them.
 abbrev pub given_number : List ℕ → Option ℕ
 given_number text =
     if is_unsigned_in 0 18446744073709551615 text then Some (digits_value 10 (without_leading_plus text)) else None

@@ -15,7 +15,7 @@ use Rattle.nj_questions.specs.declared.refusals.Refusal.TheVariants as refusal
 
 -- ---- the question of a subcommand and its rows
 
--- `stale` takes the inputs that builds discovered without being told to
+-- `stale` joins the inputs that builds discovered even without `--deps`
 abbrev pub takes_deps : (name : List ℕ) → Bool
 takes_deps name = bytes_eq name (codes "stale")
 
@@ -78,7 +78,7 @@ stale_in rows = record {
   no_manifest = is_on (codes "no-manifest") rows;
 }
 
--- the options of `tests`, among them those of a change, as `affected` has them
+-- the options of `tests`, including those of a change, as `affected` has them
 abbrev pub tests_in : List Row → TestsModel
 tests_in rows = record {
   change = affected_in rows;
@@ -98,7 +98,7 @@ why_in rows = record {
   no_order_only = is_on (codes "no-order-only") rows;
 }
 
--- what the subcommand of this name asks
+-- what the subcommand with the given name asks
 abbrev pub subject_in : (name : List ℕ) → List Row → Option SubjectModel
 subject_in name rows =
     if bytes_eq name (codes "affected") then Some (affected (affected_in rows))
@@ -121,7 +121,7 @@ question_in name rows = option_map (λ subject. record {
 
 -- ---- arguments that are not a question
 
--- why; `shows_help` is a request for help or the version
+-- why arguments are refused; `shows_help` is a request for help or the version
 pub data RefusalModel : Type 0 where
   out_of_memory : RefusalModel
   old_option : RefusalModel
@@ -139,7 +139,7 @@ refusal_model (refusal.Unparsed text) = unparsed
 abbrev pub is_old_option : (word : List ℕ) → Bool
 is_old_option word = bytes_eq word (codes "--deps-log") || starts_with nat_eq word (codes "--deps-log=")
 
--- an argument before the first `--` is this option
+-- an argument before the first `--` is the old option
 abbrev pub has_old_option : (words : List (List ℕ)) → Bool
 has_old_option [] = false
 has_old_option (word ∷ words) = not (bytes_eq word (codes "--")) && (is_old_option word || has_old_option words)
@@ -157,7 +157,7 @@ refused_by (kind ∷ kinds) = Some (if is_help kind then shows_help else unparse
 
 -- ---- the question
 
--- the question of a subcommand, unless the arguments are refused; one is required
+-- the question of a subcommand, unless the arguments are refused; a subcommand is required
 abbrev pub asked : Option RefusalModel → Option (List ℕ × List Row) → Result QuestionModel RefusalModel
 asked (Some refused) subcommand = Err refused
 asked None None = Err unparsed

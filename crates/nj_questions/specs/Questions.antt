@@ -73,7 +73,7 @@ pub record TestsModel : Type 0 where
   pub json : Bool
   pub unnamed : Option (List ℕ)
 
--- `why`: the file that needs another, and that other one
+-- `why`: the file that needs the other, and the file that is needed
 pub record WhyModel : Type 0 where
   pub start : List ℕ
   pub end : List ℕ
@@ -97,7 +97,7 @@ pub record QuestionModel : Type 0 where
   pub graph : AskedGraph
   pub subject : SubjectModel
 
--- ---- what is taken
+-- ---- what is read
 
 -- nothing is read, not even the directory to change to: the kinds of findings are listed
 abbrev pub reads_nothing : SubjectModel → Bool
@@ -108,13 +108,13 @@ reads_nothing other = false
 abbrev pub entered_folder : QuestionModel → Option (List ℕ)
 entered_folder question = if reads_nothing question.subject then None else question.folder
 
--- `affected` and `tests` take standard input
+-- `affected` and `tests` read standard input
 abbrev pub takes_input : SubjectModel → Bool
 takes_input (affected options) = true
 takes_input (tests options) = true
 takes_input other = false
 
--- `affected` and `tests` take the path of the working directory, and so does `audit`, unless nothing is read
+-- `affected` and `tests` use the path of the working directory, and so does `audit`, unless nothing is read
 abbrev pub takes_folder : SubjectModel → Bool
 takes_folder (affected options) = true
 takes_folder (audit options) = not options.list

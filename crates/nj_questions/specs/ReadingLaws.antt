@@ -9,7 +9,7 @@ use Rattle.nj_questions.specs.Questions.{QuestionModel, SubjectModel, keys, why}
 abbrev pub SubcommandIsRequired : Type 0
 SubcommandIsRequired = (words : List (List ℕ)) → subcommand_of command words ≡ None → IsErr (question_of words)
 
--- no others are, but those that `clap` refuses and those with the old option
+-- other arguments are refused only if `clap` refuses them or they have the old option
 abbrev pub TakenIsQuestion : Type 0
 TakenIsQuestion = (words : List (List ℕ)) → has_old_option words ≡ false → fault_of command words ≡ [] → IsOk (question_of words)
 
@@ -26,7 +26,7 @@ abbrev pub FilesAfterDashes : Type 0
 FilesAfterDashes = (start end : List ℕ) → question_of (codes "why" ∷ codes "--" ∷ start ∷ end ∷ [])
     ≡ asks (why (record { start = start; end = end; validations = false; no_order_only = false }))
 
--- an option that gives a base
+-- an option that names a base
 abbrev pub base_word : (base : List ℕ) → List ℕ
 base_word base = codes "--base=" ++ base
 

@@ -13,7 +13,7 @@ use std::alloc::{AllocError, Global};
 
 const VERSION: &str = "0.1.0";
 
-/// The program with its subcommands.
+/// Returns the program with its subcommands.
 pub fn command<'a>(alloc: Global) -> Result<Command<'a>, AllocError>
     ensures { IfOk result (λ made. app_of made ≡ command) }
 {
@@ -28,14 +28,14 @@ pub fn command<'a>(alloc: Global) -> Result<Command<'a>, AllocError>
     with_subcommand(alloc, made, WHY, &WHY_OPTIONS)
 }
 
-// The program without its subcommands.
+// Returns the program without its subcommands.
 fn without_subcommands<'a>(alloc: Global) -> Result<Command<'a>, AllocError>
     ensures { IfOk result (λ made. app_of made ≡ without_subcommands) }
 {
     unnamed(alloc).bin_name("ninja-graph")
 }
 
-// The same, which does not yet know how it is called.
+// Returns the program without its subcommands, before it is named.
 fn unnamed<'a>(alloc: Global) -> Command<'a>
     ensures { app_of result ≡ without_subcommands }
 {
@@ -47,7 +47,7 @@ fn unnamed<'a>(alloc: Global) -> Command<'a>
         .disable_help_subcommand(true)
 }
 
-// Adds a subcommand with these options and those that name its graph.
+// Adds a subcommand with the given options and the options that name its graph.
 fn with_subcommand<'a>(
     alloc: Global,
     command: Command<'a>,
@@ -62,7 +62,7 @@ fn with_subcommand<'a>(
     command.subcommand(subcommand)
 }
 
-// A subcommand without options.
+// Returns a subcommand without options.
 fn about<'a>(alloc: Global, topic: Topic) -> Command<'a>
     ensures { app_of result ≡ new_app topic.name.now }
 {
@@ -71,7 +71,7 @@ fn about<'a>(alloc: Global, topic: Topic) -> Command<'a>
         .after_help(topic.more)
 }
 
-// Adds these options to a command.
+// Adds the given options to a command.
 fn with_options<'a>(
     alloc: Global,
     command: Command<'a>,

@@ -17,7 +17,7 @@ pub fn is_on(matches: &ArgMatches<'_>, name: &str) -> bool
     }
 }
 
-/// The value of an option.
+/// Returns the value of an option.
 pub fn text_in(
     alloc: Global,
     matches: &ArgMatches<'_>,
@@ -32,7 +32,7 @@ pub fn text_in(
     }
 }
 
-/// The value of an option; without one, a default.
+/// Returns the value of an option, or a default.
 pub fn text_or(
     alloc: Global,
     matches: &ArgMatches<'_>,
@@ -48,7 +48,8 @@ pub fn text_or(
     }
 }
 
-/// The values of an option that may be repeated, or the words that are not options, in their order.
+/// Returns the values of an option that may be repeated, or the words that are not options, in
+/// their order.
 pub fn values_in(
     alloc: Global,
     matches: &ArgMatches<'_>,
@@ -60,7 +61,7 @@ pub fn values_in(
     owned(alloc, values_of(matches, name))
 }
 
-/// The value of an option that is a number.
+/// Returns the value of an option that is a number.
 pub fn number_in(matches: &ArgMatches<'_>, name: &str) -> Option<u64>
     ensures { result ≡ number_in name.now (rows_in matches.now) }
 {
@@ -70,21 +71,21 @@ pub fn number_in(matches: &ArgMatches<'_>, name: &str) -> Option<u64>
     }
 }
 
-// The text of an option's value.
+// Returns the text of an option's value.
 fn text_of<'w>(matches: &ArgMatches<'w>, name: &str) -> Option<&'w str>
     ensures { option_copied result ≡ first_of name.now (rows_in matches.now) }
 {
     matches.get_str(name)
 }
 
-// The texts of an option's values.
+// Returns the texts of an option's values.
 fn values_of<'m, 'w>(matches: &'m ArgMatches<'w>, name: &str) -> Option<&'m [&'w str]>
     ensures { word_strings result ≡ values_in name.now (rows_in matches.entry.now) }
 {
     matches.get_strs(name)
 }
 
-// The number that a text gives.
+// Returns the number that a text denotes.
 fn given_number(text: &str) -> Option<u64>
     ensures { result ≡ given_number text.now }
 {
@@ -94,7 +95,7 @@ fn given_number(text: &str) -> Option<u64>
     }
 }
 
-// The same texts, as owned strings.
+// Returns the same texts as owned strings.
 fn owned(alloc: Global, words: Option<&[&str]>) -> Result<Vec<String>, AllocError>
     ensures { IfOk result (λ strings. map string_bytes strings.items ≡ word_strings words.entry) }
 {

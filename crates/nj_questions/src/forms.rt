@@ -17,13 +17,13 @@ pub enum Form {
     Flag,
     /// `--NAME VALUE`
     Long(&'static str),
-    /// The same, which has to be there.
+    /// `--NAME VALUE`, which is required.
     Required(&'static str),
-    /// `--NAME VALUE`, which may be given more than once.
+    /// `--NAME VALUE`, which may be repeated.
     Repeated(&'static str),
-    /// The same, whose value is a number.
+    /// `--NAME VALUE`, whose value is a number.
     Number(&'static str),
-    /// A word that has to be there.
+    /// A required word.
     Word,
     /// Any number of words, after the options.
     Words(&'static str),
@@ -32,7 +32,7 @@ pub enum Form {
 /// An option or a word: its name, its form and its help.
 pub type Entry = (&'static str, Form, &'static str);
 
-/// The argument of an entry.
+/// Returns the argument of an entry.
 pub fn arg_of<'a>(alloc: Global, name: &'a str, form: Form, help: &'a str) -> Arg<'a>
     ensures rule { rule_of result ≡ rule_in name.entry.now form }
     ensures local { result.global ≡ false }
@@ -100,7 +100,7 @@ fn long_option<'a>(alloc: Global, name: &'a str, value: &'a str, help: &'a str) 
         .help(help)
 }
 
-// `--NAME VALUE`, which has to be there.
+// `--NAME VALUE`, which is required.
 fn required_option<'a>(alloc: Global, name: &'a str, value: &'a str, help: &'a str) -> Arg<'a>
     ensures rule { rule_of result ≡ required_option name.entry.now }
     ensures local { result.global ≡ false }
@@ -108,7 +108,7 @@ fn required_option<'a>(alloc: Global, name: &'a str, value: &'a str, help: &'a s
     long_option(alloc, name, value, help).required(true)
 }
 
-// `--NAME VALUE`, which may be given more than once.
+// `--NAME VALUE`, which may be repeated.
 fn repeated<'a>(alloc: Global, name: &'a str, value: &'a str, help: &'a str) -> Arg<'a>
     ensures rule { rule_of result ≡ repeated name.entry.now }
     ensures local { result.global ≡ false }
@@ -116,7 +116,7 @@ fn repeated<'a>(alloc: Global, name: &'a str, value: &'a str, help: &'a str) -> 
     long_option(alloc, name, value, help).action(ArgAction::Append)
 }
 
-// `--NAME VALUE`, where the value is a number.
+// `--NAME VALUE`, whose value is a number.
 fn number<'a>(alloc: Global, name: &'a str, value: &'a str, help: &'a str) -> Arg<'a>
     ensures rule { rule_of result ≡ number name.entry.now }
     ensures local { result.global ≡ false }
@@ -124,7 +124,7 @@ fn number<'a>(alloc: Global, name: &'a str, value: &'a str, help: &'a str) -> Ar
     long_option(alloc, name, value, help).value_parser(value_parser!(u64))
 }
 
-// A word that has to be there.
+// A required word.
 fn word<'a>(alloc: Global, name: &'a str, help: &'a str) -> Arg<'a>
     ensures rule { rule_of result ≡ word name.entry.now }
     ensures local { result.global ≡ false }

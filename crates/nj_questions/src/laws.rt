@@ -2,9 +2,9 @@
 
 ghost use Rattle.nj_questions.specs.Cited.{SubcommandIsRequired, TakenIsQuestion, FilesAfterDashes, KeysKeepOrder};
 
-/// Arguments are a question if and only if `clap` takes them and none before `--` is the old option.
-/// A subcommand is among them. Arguments after `--` are not options, whatever they look like. The
-/// values of an option that is repeated keep their order, and so do targets.
+/// Arguments are a question if and only if `clap` accepts them and no argument before `--` is the
+/// old option. They have a subcommand. Arguments after `--` are not options, whatever they look
+/// like. The values of a repeated option keep their order, and so do targets.
 pub fn reading_law()
     ensures required { SubcommandIsRequired }
     ensures taken { TakenIsQuestion }

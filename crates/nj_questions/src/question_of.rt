@@ -16,7 +16,7 @@ use std::alloc::{AllocError, Global};
 
 const MAIN_FILE: &str = "build.ninja";
 
-/// The question of these arguments, without the program's name.
+/// Returns the question of the given arguments, which do not have the program's name.
 ///
 /// # Errors
 ///
@@ -36,8 +36,8 @@ pub fn read_words(alloc: Global, words: &[String]) -> Result<Question, Refusal>
     }
 }
 
-// The matches of `clap` for the arguments. What describes the command line takes much of the stack,
-// and is gone before a file is read.
+// Returns the matches of `clap` for the arguments. The description of the command line takes much
+// of the stack, and is gone before a file is read.
 #[inline(never)]
 fn parse<'w>(alloc: Global, words: &'w [String]) -> Result<ArgMatches<'w>, Refusal>
     ensures ok { OnOk result (fault_of command (map string_bytes words.entry.now) ≡ []) }
@@ -56,7 +56,7 @@ fn parse<'w>(alloc: Global, words: &'w [String]) -> Result<ArgMatches<'w>, Refus
     }
 }
 
-// The refusal that reports an error of `clap`.
+// Returns the refusal that reports an error of `clap`.
 fn refusal_of(alloc: Global, error: &Error) -> Refusal
     ensures memory { kind_of error.now ≡ kind.OutOfMemory → result ≡ OutOfMemory }
     ensures other { (result ≡ OutOfMemory)
@@ -72,7 +72,7 @@ fn refusal_of(alloc: Global, error: &Error) -> Refusal
     }
 }
 
-// The question of matches that name a subcommand.
+// Returns the question of matches that name a subcommand.
 fn asked(alloc: Global, matches: &ArgMatches<'_>) -> Result<Question, AllocError>
     requires { is_question (subcommand_rows_of matches.now) ≡ true }
     ensures { IfOk result (λ question.
@@ -84,7 +84,7 @@ fn asked(alloc: Global, matches: &ArgMatches<'_>) -> Result<Question, AllocError
     }
 }
 
-// The question of a subcommand and its options.
+// Returns the question of a subcommand and its options.
 fn question_in(alloc: Global, name: &str, options: &ArgMatches<'_>) -> Result<Question, AllocError>
     requires { is_some (subject_in name.now (rows_in options.now)) ≡ true }
     ensures { IfOk result (λ question.
@@ -97,14 +97,15 @@ fn question_in(alloc: Global, name: &str, options: &ArgMatches<'_>) -> Result<Qu
     })
 }
 
-// Whether the subcommand with the given name takes the inputs that builds discovered without `--deps`.
+// Whether the subcommand with the given name joins the inputs that builds discovered even without
+// `--deps`.
 fn takes_deps(name: &str) -> bool
     ensures { result ≡ takes_deps name.now }
 {
     name == "stale"
 }
 
-// The options that name the graph, of the subcommand with the given name.
+// Returns the options that name the graph, of the subcommand with the given name.
 fn graph_in(alloc: Global, name: &str, options: &ArgMatches<'_>) -> Result<GraphOptions, AllocError>
     ensures { IfOk result (λ graph.
         asked_graph graph ≡ graph_in name.now (rows_in options.now)) }

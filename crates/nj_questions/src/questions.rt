@@ -13,7 +13,7 @@ pub struct Question {
 }
 
 impl Question {
-    /// Whether nothing is read for it, not even the directory of `-C`: the kinds of findings are listed.
+    /// Whether it reads nothing, not even the directory of `-C`: the kinds of findings are listed.
     pub fn reads_nothing(&self) -> bool
         ensures { result ≡ reads_nothing (subject_model self.now.subject) }
     {
@@ -23,7 +23,8 @@ impl Question {
         }
     }
 
-    /// The directory to change to before anything else: that of `-C`, unless nothing is read.
+    /// Returns the directory to change to before anything else: that of `-C`, unless nothing is
+    /// read.
     pub fn entered_folder(&self) -> Option<&str>
         ensures { option_copied result ≡ entered_folder (question_model self.entry.now) }
     {
@@ -33,14 +34,14 @@ impl Question {
         }
     }
 
-    /// Whether it takes standard input: `affected` and `tests` do.
+    /// Whether it reads standard input: `affected` and `tests` do.
     pub fn takes_input(&self) -> bool
         ensures { result ≡ takes_input (subject_model self.now.subject) }
     {
         matches!(self.subject, Subject::Affected(_) | Subject::Tests(_))
     }
 
-    /// Whether it takes the path of the working directory: `affected` and `tests` do, and so does
+    /// Whether it uses the path of the working directory: `affected` and `tests` do, and so does
     /// `audit`, unless nothing is read.
     pub fn takes_folder(&self) -> bool
         ensures { result ≡ takes_folder (subject_model self.now.subject) }
@@ -56,7 +57,7 @@ impl Question {
 /// The graph of a question.
 #[derive(Drop)]
 pub struct GraphOptions {
-    /// `-f FILE`: the main file's name; without that option `build.ninja`.
+    /// `-f FILE`: the main file's name; by default `build.ninja`.
     pub file: String,
     /// `--dyndep`: whether what dyndep files discover is joined.
     pub dyndep: bool,
@@ -66,7 +67,7 @@ pub struct GraphOptions {
     pub log: Option<String>,
 }
 
-/// What is asked, by subcommands. Targets, paths, names and marks are as they were given.
+/// What is asked, by subcommand. Targets, paths, names and marks are as on the command line.
 #[derive(Drop)]
 pub enum Subject {
     /// `affected`: the outputs that a change of files affects.
@@ -83,38 +84,39 @@ pub enum Subject {
     Stale(StaleOptions),
     /// `tests`: the tests that a change of files reaches.
     Tests(TestsOptions),
-    /// `why`: a chain by which a file needs another.
+    /// `why`: a chain by which a file needs another file.
     Why(WhyOptions),
 }
 
 /// The options of `affected`.
 #[derive(Drop)]
 pub struct AffectedOptions {
-    /// `--source-dir DIR`: the directories that changed paths may be in; without any, they are where
-    /// they say.
+    /// `--source-dir DIR`: the directories that changed paths may be in; without any, the paths are
+    /// used as they are.
     pub source_dirs: Vec<String>,
     /// `-z`: changed paths are each ended by a zero byte; without that option they are lines.
     pub zero_ended: bool,
     /// `--ignore GLOB`: the patterns of the changed paths that are ignored.
     pub ignored: Vec<String>,
-    /// `--rule NAME`: only outputs of edges with one of these rules; without any, of all edges.
+    /// `--rule NAME`: only outputs of edges with one of the given rules; without any, of all edges.
     pub rules: Vec<String>,
-    /// `--prefix TEXT`: only outputs whose paths begin so; without that option the empty text.
+    /// `--prefix TEXT`: only outputs whose paths begin with the text; by default it is empty.
     pub prefix: String,
-    /// `--no-phony`: no outputs of phony edges.
+    /// `--no-phony`: outputs of phony edges are left out.
     pub no_phony: bool,
     /// `--ignore-unknown`: paths that no edge names are not reported.
     pub ignore_unknown: bool,
-    /// `--allow-empty`: it is no caveat that no path is given.
+    /// `--allow-empty`: an empty list of paths is not a caveat.
     pub allow_empty: bool,
 }
 
 /// The options of `audit`.
 #[derive(Drop)]
 pub struct AuditOptions {
-    /// `--all`: each kind is found.
+    /// `--all`: all kinds are found.
     pub all: bool,
-    /// `--only KIND`: the words of the kinds to find; without any, those on by default.
+    /// `--only KIND`: the words of the kinds to find; without any, the kinds that are on by
+    /// default.
     pub only: Vec<String>,
     /// `--except KIND`: the words of kinds not to find.
     pub except: Vec<String>,
@@ -129,7 +131,7 @@ pub struct AuditOptions {
 pub struct DrawOptions {
     /// The files; without any, the default targets.
     pub targets: Vec<String>,
-    /// `--affected`: the edges that a change of the files affects, not those that they need.
+    /// `--affected`: the edges that a change of the files affects, instead of those that they need.
     pub affected: bool,
     /// `--fold`: each phony edge is a point.
     pub fold: bool,
@@ -146,16 +148,16 @@ pub struct KeysOptions {
     pub bases: Vec<String>,
     /// `--take N`: at most this many commands.
     pub take: Option<u64>,
-    /// `--resume MARK`: the text of the mark of the run before.
+    /// `--resume MARK`: the text of the mark of the previous run.
     pub resume: Option<String>,
-    /// The targets; without any, the default ones.
+    /// The targets; without any, the default targets.
     pub targets: Vec<String>,
 }
 
 /// The options of `stale`.
 #[derive(Drop)]
 pub struct StaleOptions {
-    /// The targets; without any, the default ones.
+    /// The targets; without any, the default targets.
     pub targets: Vec<String>,
     /// `--why`: each edge with its first reason.
     pub why: bool,
@@ -166,17 +168,17 @@ pub struct StaleOptions {
 /// The options of `tests`.
 #[derive(Drop)]
 pub struct TestsOptions {
-    /// Those of the change, as `affected` has them. It has none that choose outputs.
+    /// The options of the change, as for `affected`, without those that choose outputs.
     pub change: AffectedOptions,
     /// `--ctest FILE`: what `ctest --show-only=json-v1` wrote.
     pub ctest: String,
-    /// `--format FORMAT`: the word of how the tests are written.
+    /// `--format FORMAT`: the word for how the tests are written.
     pub format: Option<String>,
-    /// `--why`: a line has the reason too.
+    /// `--why`: each line has the reason too.
     pub why: bool,
     /// `--json`: tests are objects of JSON.
     pub json: bool,
-    /// `--unnamed WORD`: what becomes of the tests of which nothing is known.
+    /// `--unnamed WORD`: what to do with the tests of which nothing is known.
     pub unnamed: Option<String>,
 }
 
@@ -189,6 +191,6 @@ pub struct WhyOptions {
     pub to: String,
     /// `--validations`: validations are inputs too.
     pub validations: bool,
-    /// `--no-order-only`: chains go by no order-only input.
+    /// `--no-order-only`: chains do not use order-only inputs.
     pub no_order_only: bool,
 }

@@ -12,7 +12,7 @@ pub enum Refusal {
     OldOption,
     /// Help or the version is requested. The text is for standard output.
     Help(String),
-    /// `clap` does not take the arguments. The text is for standard error.
+    /// `clap` does not accept the arguments. The text is for standard error.
     Unparsed(String),
     /// An allocation failed.
     OutOfMemory,

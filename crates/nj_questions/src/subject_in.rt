@@ -11,7 +11,7 @@ use crate::questions::{
 use clap::ArgMatches;
 use std::alloc::{AllocError, Global};
 
-/// What the subcommand of this name asks.
+/// Returns what the subcommand with the given name asks.
 pub fn subject_in(
     alloc: Global,
     name: &str,

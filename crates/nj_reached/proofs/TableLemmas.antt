@@ -56,7 +56,7 @@ pub has-none : (old : List (List ℕ)) → HasMore old [] old
 has-none old name =
     sym (list_any-append (bytes_eq name) old [] ∙ or-none (is_among old name))
 
--- those that are left, where some of them were added
+-- the names that are left, where some of them were added
 pub step : (names new more left others all : List (List ℕ)) → left ≡ more ++ others → HasMore names more new
     → SameNames (names ++ left) all → SameNames (new ++ others) all
 step names new more left others all is has same name =
@@ -64,7 +64,7 @@ step names new more left others all is has same name =
     ∙ ap (λ ns. is_among ns name) (append_assoc names more others ∙ ap (λ ns. names ++ ns) (sym is))
     ∙ same name
 
--- none are left
+-- no names are left
 pub all-added : (old new more left : List (List ℕ)) → left ≡ [] → SameNames (new ++ left) (old ++ more)
     → HasMore old more new
 all-added old new more left none same name =

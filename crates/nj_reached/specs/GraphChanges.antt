@@ -21,13 +21,13 @@ full_paths folder paths = map (full_path folder) paths
 abbrev pub outputs_made : EdgePaths → List (List ℕ)
 outputs_made e = if e.is_phony then [] else outputs_of e
 
--- the outputs of the edges with these numbers
+-- the outputs of the edges with the given numbers
 abbrev pub outputs_at : List EdgePaths → (numbers : List ℕ) → List (List ℕ)
 outputs_at edges numbers = flat_map (λ edge. outputs_of (edge_at edges edge)) numbers
 
 -- ---- what counts in a directory
 
--- an edge has a value of `deps`: a compiler discovers inputs of it
+-- an edge has a value of `deps`: a compiler discovers its inputs
 abbrev pub has_deps : List ReadStatement → (edge : ℕ) → Bool
 has_deps entries edge = not (is_empty (late_text_of entries edge (codes "deps")))
 
@@ -35,7 +35,7 @@ has_deps entries edge = not (is_empty (late_text_of entries edge (codes "deps"))
 abbrev pub is_object : List ReadStatement → List EdgePaths → (edge : ℕ) → (output : List ℕ) → Bool
 is_object entries edges edge output = has_deps entries edge && not (is_empty (users_of edges output))
 
--- the outputs of an edge that count in a directory: those that its command makes and that are no objects
+-- the outputs of an edge that count in a directory: outputs that its command makes and that are not objects
 abbrev pub noticed_outputs : List ReadStatement → List EdgePaths → (edge : ℕ) → List (List ℕ)
 noticed_outputs entries edges edge =
     filter (λ output. not (is_object entries edges edge output)) (outputs_made (edge_at edges edge))
@@ -51,7 +51,7 @@ without others paths = filter (λ path. not (is_among others path)) paths
 -- ---- a change
 
 -- A change of files, as a graph has it. `folder`: the build directory; `roots`: it and the source directories; `changed`: the full
--- paths of the changed files; `files`: the paths of those that edges name; `touched`: the edges that the change touches.
+-- paths of the changed files; `files`: the paths of the changed files that edges name; `touched`: the edges that the change touches.
 pub record GraphChange : Type 0 where
   pub folder : List ℕ
   pub roots : List (List ℕ)
@@ -63,12 +63,12 @@ pub record GraphChange : Type 0 where
 abbrev pub noticed_affected : List ReadStatement → List EdgePaths → GraphChange → List (List ℕ)
 noticed_affected entries edges q = full_paths q.folder (flat_map (noticed_outputs entries edges) q.touched)
 
--- the changed files that count there: those that are not compiled
+-- the changed files that count in a directory: files that are not compiled
 abbrev pub noticed_changed : List ReadStatement → List EdgePaths → GraphChange → List (List ℕ)
 noticed_changed entries edges q = without (full_paths q.folder (filter (is_compiled entries edges) q.files)) q.changed
 
--- The same change by full paths. The affected outputs are those of the edges that the change touches; edges that need one of them, or
--- a changed file, do so by inputs of any kind.
+-- The same change by full paths. The affected outputs are the outputs of the edges that the change touches; an edge needs an affected
+-- output or a changed file by inputs of any kind.
 pub record IsChangeOf (g : GraphModel) (entries : List ReadStatement) (q : GraphChange) (c : BuildChange) : Type 0 where
   pub build : c.build ≡ q.folder
   pub roots : c.roots ≡ q.roots

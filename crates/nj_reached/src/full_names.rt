@@ -22,7 +22,7 @@ pub(crate) fn add_path(
     Ok(())
 }
 
-/// Adds those of files.
+/// Adds the full paths of files.
 pub(crate) fn add_files(
     alloc: Global,
     names: &mut Names,
@@ -37,7 +37,7 @@ pub(crate) fn add_files(
     Ok(())
 }
 
-/// Adds those of the outputs of an edge.
+/// Adds the full paths of the outputs of an edge.
 fn add_outputs(
     alloc: Global,
     names: &mut Names,
@@ -50,7 +50,7 @@ fn add_outputs(
     add_files(alloc, names, folder, edge.outputs())
 }
 
-/// Adds those of the outputs that the command of an edge makes.
+/// Adds the full paths of the outputs that the command of an edge makes.
 fn add_made(
     alloc: Global,
     names: &mut Names,
@@ -66,7 +66,7 @@ fn add_made(
     add_outputs(alloc, names, folder, edge)
 }
 
-/// Adds those of the outputs of edges.
+/// Adds the full paths of the outputs of edges.
 pub(crate) fn add_outputs_of(
     alloc: Global,
     names: &mut Names,
@@ -81,7 +81,7 @@ pub(crate) fn add_outputs_of(
     Ok(())
 }
 
-/// Adds those of the outputs of all edges.
+/// Adds the full paths of the outputs of all edges.
 pub(crate) fn add_all_outputs(
     alloc: Global,
     names: &mut Names,
@@ -97,7 +97,7 @@ pub(crate) fn add_all_outputs(
     Ok(())
 }
 
-/// Adds those of the outputs that commands make.
+/// Adds the full paths of the outputs that commands make.
 pub(crate) fn add_all_made(
     alloc: Global,
     names: &mut Names,

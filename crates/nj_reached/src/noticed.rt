@@ -33,7 +33,7 @@ pub(crate) fn add_noticed(
     add_others(names, changed, &compiled)
 }
 
-/// Adds the full paths of the outputs of these edges that count in a directory.
+/// Adds the full paths of the outputs of the given edges that count in a directory.
 fn add_noticed_outputs(
     alloc: Global,
     names: &mut Names,
@@ -114,7 +114,7 @@ fn add_if_unused(
     Ok(())
 }
 
-/// Adds the full paths of these files that are compiled.
+/// Adds the full paths of the given files that are compiled.
 fn add_compiled(
     alloc: Global,
     names: &mut Names,
@@ -165,7 +165,7 @@ fn is_compiled(alloc: Global, file: File<'_>) -> Result<bool, AllocError>
     Ok(false)
 }
 
-/// Adds those names of a table that are not in another one.
+/// Adds the names of a table that are not in another table.
 fn add_others(names: &mut Names, table: &Names, others: &Names) -> Result<(), AllocError>
     ensures { OnOk result (HasMore names.old (without others.now table.now) names.new) }
 {

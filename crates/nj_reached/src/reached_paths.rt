@@ -10,10 +10,10 @@ use nj_graph::{EdgeNo, FileNo, Graph};
 use nj_names::{HashKeys, Names};
 use std::alloc::{AllocError, Global};
 
-/// The full paths of a change of files, for [`nj_chosen::choose`]. The build directory is `folder`;
-/// it and the source directories are the `roots`. The full paths of the changed files are `changed`,
-/// and those that edges name have these numbers; the change touches these edges. The tables that
-/// are made have these keys.
+/// Returns the full paths of a change of files, for [`nj_chosen::choose`]. `folder` is the build
+/// directory; `roots` are the build directory and the source directories. `changed` are the full
+/// paths of the changed files, `files` the changed files that edges name, and `touched` the edges
+/// that the change touches. The tables that are made have the given keys.
 ///
 /// Takes time in proportion to the graph, and to the paths. Fails only if an allocation fails.
 pub fn changed_paths(
@@ -42,7 +42,7 @@ pub fn changed_paths(
     Ok(paths)
 }
 
-/// The paths of a change, before those of any output are known.
+/// Returns the paths of a change, before any paths of outputs are known.
 fn without_outputs(
     alloc: Global,
     keys: HashKeys,
@@ -62,7 +62,7 @@ fn without_outputs(
     }
 }
 
-/// Adds the paths of outputs, and those that count in a directory.
+/// Adds the paths of outputs, and the paths that count in a directory.
 fn fill(
     alloc: Global,
     keys: HashKeys,
@@ -95,8 +95,8 @@ fn fill(
     )
 }
 
-/// Adds the full paths of the outputs of edges that need one of these files, or an output of one of
-/// these edges, by inputs of any kind.
+/// Adds the full paths of the outputs of edges that need one of the given files, or an output of
+/// one of the given edges, by inputs of any kind.
 fn add_needing(
     alloc: Global,
     names: &mut Names,
@@ -118,7 +118,7 @@ fn add_needing(
     add_outputs_of(alloc, names, folder, graph.edges_at(&needers))
 }
 
-/// These files, and the outputs of these edges.
+/// Returns the given files, and the outputs of the given edges.
 fn with_outputs(
     alloc: Global,
     graph: &Graph,

@@ -6,8 +6,8 @@ use Rattle.nj_requests.specs.declared.actions.Action.{Action}
 use Rattle.nj_requests.specs.declared.actions.Action.TheVariants as action
 use Rattle.nj_requests.specs.declared.actions.Request.{Request}
 
--- `paths` are of targets or files, `names` of rules; `start` is the numbers of a mark; `validations`: the validations of the edges
--- that the targets need count as targets too
+-- `paths` are the paths of targets or files, `names` the names of rules; `start` has the numbers of a mark; `validations`: whether
+-- the validations of the edges that the targets need count as targets too
 pub data ActionModel : Type 0 where
   commands : (paths : List (List ℕ)) (validations : Bool) (take : Option ℕ) (start : List ℕ) → ActionModel
   single_commands : (paths : List (List ℕ)) → ActionModel
@@ -17,7 +17,7 @@ pub data ActionModel : Type 0 where
   rules : (descriptions : Bool) → ActionModel
   compdb : (names : List (List ℕ)) (directory : List ℕ) (expand : Bool) → ActionModel
 
--- `dyndep`: discoveries of dyndep files are joined first
+-- `dyndep`: whether discoveries of dyndep files are joined first
 pub record RequestModel : Type 0 where
   pub file : List ℕ
   pub from_stdin : Bool

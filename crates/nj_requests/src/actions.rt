@@ -27,7 +27,7 @@ pub enum Action {
         /// Whether the validations of the edges that the targets need count as targets too
         /// ("Validations").
         validations: bool,
-        /// At most this many commands.
+        /// The maximum number of commands, if it is limited.
         take: Option<u64>,
         start: Mark,
     },
@@ -46,21 +46,21 @@ pub enum Action {
     Targets {
         view: TargetsView,
     },
-    /// `query`: the files from which each file is made, and those made from it. There is at least
-    /// one file.
+    /// `query`: the files from which each given file is made, and the files made from it. At least
+    /// one file is given.
     Query {
         files: Vec<String>,
     },
     /// `rules`: the names of the rules.
     Rules {
-        /// With the description of each.
+        /// Whether the description of each rule is included.
         descriptions: bool,
     },
     /// `compdb`: a compilation database.
     Compdb {
-        /// The rules whose edges it has; without any, all rules.
+        /// The rules whose edges are included; if empty, all rules.
         rules: Vec<String>,
-        /// The directory that it names as that of each command.
+        /// The directory that it reports for each command.
         directory: String,
         /// Whether response files are expanded in the commands.
         expand: bool,

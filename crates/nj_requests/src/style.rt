@@ -1,13 +1,14 @@
 //! How `inputs` writes its list.
 
-/// How `inputs` writes its list ("Extra tools" in the Ninja manual). Without any option of the
-/// command line it is sorted, quoted for a shell, a line each.
+/// How `inputs` writes its list ("Extra tools" in the Ninja manual). By default the list is sorted
+/// and quoted for a shell, with one path per line.
 #[derive(Clone, Copy, Debug, PartialEq, Eq)]
 pub struct InputsStyle {
-    /// In the order of the edges that need them; else sorted by the bytes of the written texts.
+    /// Whether the paths are in the order of the edges that need them; otherwise they are sorted by
+    /// the bytes of the written texts.
     pub dependency_order: bool,
-    /// Each path is quoted for a shell; else it is written verbatim.
+    /// Whether each path is quoted for a shell; otherwise it is written verbatim.
     pub shell_escape: bool,
-    /// Each is followed by the byte 0; else by a line feed.
+    /// Whether each path is followed by the byte 0; otherwise it is followed by a line feed.
     pub zero: bool,
 }

@@ -56,7 +56,7 @@ module _ (held after : DeclarationsModel) (entries : List ReadStatement) (e : Re
   abbrev pub binding : ReadStatement
   binding = record e { item = BindingModel name word }
 
-  -- the value is the one of the list
+  -- the value is that of the list
   listed : value ≡ expanded (value_in (bound_at held.scopes) (scope_of e)) word.parts
       → value ≡ expanded (value_after entries (scope_of e)) word.parts
   listed is = is ∙ expanded-same (value_in (bound_at held.scopes) (scope_of e))

@@ -30,7 +30,7 @@ get-last xs y = slice_get-get_or (xs ++ y ∷ []) (length xs) y (simp length-app
     ∙ ap Some (get_or-append_seam xs y [] y)
 
 module _ {A : Type 0} (given : ReadStatement → List ReadStatement → StatementModel → Option A) where
-  -- a function that gives the same of other statements
+  -- a function with the same results for other statements
   pub gathered-map : (f : ReadStatement → ReadStatement)
       → ((e : ReadStatement) (before : List ReadStatement)
       → given (f e) (map f before) (f e).item ≡ given e before e.item)

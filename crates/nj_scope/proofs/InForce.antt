@@ -1,4 +1,4 @@
--- The rule that is in force under a name is one that was declared under it.
+-- A rule that is in force under a name was declared under it.
 use Rattle.std.proofs.Common.{◌≡◌, ◌⊎◌, ℕ, suc, ◌<◌, Bool, true, false, ◌&&◌, ◌==◌, if◌then◌else◌, List, []}
 use Rattle.std.proofs.Common.{◌∷◌, ◌++◌, map, length, Option, Some, None, unwrap_or, is_some, slice_get}
 use Rattle.std.proofs.Common.{bytes_eq, refl, sym, ap, ◌∙◌, true≢false, inl, inr, arith, eqb-true, IfSome}

@@ -146,7 +146,7 @@ numbered (l ∷ lines) key m h = by (last_of lines key) refl (numbered lines key
     by None none rest e = last none (bytes_eq key l.key) refl e
     by (Some x) is rest e = let r = rest m (is ∙ e) in (r.0, longer r.0 r.1 (has_key lines l.key), r.2)
 
--- and no other
+-- and only one number
 apart : (lines : List RuleLineModel) (i j : ℕ) (m o : RuleLineModel) → slice_get (last_lines lines) i ≡ Some m
     → slice_get (last_lines lines) j ≡ Some o → m.key ≡ o.key → i ≡ j
 unfolding last_lines
@@ -271,7 +271,7 @@ pub number_held : (lines : List RuleLine) (indexes : List ℕ) (n : ℕ) (key : 
     → HasKeyAt lines (slice_index indexes n) key → IsNumber (map line_held lines) key n
 number_held lines indexes n key are below h = grind (arith, length_held, map, key_held)
 
--- no line at these indexes has the key
+-- no line at the given indexes has the key
 abbrev pub NoneHas : List RuleLine → List ℕ → List ℕ → Type 0
 NoneHas lines indexes key = (n : ℕ) → n < length indexes → ¬ HasKeyAt lines (slice_index indexes n) key
 
@@ -346,7 +346,7 @@ line_next lines i line is =
     ∙ ap (λ m. m ∷ drop (i + 1) (map line_held lines))
     (get_or_from_slice_get (map line_held lines) i (line_held line) (line_held line) e)
 
--- one line further to the front, whose key no line after it has
+-- one line further to the front, whose key no later line has
 pub line_taken : (lines : List RuleLine) (last : List ℕ) (i : ℕ) (line : RuleLine)
     → slice_get lines i ≡ Some line
     → AreIndexes (map line_held lines) last (last_lines (drop (i + 1) (map line_held lines)))

@@ -3,7 +3,7 @@ use Rattle.std.specs.Prelude.{◌≡◌, ℕ, false, List, [], ◌∷◌}
 use Rattle.nj_manifest.specs.Statements.{StatementModel, RuleModel}
 use Rattle.nj_scope.specs.ReadingList.{ReadStatement, rules, is_declared}
 
--- A rule is new where its scope declares none of its name yet; one called `phony` never is.
+-- A rule is new if its scope does not declare a rule of its name yet; a rule called `phony` is never new.
 abbrev pub RuleIsNew : List ReadStatement → (number : ℕ) → StatementModel → Type 0
 RuleIsNew before number (RuleModel name lines) = is_declared (rules before number name.name) name.name ≡ false
 RuleIsNew before number item = Unit {0}

@@ -17,7 +17,7 @@ reading_of-push_old (d ∷ done) r path h = by (bytes_eq path d.path) (reading_o
     by true rest h = refl
     by false rest h = rest h
 
--- of a path that was not read, the new reading counts
+-- for a path that was not read, the new reading is used
 pub reading_of-push_new : (done : List Reading) (r : Reading) (path : List ℕ) → is_read done path ≡ false
     → reading_of (done ++ r ∷ []) path ≡ reading_of (r ∷ []) path
 reading_of-push_new [] r path h = refl

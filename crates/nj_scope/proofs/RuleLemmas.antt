@@ -23,7 +23,7 @@ key-pushed keys after k absent is = grind (arith, common_steps)
 pub or_false : (a b : Bool) → (a || b) ≡ false → b ≡ false
 or_false a b h = grind arith
 
--- a name of no pool is none of those that were declared
+-- a name without a pool is not among the declared names
 pub none-declared : (keys : List (Vec ℕ)) (declared : List (List ℕ)) (name key : List ℕ)
     → map (λ k. k.items) keys ≡ declared → key ≡ name → is_pool declared name ≡ false
     → list_any (λ k. bytes_eq key k.items) keys ≡ false

@@ -18,7 +18,7 @@ use Rattle.nj_scope.proofs.NewRules.{RuleIsNew, EachRuleIsNew}
 use Rattle.nj_scope.proofs.DeclarationLemmas.{rules-kept}
 use Rattle.nj_scope.proofs.RuleLemmas.{or_false}
 
--- the names of one rule, where it is of the scope
+-- the name of a rule, if the rule belongs to the scope
 abbrev one_name : (own : Bool) → (name : List ℕ) → List (List ℕ)
 one_name true name = name ∷ []
 one_name false name = []
@@ -102,7 +102,7 @@ listed-more before number e (IncludeModel word) name rest =
 listed-more before number e (SubninjaModel word) name rest =
     no_rule before (record e { item = SubninjaModel word }) number name rest (λ x. refl)
 
--- a name is taken in a scope where it is one of its names
+-- a name is taken in a scope if it is one of the scope's names
 pub is_declared-listed : (entries : List ReadStatement) (number : ℕ) (name : List ℕ)
     → is_declared (rules entries number name) name ≡ names_have (rules_read entries) number name
 is_declared-listed [] number name = by (number == 0)
@@ -153,7 +153,7 @@ distinct-with before number e (DefaultModel words) is_new rest = rest
 distinct-with before number e (IncludeModel word) is_new rest = rest
 distinct-with before number e (SubninjaModel word) is_new rest = rest
 
--- Where each rule was new, no two rules of a scope have one name, and none is called `phony`.
+-- If each rule was new, no two rules of a scope have the same name, and no rule is called `phony`.
 pub names-distinct : (entries : List ReadStatement) → EachRuleIsNew entries → (number : ℕ)
     → IsDistinct bytes_eq (rule_names (rules_read entries) number)
 unfolding IsDistinct

@@ -234,7 +234,7 @@ module _ (items : List Scope) (i : ℕ) (s t : Scope) (inside : i < length (map 
       → at_scope f (map scope_model items) i ≡ f (scope_model s)
   at_scope-text f = ap (option_and_then f) here-text
 
-  -- another scope in place of this one
+  -- another scope in place of the given one
   pub earlier-set_text : t.parent ≡ s.parent → ParentsAreEarlier (map scope_model items)
       → ParentsAreEarlier (map scope_model (slice_set items i t))
   earlier-set_text within earlier =

@@ -25,7 +25,7 @@ pub left-falls : (n : ℕ) (parent : Option ℕ) → IfSome parent (λ p. p < n)
 left-falls n parent earlier = grind arith
 
 module _ {X : Type 0} where
-  -- a look-up in the scopes that are left has the result of one in all of them
+  -- a look-up in the scopes that are left has the result of a look-up in all scopes
   abbrev pub LooksFrom : (own : ℕ → Option X) → List ScopeModel → (found : Option X) → Option ℕ → Type 0
   LooksFrom own scopes found None = found ≡ None
   LooksFrom own scopes found (Some n) = (around : List ℕ) × IsScope (parent_at scopes) n around
@@ -53,7 +53,7 @@ module _ {X : Type 0} where
     looks-found x n still here around is =
         found_here (first_given own around) x n here (still.looks around is)
 
-    -- a scope in which it is not
+    -- a scope in which it is not found
     looks_beyond : (found : Option X) (n : ℕ) (parent : Option ℕ) → parent_at scopes n ≡ parent → own n ≡ None
         → LooksFrom own scopes found (Some n) → LooksFrom own scopes found parent
     looks_beyond found n None p nothing (_, outermost none, is) = is ∙ ap (λ o. option_or o None) nothing

@@ -1,4 +1,4 @@
--- Lemmas on the readings of a source, for those who read several files.
+-- Lemmas on the readings of a source, for code that reads several files.
 use Rattle.std.proofs.lemmas.Grind.{common_steps}
 use Rattle.std.proofs.Common.{rules, arith, ◌≡◌, ℕ, List, [], ◌∷◌, ◌++◌, Option, option_map, true}
 use Rattle.std.proofs.Common.{Ok}
@@ -14,7 +14,7 @@ use Rattle.nj_scope.proofs.ReadingLemmas.{bytes_in-push_new, is_read-push_new}
 nothing_added : (reported : Option (List Reading)) → reported ≡ option_map (λ rs. rs ++ []) reported
 nothing_added reported = search rules
 
--- nothing was read of a source that is unchanged
+-- nothing was read from an unchanged source
 pub HasRead-nothing : (source : SourceState) → HasRead source source []
 HasRead-nothing source = search rules
 

@@ -48,7 +48,7 @@ module _ {Z : Type 0} where
       by true rest = refl
       by false rest = rest
 
-  -- a path that is none of the keys was not read
+  -- a path that is not among the keys was not read
   not_read : (k : Vec ℕ) (es : List (Vec ℕ × Option (RcSlice ℕ Z)))
       → AllByRecursion (λ y. same_name k y ≡ false) (keys_of es)
       → is_read (map kept_reading es) k.items ≡ false

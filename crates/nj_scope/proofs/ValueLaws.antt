@@ -19,7 +19,7 @@ none_here : (e : ReadStatement) (number : ℕ) (name : List ℕ) (value : List �
     → (number == e.scope && binds_name e.item name) ≡ false → binds_in number e value name ≡ None
 none_here e number name value h = grind arith
 
--- statements that do not bind the name change nothing of it
+-- statements that do not bind the name leave its value unchanged
 passed : (after before : List ReadStatement) (number : ℕ) (name : List ℕ) → NoneBinds after number name
     → bounds (after ++ before) number name ≡ bounds before number name
 unfolding bounds

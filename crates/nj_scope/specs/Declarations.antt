@@ -13,8 +13,8 @@ pub record DeclarationsModel : Type 0 where
   pub rules : List RuleModel
   pub pools : List (List ℕ)
 
--- It has the declarations of these statements, the last read first: each scope has the bindings that they have there,
--- and declares the rules that they declare there; there are as many scopes, and the same rules and pools.
+-- It has the declarations of the given statements, the last read first: each scope has the bindings and declares the
+-- rules of the statements in it; there are as many scopes as the statements open, and the rules and pools are theirs.
 pub record DeclaredBy (held : DeclarationsModel) (entries : List list.ReadStatement) : Type 0 where
   pub bound : (number : ℕ) (name : List ℕ) → bound_at held.scopes number name ≡ list.bounds entries number name
   pub declared : (number : ℕ) (name : List ℕ) → rule_at held.scopes number name ≡ list.rules entries number name
@@ -22,7 +22,7 @@ pub record DeclaredBy (held : DeclarationsModel) (entries : List list.ReadStatem
   pub rules : held.rules ≡ list.rules_read entries
   pub pools : held.pools ≡ list.pools entries
 
--- One more statement: it is in the scope with the given number, within those around it, wherever in the files.
+-- One more statement: it is in the scope with the given number, within the scopes around it, wherever in the files.
 abbrev pub TakesIn : (old new : DeclarationsModel) → (number : ℕ) → (around : List ℕ) → StatementModel → Type 0
 TakesIn old new number around item =
     (entries : List list.ReadStatement) (file : List ℕ) (spot : Spot) (depth : ℕ) → DeclaredBy old entries
@@ -41,7 +41,7 @@ TakesIn old new number around item =
 abbrev pub Keeps : (old new : DeclarationsModel) → Type 0
 Keeps old new = (entries : List list.ReadStatement) → DeclaredBy old entries → DeclaredBy new entries
 
--- There are the same scopes, each within the same one.
+-- The scopes are the same, each within the same parent.
 pub record SameScopes (old new : DeclarationsModel) : Type 0 where
   pub count : length new.scopes ≡ length old.scopes
   pub parents : (n : ℕ) → parent_at new.scopes n ≡ parent_at old.scopes n

@@ -9,7 +9,7 @@ pub record Added : Type 0 where
   pub bytes : List ℕ
 
 -- the files in the order in which they were added, their readings, how often a reading failed, and which of the next
--- readings will fail, the first being 1; 0: none
+-- readings will fail, counted from 1; 0 for none
 pub record Memory : Type 0 where
   pub added : List Added
   pub readings : List Reading

@@ -22,7 +22,7 @@ pub record ReadStatement : Type 0 where
   pub file : List ℕ
   -- the place of its first byte in the file
   pub spot : Spot
-  -- how many files are open around that file; around the main file there is none
+  -- how many files are open around that file; 0 for the main file
   pub depth : ℕ
   -- its scope, and the scopes around it, the nearest first, by their numbers
   pub scope : ℕ
@@ -30,16 +30,16 @@ pub record ReadStatement : Type 0 where
   pub item : StatementModel
   -- whether a dyndep file was joined to it
   pub was_joined : Bool
-  -- all that was discovered for it, by dyndep files and by deps logs; `None` as long as nothing was
+  -- all that was discovered for it, by dyndep files and by deps logs; `None` until something is
   pub discovered : Option Discovered
 
--- its scope, with those around it
+-- its scope, with the scopes around it
 abbrev pub scope_of : ReadStatement → List ℕ
 scope_of e = e.scope ∷ e.around
 
 -- ---- values
 
--- the value that a statement binds to a name, where the names in its value have these values
+-- the value that a statement binds to a name, where the names in its value have the given values
 abbrev pub binds : (value : List ℕ → List ℕ) → StatementModel → (name : List ℕ) → Option (List ℕ)
 binds value (BindingModel bound word) name = if bytes_eq name bound then Some (expanded value word.parts) else None
 binds value item name = None
@@ -54,11 +54,11 @@ unfoldable pub bounds : List ReadStatement → Bounds
 bounds [] number name = None
 bounds (e ∷ before) number name = option_or (binds_in number e (value_in (bounds before) (scope_of e)) name) (bounds before number name)
 
--- the value of a name in a scope, after these statements
+-- the value of a name in a scope, after the given statements
 abbrev pub value_after : List ReadStatement → (scope name : List ℕ) → List ℕ
 value_after entries scope name = value_in (bounds entries) scope name
 
--- the same, where `None` means that neither the scope nor one around it binds the name
+-- the same, or `None` if neither the scope nor a scope around it binds the name
 abbrev pub value_if_bound : List ReadStatement → (scope name : List ℕ) → Option (List ℕ)
 value_if_bound entries scope name = first_given (λ s. bounds entries s name) scope
 
@@ -95,12 +95,12 @@ rules [] number name = None
 rules (e ∷ before) number name =
     option_or (if number == e.scope && declares e.item name then Some (length (rules_read before)) else None) (rules before number name)
 
--- whether a name is taken, where its own scope has this rule of the name; `phony` is always there
+-- whether a name is taken, given the rule that its own scope declares under it; `phony` is always taken
 abbrev pub is_declared : Option ℕ → (name : List ℕ) → Bool
 is_declared own name = bytes_eq name phony || is_some own
 
--- The number of the rule that is in force under a name in a scope, after these statements: of `phony` 0, of another name that
--- of the nearest scope which declares a rule under it.
+-- The number of the rule that is in force under a name in a scope, after the given statements: 0 for `phony`, otherwise
+-- that of the nearest scope which declares a rule under the name.
 abbrev pub rule_in_force : List ReadStatement → (scope name : List ℕ) → Option ℕ
 rule_in_force entries scope name = if bytes_eq name phony then Some 0 else first_given (λ s. rules entries s name) scope
 

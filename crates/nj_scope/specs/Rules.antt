@@ -19,7 +19,7 @@ pub record RuleModel : Type 0 where
 abbrev pub line_kept : LineModel → RuleLineModel
 line_kept l = record { key = l.name; value = l.value.parts }
 
--- the rule `phony`, which is always there; it has no lines
+-- the rule `phony`, which always exists; it has no lines
 abbrev pub phony : List ℕ
 phony = codes "phony"
 

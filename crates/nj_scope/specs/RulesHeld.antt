@@ -28,7 +28,7 @@ abbrev pub KeysAreNumbered : List RuleLineModel → Type 0
 KeysAreNumbered lines = (key : List ℕ) (value : List PartModel) → given lines key ≡ Some value
     → (number : ℕ) × (number < key_count lines) × (key_at lines number ≡ key)
 
--- and no other
+-- and only one number
 abbrev pub NumbersDiffer : List RuleLineModel → Type 0
 NumbersDiffer lines = (m n : ℕ) → m < key_count lines → n < key_count lines → key_at lines m ≡ key_at lines n → m ≡ n
 

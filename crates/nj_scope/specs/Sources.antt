@@ -19,8 +19,8 @@ pub record SourceState : Type 0 where
 abbrev pub IsAsGiven : SourceState → Reading → Type 0
 IsAsGiven source r = IfSome (source.files r.path) (λ meant. r.bytes ≡ meant)
 
--- These were read from the source: it reports exactly them after the earlier ones, they are as it declared, and it declares the same
--- of its files as before.
+-- The given readings were made from the source: it reports exactly them after its earlier readings, they are as it
+-- declared, and it declares the same of its files as before.
 pub record HasRead (before after : SourceState) (readings : List Reading) : Type 0 where
   pub reported : after.readings ≡ option_map (λ rs. rs ++ readings) before.readings
   pub as_given : AllByRecursion (IsAsGiven before) readings
@@ -35,7 +35,7 @@ pub record Rises (before after : ℕ) : Type 0 where
 abbrev pub outcome_bytes : Option (Vec ℕ) → Option (List ℕ)
 outcome_bytes outcome = option_map (λ v. v.items) outcome
 
--- A call of `read`: a result is one more reading, and a refusal is none. Each `Io` is counted, and nothing else is.
+-- A call of `read`: a result is one more reading, and a refusal is not a reading. Only `Io` is counted, each time.
 abbrev pub ReadsPath : (before after : SourceState) → (path : List ℕ) → Result (Option (Vec ℕ)) SourceFault → Type 0
 ReadsPath before after path (Ok outcome) =
     HasRead before after (record { path = path; bytes = outcome_bytes outcome } ∷ []) × (after.failures ≡ before.failures)

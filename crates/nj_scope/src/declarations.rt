@@ -43,8 +43,8 @@ impl Model for Declarations {
 }
 
 impl Declarations {
-    /// Before any statement: there is the main file's scope, 0, the rule `phony`, 0, and the pool
-    /// `console`. Names are hashed by these keys.
+    /// The declarations before any statement: the main file's scope, 0, the rule `phony`, 0, and
+    /// the pool `console`. Names are hashed by the given keys.
     pub fn new(alloc: Global, keys: HashKeys) -> Result<Declarations, AllocError>
         ensures nothing { IfOk result (λ d. DeclaredBy d []) }
         ensures outermost { IfOk result (λ d. parent_at d.scopes 0 ≡ None) }
@@ -86,8 +86,9 @@ impl Declarations {
         self.scopes.bind(scope, name, value)
     }
 
-    /// Declares a rule in this scope. Returns `false`, and changes nothing, if the scope has a rule
-    /// of the name already, and for `phony`, which is always there ("Rules" in the Ninja manual).
+    /// Declares a rule in the given scope. Returns `false`, and changes nothing, if the scope
+    /// already has a rule of that name, and for `phony`, which always exists ("Rules" in the Ninja
+    /// manual).
     pub fn declare_rule(
         &mut self,
         alloc: Global,
@@ -117,8 +118,8 @@ impl Declarations {
         Ok(true)
     }
 
-    /// Declares a pool. Returns `false`, and changes nothing, if there is a pool of the name
-    /// already ("Pools" in the Ninja manual).
+    /// Declares a pool. Returns `false`, and changes nothing, if a pool of that name already exists
+    /// ("Pools" in the Ninja manual).
     pub fn declare_pool(&mut self, name: &[u8]) -> Result<bool, AllocError>
         ensures is_new { IfOk result (λ is_new. is_new ≡ not (is_pool self.old.pools name.now)) }
         ensures declared { (number : ℕ) (around : List ℕ) (spot : Spot) (lines : List LineModel)
@@ -132,7 +133,8 @@ impl Declarations {
         self.pools.declare(name)
     }
 
-    /// Opens a scope for a `subninja` in this one. Returns its number, which is the next one.
+    /// Opens a scope for a `subninja` in the given scope. Returns its number, which is the next
+    /// one.
     pub fn open(&mut self, parent: ScopeNo) -> Result<ScopeNo, AllocError>
         requires { parent.0 < length self.old.scopes }
         ensures number { IfOk result (λ n. n.0 ≡ length self.old.scopes) }
@@ -193,8 +195,8 @@ impl Declarations {
         self.scopes.value(scope, name)
     }
 
-    /// The value of the name in this scope, by the bindings so far: its value in the nearest scope,
-    /// itself or around it, that binds the name. `None` if none does.
+    /// Returns the value of the name in the given scope, by the bindings so far: its value in the
+    /// nearest scope, itself or around it, that binds the name; `None` if no scope does.
     pub fn value_if_bound(&self, scope: ScopeNo, name: &[u8]) -> Option<&[u8]>
         requires { scope.0 < length self.now.scopes }
         ensures { (entries : List ReadStatement) (around : List ℕ) → DeclaredBy self.now entries
@@ -214,7 +216,7 @@ impl Declarations {
         self.scopes.count()
     }
 
-    /// Whether there is a pool with the given name; `console` is always there.
+    /// Whether there is a pool with the given name; `console` always exists.
     pub fn has_pool(&self, name: &[u8]) -> bool
         ensures { result ≡ is_pool self.now.pools name.now }
     {
@@ -228,17 +230,17 @@ impl Declarations {
         self.pools.count()
     }
 
-    /// The name of the pool at this index, in the order in which they were declared; `None` past
-    /// the last one.
+    /// Returns the name of the pool at the given index, in the order of declaration, or `None` past
+    /// the last pool.
     pub fn pool_name(&self, index: usize) -> Option<&[u8]>
         ensures { option_copied result ≡ slice_get self.now.pools index }
     {
         self.pools.name(index)
     }
 
-    /// The number of the rule that is in force under the name in this scope: its own, else the rule
-    /// of the nearest scope around it that declares one. `phony` is always there. `None` if there
-    /// is none.
+    /// Returns the number of the rule that is in force under the name in the given scope, or
+    /// `None`: the scope's own rule, else the rule of the nearest scope around it that declares
+    /// one. `phony` always exists.
     pub fn rule(&self, scope: ScopeNo, name: &[u8]) -> Option<RuleNo>
         requires { scope.0 < length self.now.scopes }
         ensures in_force { (entries : List ReadStatement) (around : List ℕ)

@@ -75,7 +75,7 @@ impl LateValue {
     }
 
     /// The value as a text, not expanded: a name is written in `${` and `}`, and an escape as the
-    /// byte that it means.
+    /// byte that it stands for.
     pub fn written(&self, alloc: Global) -> Result<Vec<u8>, AllocError>
         ensures { IfOk result (λ text. text.items ≡ parts_written self.now) }
     {

@@ -2,9 +2,9 @@
 
 ghost use Rattle.nj_scope.specs.Cited.{LastBindingCounts, OthersAreInherited, OthersKeepTheirs, InForceIsDeclared, IsInReadingOrder, gathered, rule_given, pool_given, scope_given, path_named};
 
-/// The value of a name, by the statements that were read: the last binding of its own scope counts,
-/// with the values that names had before it; without one the scopes around count; and no scope
-/// changes the bindings of another.
+/// The value of a name, by the statements that were read: the last binding in its own scope wins,
+/// with the values that names had before it; without a binding there, the scopes around it decide;
+/// and no scope changes the bindings of another.
 pub fn values_by_reading_order()
     ensures last_counts { LastBindingCounts }
     ensures inherited { OthersAreInherited }
@@ -17,9 +17,9 @@ pub fn rules_in_force()
     ensures { InForceIsDeclared }
 {}
 
-/// The rules that are declared, the pools, the scopes that are opened and the paths of opened files,
-/// in reading order: the k-th is that of the k-th statement that has one, by the statements before
-/// it, and there are no others.
+/// The rules that are declared, the pools, the scopes that are opened and the paths of opened
+/// files, in reading order: the k-th is that of the k-th statement that declares or opens one, by
+/// the statements before it, and there are no others.
 pub fn lists_by_reading_order()
     ensures rules { IsInReadingOrder rule_given (gathered rule_given) }
     ensures pools { IsInReadingOrder pool_given (gathered pool_given) }

@@ -13,7 +13,7 @@ struct MemoryFile {
     bytes: Vec<u8>,
 }
 
-// One reading: the bytes that were answered, or `None` if no file was there.
+// One reading: the bytes that were returned, or `None` if no file was there.
 #[derive(Drop)]
 struct MemoryReading {
     path: String,
@@ -47,7 +47,7 @@ impl Model for MemoryFiles {
 }
 
 impl MemoryFiles {
-    /// No files. It allocates nothing.
+    /// No files yet. Allocates nothing.
     pub fn new(alloc: Global) -> MemoryFiles
         ensures { result ≡ record { added = []; readings = []; failures = 0; due = 0 } }
     {
@@ -60,7 +60,7 @@ impl MemoryFiles {
         }
     }
 
-    /// Adds a file. If a name is added again, the last bytes count.
+    /// Adds a file. If a name is added again, the last bytes win.
     pub fn add(&mut self, name: &str, bytes: &[u8]) -> Result<(), AllocError>
         ensures added { OnOk result (self.new ≡ record self.old {
           added = self.old.added ++ record { name = name.now; bytes = bytes.now } ∷ [];
@@ -76,7 +76,7 @@ impl MemoryFiles {
         Ok(())
     }
 
-    /// Makes the `n`th reading from now on fail, and that one alone; 0: none.
+    /// Makes the `n`th reading from now on fail, and only that one; 0 for none.
     pub fn fail_at(&mut self, n: u64)
         ensures { self.new ≡ record self.old { due = n } }
     {
@@ -98,14 +98,14 @@ impl FileSource for MemoryFiles {
     ghost state = { λ m. memory_state m };
 
     fn read(&mut self, alloc: Global, path: &str) -> Result<Option<Vec<u8>>, SourceFault>
-        // It fails by `Io` when that is due, and only then.
+        // It fails with `Io` when that is due, and only then.
         ensures fails_when_due { IsErrOf result SourceFault.Io ↔ (self.old.due ≡ 1) }
 
         // It returns the bytes that were added last.
         ensures outcome { IfOk result (λ outcome.
             outcome_bytes outcome ≡ bytes_added self.old.added path.now) }
 
-        // Counts an outcome. Each comes one nearer to the reading that fails.
+        // Counts an outcome. Each outcome brings the failing reading one nearer.
         ensures answered { IfOk result (λ outcome. self.new ≡ record self.old {
           readings = self.old.readings
               ++ record { path = path.now; bytes = outcome_bytes outcome } ∷ [];

@@ -8,8 +8,8 @@ use nj_names::HashKeys;
 use std::alloc::{AllocError, Global};
 use std::marker::Model;
 
-/// The pools that were declared, by name; `console` is always there ("Pools" in the Ninja manual).
-/// They belong to no scope: a name is declared once in a run.
+/// The pools that were declared, by name; `console` always exists ("Pools" in the Ninja manual).
+/// They do not belong to a scope: a name is declared once in a run.
 #[derive(Drop)]
 pub(crate) struct Pools {
     alloc: Global,
@@ -25,7 +25,7 @@ impl Model for Pools {
 }
 
 impl Pools {
-    /// Only `console`. It allocates nothing.
+    /// Only `console`. Allocates nothing.
     pub fn new(alloc: Global, keys: HashKeys) -> Pools
         ensures { result ≡ [] }
     {
@@ -49,8 +49,8 @@ impl Pools {
         self.names.len()
     }
 
-    /// The name of the one at this index, in the order in which they were declared; `None` past the
-    /// last one.
+    /// Returns the name of the pool at the given index, in the order of declaration, or `None` past
+    /// the last pool.
     pub fn name(&self, index: usize) -> Option<&[u8]>
         ensures { option_copied result ≡ slice_get self.now index }
     {
@@ -60,7 +60,8 @@ impl Pools {
         }
     }
 
-    /// Declares a pool. Returns `false`, and changes nothing, if one of the name is there already.
+    /// Declares a pool. Returns `false`, and changes nothing, if a pool of that name already
+    /// exists.
     pub fn declare(&mut self, name: &[u8]) -> Result<bool, AllocError>
         ensures is_new { IfOk result (λ is_new. is_new ≡ not (is_pool self.old name.now)) }
         ensures declared { IfOk result (λ is_new.

@@ -51,8 +51,7 @@ impl Model for Rule {
 }
 
 impl Rule {
-    /// A rule with the given name, with these lines, which the scope with the given number
-    /// declares.
+    /// A rule with the given name and lines, declared by the scope with the given number.
     pub fn new(
         alloc: Global,
         scope: ScopeNo,
@@ -101,7 +100,7 @@ impl Rule {
         self.lines.len()
     }
 
-    /// The key of the line at this index. Lines are in the order in which they were written.
+    /// The key of the line at the given index. Lines are in the order in which they were written.
     pub fn line_key(&self, index: usize) -> &[u8]
         requires { index < length self.now.lines }
         ensures { option_map (λ l. l.key) (slice_get self.now.lines index) ≡ Some result.now }
@@ -109,7 +108,7 @@ impl Rule {
         self.lines[index].key.as_slice()
     }
 
-    /// The value of the line at this index, also of one whose key a later line has too.
+    /// The value of the line at the given index, even if a later line has the same key.
     pub fn line_value(&self, index: usize) -> &LateValue
         requires { index < length self.now.lines }
         ensures { option_map (λ l. l.value) (slice_get self.now.lines index) ≡ Some result.now }
@@ -134,8 +133,7 @@ impl Rule {
         line_at(&self.lines, &self.last, number).key.as_slice()
     }
 
-    /// The value of the key with the given number: the value of its last line, since the last one
-    /// counts.
+    /// The value of the key with the given number: the value of its last line, which wins.
     pub fn key_value(&self, number: usize) -> &LateValue
         requires { number < key_count self.now.lines }
         ensures { given self.now.lines (key_at self.now.lines number) ≡ Some result.now }
@@ -143,7 +141,8 @@ impl Rule {
         &line_at(&self.lines, &self.last, number).value
     }
 
-    /// The number of a key. `None` if no line has it. Takes time linear in the different keys.
+    /// Returns the number of a key, or `None` if no line has it. Takes time linear in the different
+    /// keys.
     pub fn key_number(&self, key: &[u8]) -> Option<usize>
         ensures some { IfSome result (IsNumber self.now.lines key.now) }
         ensures none { IfNone result (given self.now.lines key.now ≡ None) }
@@ -151,8 +150,8 @@ impl Rule {
         number_among(&self.lines, &self.last, key)
     }
 
-    /// The value of a key: the value of the last line with the key, since the last one counts.
-    /// `None` if there is none.
+    /// Returns the value of a key: the value of the last line with the key, which wins, or `None`
+    /// if no line has it.
     pub fn value(&self, key: &[u8]) -> Option<&LateValue>
         ensures { option_copied result ≡ given self.now.lines key.now }
     {
@@ -163,7 +162,7 @@ impl Rule {
     }
 }
 
-// The line whose index is at this place.
+// The line whose index is at the given place.
 fn line_at<'a>(lines: &'a [RuleLine], indexes: &[usize], place: usize) -> &'a RuleLine
     requires place { place < length indexes.now }
     requires index { slice_index indexes.now place < length lines.now }

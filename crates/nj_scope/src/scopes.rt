@@ -95,7 +95,7 @@ impl Scopes {
         Ok(number)
     }
 
-    /// Binds the name in this scope, in place of an earlier value there.
+    /// Binds the name in the given scope, in place of an earlier value there.
     pub fn bind(&mut self, scope: ScopeNo, name: &[u8], value: Vec<u8>) -> Result<(), AllocError>
         requires { scope.0 < length self.old }
         ensures bound { OnOk result ((n : ℕ) (x : List ℕ) → bound_at self.new n x
@@ -110,7 +110,8 @@ impl Scopes {
         set_value(self.alloc, &mut self.scopes[scope.0].values, name, value)
     }
 
-    /// Declares the rule with the given number under a name for which this scope declares none yet.
+    /// Declares the rule with the given number under a name for which the scope declares no rule
+    /// yet.
     pub fn declare(&mut self, scope: ScopeNo, name: &[u8], rule: RuleNo) -> Result<(), AllocError>
         requires scope { scope.0 < length self.old }
         requires new { rule_at self.old scope.0 name.now ≡ None }
@@ -127,8 +128,8 @@ impl Scopes {
         Ok(())
     }
 
-    /// The number of the rule that this scope declares under the name, else the rule of the nearest
-    /// scope around it that declares one.
+    /// Returns the number of the rule that the given scope declares under the name, else of the
+    /// rule of the nearest scope around it that declares one, or `None`.
     pub fn rule(&self, scope: ScopeNo, name: &[u8]) -> Option<RuleNo>
         requires { scope.0 < length self.now }
         ensures { (around : List ℕ) → IsScope (parent_at self.now) scope.0 around
@@ -145,8 +146,8 @@ impl Scopes {
         None
     }
 
-    /// The value of the name in this scope: its own, else its value in the nearest scope around it
-    /// that binds the name. An unknown name is empty.
+    /// The value of the name in the given scope: its own, else its value in the nearest scope
+    /// around it that binds the name. An unknown name is empty.
     pub fn value(&self, scope: ScopeNo, name: &[u8]) -> &[u8]
         requires { scope.0 < length self.now }
         ensures { (around : List ℕ) → IsScope (parent_at self.now) scope.0 around
@@ -158,8 +159,8 @@ impl Scopes {
         }
     }
 
-    /// The value of the name in this scope: its own, else its value in the nearest scope around it
-    /// that binds the name. `None` if none does.
+    /// Returns the value of the name in the given scope: its own, else its value in the nearest
+    /// scope around it that binds the name; `None` if no scope does.
     pub fn value_if_bound(&self, scope: ScopeNo, name: &[u8]) -> Option<&[u8]>
         requires { scope.0 < length self.now }
         ensures { (around : List ℕ) → IsScope (parent_at self.now) scope.0 around
@@ -194,7 +195,7 @@ impl Scopes {
         self.scopes[scope.0].rules.get(name).copied()
     }
 
-    // The scope around this one.
+    // The scope around the given one.
     fn parent(&self, scope: ScopeNo) -> Option<ScopeNo>
         requires { scope.0 < length self.now }
         ensures parent { option_map (λ p. p.0) result ≡ parent_at self.now scope.0 }

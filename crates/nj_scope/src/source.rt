@@ -9,12 +9,12 @@ use std::alloc::{AllocError, AllocFailed, Global};
 use std::error::Error;
 use std::fmt;
 
-/// Why a file could not be read. That there is no file at a path is not a fault.
+/// Why a file could not be read. A missing file is not a fault.
 #[derive(Clone, Copy, Debug, PartialEq, Eq)]
 pub enum SourceFault {
-    /// The file is there, or may be, and reading it failed.
+    /// The file exists, or may exist, and reading it failed.
     Io,
-    /// There was no memory for the bytes.
+    /// Memory for the bytes ran out.
     OutOfMemory,
 }
 
@@ -57,7 +57,7 @@ pub trait FileSource {
     // The state of the source, as far as it can be known.
     ghost state: { Self → SourceState };
 
-    /// The bytes of the file at `path`, or `None` if no file is there.
+    /// Returns the bytes of the file at `path`, or `None` if no file is there.
     ///
     /// # Errors
     ///

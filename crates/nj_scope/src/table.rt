@@ -29,7 +29,7 @@ impl Model for FileTable {
 }
 
 impl FileTable {
-    /// A table of no file, whose paths are hashed by these keys. It allocates nothing.
+    /// An empty table. Paths are hashed by the given keys. Allocates nothing.
     pub fn new(alloc: Global, keys: HashKeys) -> FileTable
         ensures { result ≡ [] }
     {
@@ -46,8 +46,8 @@ impl FileTable {
         self.files.len()
     }
 
-    /// The path at this index, in the order in which the paths were first read; `None` past the
-    /// last one.
+    /// Returns the path at the given index, in the order in which the paths were first read, or
+    /// `None` past the last path.
     pub fn path(&self, index: usize) -> Option<&[u8]>
         ensures { option_copied result ≡ slice_get (paths_of self.now) index }
     {
@@ -65,7 +65,7 @@ impl FileTable {
         self.files.contains_key(path.as_bytes())
     }
 
-    /// The bytes of the file at the path; `None` if it was not read, or no file was there.
+    /// Returns the bytes of the file at the path; `None` if it was not read, or no file was there.
     pub fn get(&self, path: &str) -> Option<&[u8]>
         ensures { option_copied result ≡ bytes_in self.now path.now }
     {
@@ -75,8 +75,8 @@ impl FileTable {
         }
     }
 
-    /// The bytes of the file at the path, shared with the table; `None` if no file is there. The
-    /// source is read once for each path; that no file is there is kept too.
+    /// Returns the bytes of the file at the path, shared with the table, or `None` if no file is
+    /// there. The source is read once for each path; the table remembers a missing file too.
     ///
     /// # Errors
     ///

@@ -22,7 +22,7 @@ use Rattle.nj_stale.specs.declared.reason.Reason.TheVariants.{OlderOutput, Other
 use Rattle.nj_stale.specs.declared.reason.Reason.TheVariants.{NotLogged}
 use Rattle.nj_stale.proofs.StateLemmas.{contains_head, contains_tail, needs_maker}
 
--- ---- reasons of one's own
+-- ---- own reasons
 
 abbrev GivesOwn : Option Reason → Type 0
 GivesOwn given = (reason : Reason) → given ≡ Some reason → IsOwnReason reason
@@ -90,7 +90,7 @@ files_own known facts newest edge =
 
 -- ---- reasons that are inputs
 
--- an input at this place is stale
+-- the input at a place is stale
 record IsInput (known : Evidence) (s : State) (paths : List (List ℕ)) (first : ℕ) (reason : Reason) : Type 0
   where
     place : ℕ

@@ -13,7 +13,7 @@ use Rattle.nj_stale.specs.States.{newest, first_reason}
 use Rattle.nj_stale.specs.Numbered.{time_of}
 use Rattle.nj_stale.specs.declared.reason.Reason.{Reason}
 
--- a time that was found, and those that are left
+-- the newest of a time that was found and of the remaining times
 abbrev pub with_rest : Option ℕ → Option ℕ → Option ℕ
 with_rest None rest = rest
 with_rest (Some time) rest = Some (max time (unwrap_or rest 0))
@@ -36,7 +36,7 @@ pub length_files : (files : List (List ℕ)) (numbers : List FileNo) (paths : Li
 length_files files numbers paths are =
     sym (length-map numbers (λ file. slice_get files file.0)) ∙ ap length are ∙ length-map paths Some
 
--- what is asked of files by number is what is asked of their paths
+-- reasons asked of files by number are those asked of their paths
 pub reasons_by_path : (files : List (List ℕ)) (asked : FileNo → ℕ → Option Reason)
     (by_path : List ℕ → ℕ → Option Reason)
     → ((file : FileNo) (place : ℕ) → file.0 < length files

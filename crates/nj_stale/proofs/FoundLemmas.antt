@@ -132,7 +132,7 @@ module _ (g : EdgeGraph) (facts : List EdgeFacts) (times : List ℕ) (lines : Li
     (turn : ℕ) (reasons : List (Option Reason)) (lent : List ℕ) (first : IsMakersFirst g.edges order)
     (within : turn < length order) (found : IsFound (evidence_of g facts times lines) order turn reasons lent)
   where
-    -- what is found of an earlier edge is what each state says
+    -- what was found for an earlier edge agrees with each state
     earlier_edge : (s : State) → IsStateOf (evidence_of g facts times lines) s → (k maker : ℕ) → k < turn
         → slice_index order k ≡ maker
         → SameEdge (evidence_of g facts times lines) (state_held g times reasons lent) s maker

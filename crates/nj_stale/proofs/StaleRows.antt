@@ -42,7 +42,7 @@ line output time hash = record {
   entry = record { start = pos 0; end = pos 0; time = pos time; hash = hash };
 }
 
--- both outputs are in the log, with this time
+-- both outputs are in the log, with the given time
 abbrev both : (time : ℕ) → List LineModel
 both time = line (codes "o") time 7 ∷ line (codes "d") time 7 ∷ []
 
@@ -78,7 +78,7 @@ older_output = refl
 left_output_first : asked compiled plain (times_of 5 0 4 6 3) (both 9) ≡ Some (OlderOutput 0)
 left_output_first = refl
 
--- with `restat` the log's time counts, where the log has the output
+-- with `restat` the log's time is used, if the log has the output
 restat_by_log : asked compiled (record plain { restat = true }) (times_of 5 5 4 6 3) (both 9) ≡ None
 restat_by_log = refl
 
@@ -97,7 +97,7 @@ other_command : asked compiled (record plain { command_hash = 8 }) (times_of 5 5
     ≡ Some (OtherCommand 0)
 other_command = refl
 
--- the last line of an output counts
+-- the last line of an output is used
 other_command_once : asked compiled plain (times_of 5 5 4 5 3) (line (codes "o") 5 8 ∷ both 5) ≡ None
 other_command_once = refl
 
@@ -121,7 +121,7 @@ phony_missing = refl
 phony_there : asked (edge_of (codes "o" ∷ []) [] [] true) plain (times_of 5 0 0 0 0) [] ≡ None
 phony_there = refl
 
--- an order-only input is one
+-- an order-only input is an input too
 phony_order_only : asked (edge_of (codes "o" ∷ []) (codes "g" ∷ []) [] true) plain (times_of 0 0 0 0 0) []
     ≡ None
 phony_order_only = refl

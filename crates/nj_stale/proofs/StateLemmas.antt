@@ -74,14 +74,14 @@ needs_maker edges edge path maker c is =
     subst (λ (m : Option ℕ). Contains (makers_of_inputs edges edge) m) is
     (contains_map (maker_of edges) (inputs_of e) path among)
 
--- ---- states that say the same
+-- ---- states that agree
 
--- of a file
+-- on a file
 pub record Same (known : Evidence) (s t : State) (path : List ℕ) : Type 0 where
   pub stale : is_stale_file known s path ≡ is_stale_file known t path
   pub time : s.time path ≡ t.time path
 
--- of an edge, and of the files that it makes
+-- on an edge, and on the files that it makes
 pub record SameEdge (known : Evidence) (s t : State) (edge : ℕ) : Type 0 where
   pub reason : s.reason edge ≡ t.reason edge
   pub times : (path : List ℕ) → maker_of known.edges path ≡ Some edge → s.time path ≡ t.time path
@@ -186,7 +186,7 @@ abbrev time_by : Evidence → State → (maker : Option ℕ) → List ℕ → �
 time_by known s None path = known.disk_time path
 time_by known s (Some edge) path = output_time known s edge path
 
--- the reasons by the state of the turn before, with its times
+-- the reasons by the state of the previous turn, with its times
 abbrev with_reasons : Evidence → State → State
 with_reasons known s = record { reason = reason_of known s; time = s.time }
 
@@ -205,7 +205,7 @@ source_at : (known : Evidence) (n : ℕ) (path : List ℕ) → maker_of known.ed
 source_at known zero path none = refl
 source_at known (suc n) path none = ap (λ m. time_by known (with_reasons known (turn known n)) m path) none
 
--- the inputs of two states are alike, so the next turns are
+-- if the inputs of two states are alike, so are the next turns
 next_alike : (known : Evidence) (s t : State) (edge : ℕ) → SameInputs known s t edge
     → SameEdge known (next known s) (next known t) edge
 next_alike known s t edge same =
@@ -218,7 +218,7 @@ next_alike known s t edge same =
           ∙ sym (ap (λ m. time_by known (with_reasons known t) m path) made);
     }
 
--- what a turn says of an edge of a smaller rank, later ones say too
+-- later turns agree with a turn on edges of a smaller rank
 stays : (known : Evidence) (rank : ℕ → ℕ) → IsRank (makers_of_inputs known.edges) (length known.edges) rank
     → (n m edge : ℕ) → n ≤ m → rank edge < n → SameEdge known (turn known n) (turn known m) edge
 stays known rank is zero m edge le below = absurd (omega arith)

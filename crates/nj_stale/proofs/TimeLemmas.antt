@@ -14,7 +14,7 @@ use Rattle.nj_stale.specs.declared.reason.Reason.TheVariants.{StaleInput, Missin
 use Rattle.nj_stale.proofs.StateLemmas.{reasons_agree, newest_agree}
 use Rattle.nj_stale.proofs.PathLemmas.{contained, maker_has}
 
--- both states say the same of a file, or of an edge and the files that it makes
+-- both states agree on a file, or on an edge and the files that it makes
 pub record Alike (known : Evidence) (time : List ℕ → ℕ) (s t : State) (path : List ℕ) : Type 0 where
   pub stale : is_stale_file (with_times known time) t path ≡ is_stale_file known s path
   pub time_is : t.time path ≡ s.time path

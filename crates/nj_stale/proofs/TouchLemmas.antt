@@ -1,4 +1,4 @@
--- What becomes stale where sources are touched.
+-- What becomes stale when sources are touched.
 use Rattle.std.proofs.Common.{◌≡◌, ◌≢◌, ℕ, zero, suc, ◌<◌, ◌≤◌, ◌+◌, Bool, true, false, Option, Some}
 use Rattle.std.proofs.Common.{None}
 use Rattle.std.proofs.Common.{◌⊎◌, inl, inr, List, [], ◌∷◌, length, refl, sym, ap, ap₂, ◌∙◌, subst, arith}
@@ -31,7 +31,7 @@ use Rattle.nj_stale.proofs.StateLemmas.{contains_head, maker_within, needs_maker
 use Rattle.nj_stale.proofs.PathLemmas.{two_ways, some_of, any_of, among, contained, all_or_some, maker_has}
 use Rattle.nj_stale.proofs.TimeLemmas.{Alike, AlikeEdge, alike_source, alike_made, alike_edge}
 
--- ---- reasons that are there
+-- ---- reasons that exist
 
 some_first : (asked : List ℕ → ℕ → Option Reason) (place : ℕ) (paths : List (List ℕ)) (path : List ℕ)
     → Contains paths path → ((at : ℕ) → is_some (asked path at) ≡ true)
@@ -52,7 +52,7 @@ some_first asked place (first ∷ paths) path (suc k, lt, is) some =
     or_some None b some = some
     or_some (Some r) b some = refl
 
--- an output that is older than the newest input, as the log has it too, is a reason
+-- an output that is older than the newest input, also according to the log, is a reason
 by_old_entry : (facts : EdgeFacts) (n : ℕ) (entry : Entry) (place : ℕ) → is_before entry.time (Some n) ≡ true
     → is_some (by_log facts (Some n) (Some entry) place) ≡ true
 by_old_entry facts n entry place old =
@@ -91,7 +91,7 @@ before_later (pos time) now n later before =
     let lt : time < now = ltb-true time now before in lt-ltb time n (omega arith)
 before_later (negsuc time) now n later before = refl
 
--- the newest of some times is not before one of them
+-- the newest of some times is not before any of them
 newest_at_least : (time : List ℕ → ℕ) (paths : List (List ℕ)) (path : List ℕ) (now : ℕ) → Contains paths path
     → now ≤ time path → (n : ℕ) × (newest time paths ≡ Some n) × (now ≤ n)
 newest_at_least time [] path now c late = absurd (omega (arith, c.1))
@@ -109,7 +109,7 @@ module _ (known : Evidence) (files : List (List ℕ)) (now : ℕ) (s t : State) 
     (is : IsRank (makers_of_inputs known.edges) (length known.edges) rank) (of_s : IsStateOf known s)
     (fresh : IsUpToDate known s) (can : CanBeTouched known files now)
     (of_t : IsStateOf (touched known files now) t) where
-  -- a file that is made is not touched
+  -- a file that an edge makes is not touched
   made_time : (path : List ℕ) (edge : ℕ) → maker_of known.edges path ≡ Some edge
       → (if is_among files path then now else known.disk_time path) ≡ known.disk_time path
   made_time path edge made = by (two_ways (is_among files path))

@@ -1,2 +1,2 @@
--- How the code meets the definitions beside this directory. No contract of a public call needs these.
+-- How the code meets the definitions beside this directory. Contracts of public calls do not need these definitions.
 pub mod Held

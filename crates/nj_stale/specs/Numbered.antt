@@ -7,7 +7,7 @@ use Rattle.nj_stale.specs.States.{Evidence, State, IsStateOf}
 use Rattle.nj_stale.specs.declared.evidence.EdgeFacts.{EdgeFacts}
 use Rattle.nj_stale.specs.declared.reason.Reason.{Reason}
 
--- the time of a path, where each file has one; 0 of any other path
+-- the time of the file at a path; 0 if no file has the path
 abbrev pub time_of : (files : List (List ℕ)) → (times : List ℕ) → (path : List ℕ) → ℕ
 time_of [] times path = 0
 time_of (file ∷ files) [] path = 0
@@ -23,20 +23,20 @@ pub record IsKnown (g : EdgeGraph) (facts : List EdgeFacts) (times : List ℕ) :
   pub fact_count : length facts ≡ length g.edges
   pub time_count : length times ≡ length g.files
 
--- an order of edges, in which each comes after those that make the inputs of it that count
+-- an order of edges in which each comes after the makers of its inputs that count
 pub record IsMakersFirst (edges : List EdgePaths) (order : List ℕ) : Type 0 where
   pub within : (turn : ℕ) → turn < length order → slice_index order turn < length edges
   pub first : (turn maker : ℕ) (path : List ℕ) → turn < length order
       → Contains (counted_inputs_of (edge_at edges (slice_index order turn))) path → maker_of edges path ≡ Some maker
       → (earlier : ℕ) × (earlier < turn) × (slice_index order earlier ≡ maker)
 
--- such an order of all edges, without duplicates
+-- an order of all edges in which makers come first, without duplicates
 pub record IsOrderOfAll (edges : List EdgePaths) (order : List ℕ) : Type 0 where
   pub makers_first : IsMakersFirst edges order
   pub all : (edge : ℕ) → edge < length edges → Contains order edge
   pub once : (turn later : ℕ) → turn < later → later < length order → slice_index order turn ≢ slice_index order later
 
--- For each edge of the order, this is its reason in the state of the build.
+-- Each edge of the order has its reason in the state of the build.
 abbrev pub AreReasonsOf : Evidence → (order : List ℕ) → (reasons : List (Option Reason)) → Type 0
 AreReasonsOf known order reasons = (s : State) → IsStateOf known s → (turn : ℕ) → turn < length order
     → slice_get reasons (slice_index order turn) ≡ Some (s.reason (slice_index order turn))

@@ -1,4 +1,4 @@
--- What becomes stale where files change: a law that ties stale edges to dirty ones.
+-- What becomes stale when files change: a law that ties stale edges to dirty ones.
 use Rattle.std.specs.Prelude.{◌≡◌, ◌≢◌, ◌↔◌, ℕ, ◌<◌, true, false, if◌then◌else◌, None, Some, List, [], length}
 use Rattle.nj_names.specs.NameTables.{is_among}
 use Rattle.nj_edges.specs.Dirty.{IsDirty}
@@ -8,7 +8,7 @@ use Rattle.nj_build_log.specs.declared.entry.Entry.{Entry}
 use Rattle.nj_stale.specs.States.{Evidence, State, IsStateOf, is_stale, is_before}
 use Rattle.nj_stale.specs.Laws.{HasNoCycle}
 
--- the same evidence, where these files have this time
+-- the same evidence, with this time for the given files
 abbrev pub touched : Evidence → (files : List (List ℕ)) → (now : ℕ) → Evidence
 touched known files now = record known { disk_time = λ path. if is_among files path then now else known.disk_time path }
 
@@ -16,8 +16,8 @@ touched known files now = record known { disk_time = λ path. if is_among files 
 abbrev pub IsUpToDate : Evidence → State → Type 0
 IsUpToDate known s = (edge : ℕ) → edge < length known.edges → s.reason edge ≡ None
 
--- The files are sources, and the time is after all others, those of the log among them. Each edge that is not phony has an output, the
--- outputs of edges are theirs alone, and those of phony edges are not there.
+-- The files are sources, and the time is after all others, including those of the log. Each edge that is not phony has an output, edges
+-- do not share outputs, and the outputs of phony edges are missing.
 pub record CanBeTouched (known : Evidence) (files : List (List ℕ)) (now : ℕ) : Type 0 where
   pub sources : (path : List ℕ) → is_among files path ≡ true → maker_of known.edges path ≡ None
   pub later : (path : List ℕ) → known.disk_time path < now
@@ -29,7 +29,7 @@ pub record CanBeTouched (known : Evidence) (files : List (List ℕ)) (now : ℕ)
   pub phony_outputs : (path : List ℕ) (edge : ℕ) → maker_of known.edges path ≡ Some edge → (edge_at known.edges edge).is_phony ≡ true
       → known.disk_time path ≡ 0
 
--- where nothing is stale, a touch of sources makes those edges stale that are not phony and are dirty by the files
+-- if nothing is stale, touching sources makes stale exactly the edges that are not phony and are dirty by the touched files
 abbrev pub TouchesMakeDirtyEdgesStale : Type 0
 TouchesMakeDirtyEdgesStale = (known : Evidence) (files : List (List ℕ)) (now : ℕ) (s t : State) → HasNoCycle known
     → IsStateOf known s → IsUpToDate known s → CanBeTouched known files now → IsStateOf (touched known files now) t

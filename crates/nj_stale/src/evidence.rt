@@ -1,6 +1,6 @@
 //! What is known of a build before it runs.
 
-/// What is known of an edge beside its files.
+/// What is known of an edge besides its files.
 #[derive(Clone, Copy, Debug, PartialEq, Eq)]
 pub struct EdgeFacts {
     /// The inputs that builds discovered for it are not known.
@@ -9,6 +9,6 @@ pub struct EdgeFacts {
     pub restat: bool,
     /// Its value of `generator` is not empty.
     pub generator: bool,
-    /// The hash of its command, as a build log of that version has it.
+    /// The hash of its command, as in a build log of the version that is read.
     pub command_hash: u64,
 }

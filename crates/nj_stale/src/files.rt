@@ -33,7 +33,7 @@ fn counted_count(graph: &EdgeGraph, edge: EdgeNo) -> usize
     count
 }
 
-/// The newest of the times of these files.
+/// Returns the newest time of the given files, or `None` without files.
 pub(crate) fn newest_of(
     graph: &EdgeGraph,
     times: &[u64],
@@ -53,7 +53,7 @@ pub(crate) fn newest_of(
     newest
 }
 
-// The time of a file: that on the disk, or what its maker lends.
+// Returns the time of a file: its time on the disk, or the time that its maker lends.
 fn time_of(graph: &EdgeGraph, times: &[u64], lent: &[u64], file: FileNo) -> u64
     requires times { length times.now ≡ length graph.now.files }
     requires lent { length lent.now ≡ length graph.now.edges }
@@ -67,7 +67,7 @@ fn time_of(graph: &EdgeGraph, times: &[u64], lent: &[u64], file: FileNo) -> u64
     }
 }
 
-/// The first of these files that is stale, as a reason.
+/// Returns a reason for the first of the given files that is stale, if any.
 pub(crate) fn first_stale(
     graph: &EdgeGraph,
     times: &[u64],
@@ -100,7 +100,7 @@ fn is_stale(graph: &EdgeGraph, times: &[u64], reasons: &[Option<Reason>], file: 
     }
 }
 
-/// The first of these files that is not there, as a reason.
+/// Returns a reason for the first of the given files that is missing, if any.
 pub(crate) fn first_missing(times: &[u64], files: &[FileNo]) -> Option<Reason>
     requires { All (λ file. file.0 < length times.now) files.now }
     ensures { result ≡ first_reason (missing_held times.now) 0 files.now }
@@ -113,7 +113,7 @@ pub(crate) fn first_missing(times: &[u64], files: &[FileNo]) -> Option<Reason>
     None
 }
 
-/// The first of these outputs that is a reason.
+/// Returns the first reason that one of the given outputs has, if any.
 pub(crate) fn first_of_outputs(
     graph: &EdgeGraph,
     times: &[u64],

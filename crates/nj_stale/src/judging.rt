@@ -1,4 +1,4 @@
-//! What one output is a reason for.
+//! Whether an output makes its edge stale, and why.
 
 ghost use Rattle.std.specs.Prelude.{◌≡◌, pos};
 ghost use Rattle.nj_stale.specs.Cited.{is_before, by_log, by_output, lent_by};
@@ -7,8 +7,8 @@ use crate::evidence::EdgeFacts;
 use crate::reason::Reason;
 use nj_build_log::Entry;
 
-/// Why an edge is stale by an output at a place, which has this time on the disk and this entry in
-/// the log.
+/// Returns why an edge is stale because of the output at a place, given its time on the disk and
+/// its entry in the log.
 pub(crate) fn by_output(
     facts: EdgeFacts,
     newest: Option<u64>,
@@ -27,7 +27,7 @@ pub(crate) fn by_output(
     by_log(facts, newest, entry, place)
 }
 
-// Why it is stale by what the log says of an output.
+// Returns why the edge is stale according to the log's entry for the output.
 fn by_log(
     facts: EdgeFacts,
     newest: Option<u64>,
@@ -47,7 +47,7 @@ fn by_log(
     }
 }
 
-// A time on the disk is before the newest one.
+// Whether a time on the disk is before the newest time.
 fn is_older(time: u64, newest: Option<u64>) -> bool
     ensures { result ≡ is_before (pos time) newest }
 {
@@ -57,7 +57,7 @@ fn is_older(time: u64, newest: Option<u64>) -> bool
     }
 }
 
-// A time in the log is before the newest one.
+// Whether a time in the log is before the newest time.
 fn is_before(time: i64, newest: Option<u64>) -> bool
     ensures { result ≡ is_before time newest }
 {
@@ -67,7 +67,7 @@ fn is_before(time: i64, newest: Option<u64>) -> bool
     }
 }
 
-/// The time that an edge with this reason lends to its outputs.
+/// Returns the time that an edge with the given reason lends to its outputs.
 pub(crate) fn lent_by(is_phony: bool, reason: Option<Reason>, newest: Option<u64>) -> u64
     ensures { result ≡ lent_by is_phony reason newest }
 {

@@ -17,14 +17,14 @@ pub fn stale_edges_have_reasons()
     ensures { StaleEdgesHaveReasons }
 {}
 
-/// Where nothing is stale, a touch of source files makes exactly those edges with a command stale that
-/// are dirty by these files.
+/// If nothing is stale, touching source files makes stale exactly the edges with a command that are
+/// dirty by the touched files.
 pub fn touches_make_dirty_edges_stale()
     ensures { TouchesMakeDirtyEdgesStale }
 {}
 
-/// Edges whose inputs that count are sources, or made by edges among them, have the same reasons
-/// whatever the times of other files are.
+/// If a set of edges contains the makers of all its inputs that count, the times of other files do
+/// not change the reasons of its edges.
 pub fn other_times_say_nothing()
     ensures { OtherTimesSayNothing }
 {}

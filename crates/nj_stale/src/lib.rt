@@ -1,8 +1,8 @@
 //! Which edges of a build are stale: what Ninja would run, and why.
 //!
-//! An edge is stale if what it discovers is unknown, if an input that counts is stale, or if an
-//! output is missing, older than an input that counts, or made by another command, as the build log
-//! has it.
+//! An edge is stale if its discovered inputs are unknown, if an input that counts is stale, or if
+//! an output is missing, older than an input that counts, or made by another command according to
+//! the build log.
 #![tactic(auto)]
 
 mod evidence;

@@ -30,7 +30,7 @@ impl<'g> EdgeInputs for GraphMakers<'g> {
     }
 }
 
-/// All edges without duplicates, each after those that make its inputs, as `reasons_of` takes them.
+/// Returns an order of all edges for `reasons_of`: each edge once, after the makers of its inputs.
 /// Takes time in proportion to the edges and their inputs. Fails only if an allocation fails.
 pub fn makers_first(alloc: Global, graph: &EdgeGraph) -> Result<Vec<EdgeNo>, AllocError>
     ensures { IfOk result (λ order.
@@ -44,12 +44,12 @@ pub fn makers_first(alloc: Global, graph: &EdgeGraph) -> Result<Vec<EdgeNo>, All
     Ok(order)
 }
 
-// The same edges by their numbers.
+// Returns the numbers of the edges in that order.
 fn edge_numbers(alloc: Global, graph: &EdgeGraph) -> Result<Vec<usize>, AllocError>
     ensures { IfOk result (λ order.
         AreAfterNeeds (makers_of_inputs graph.now.edges) (length graph.now.edges) order.items) }
 {
-    // no edge needs itself by a chain
+    // no edge needs itself, directly or indirectly
     let _edge_count = graph.edge_count();
     let makers = GraphMakers { graph };
     nj_cycles::makers_first(alloc, &makers)

@@ -11,12 +11,12 @@ use nj_build_log::BuildLog;
 use nj_edges::{EdgeGraph, EdgeNo};
 use std::alloc::{AllocError, Global};
 
-/// The reasons for which the edges of an order are stale, by the numbers of the edges: `None` for an
-/// edge that is not. Items of other edges are unspecified.
+/// Returns why each edge of an order is stale, by edge number, or `None` for an edge that is not
+/// stale. Items of other edges are unspecified.
 ///
-/// `facts` has an item for each edge, and `times` one for each file: its time on the disk, 0 if it is
-/// not there. The discovered inputs have to be inputs of the graph. In the order each edge comes
-/// after those that make its explicit and implicit inputs.
+/// `facts` has an item for each edge. `times` has the time on the disk of each file, 0 if it is
+/// missing. The discovered inputs have to be inputs of the graph. In the order each edge comes
+/// after the makers of its explicit and implicit inputs.
 ///
 /// Takes time in proportion to the edges of the order and their files. Fails only if an allocation
 /// fails.
@@ -52,8 +52,8 @@ pub fn reasons_of(
     Ok(reasons)
 }
 
-// Finds the reason of an edge, and the time that it lends. It is the next one of each order in which
-// the edges before it have theirs.
+// Finds the reason of an edge, and the time that it lends. The edges before it in the order have
+// theirs already.
 fn judge(
     graph: &EdgeGraph,
     facts: &[EdgeFacts],
@@ -80,7 +80,7 @@ fn judge(
     lent[edge.0] = lent_by(graph.is_phony(edge), reason, newest);
 }
 
-// Why an edge is stale, by what is found of those that make its inputs.
+// Returns why an edge is stale, given what was found for the makers of its inputs.
 fn reason_of(
     graph: &EdgeGraph,
     facts: &[EdgeFacts],
@@ -106,7 +106,7 @@ fn reason_of(
     by_discovery(facts).or(by_inputs.or(by_files))
 }
 
-// Why an edge is stale by what it discovers.
+// Returns a reason if the discovered inputs of an edge are unknown.
 fn by_discovery(facts: EdgeFacts) -> Option<Reason>
     ensures { result ≡ by_discovery facts }
 {
@@ -117,7 +117,7 @@ fn by_discovery(facts: EdgeFacts) -> Option<Reason>
     }
 }
 
-// Why an edge is stale by its outputs.
+// Returns why an edge is stale because of its outputs.
 fn by_files(
     graph: &EdgeGraph,
     times: &[u64],
@@ -139,7 +139,7 @@ fn by_files(
     }
 }
 
-// Why an edge that is not phony is.
+// Returns why an edge that is not phony is stale because of its outputs.
 fn by_outputs(
     graph: &EdgeGraph,
     times: &[u64],
@@ -157,7 +157,7 @@ fn by_outputs(
     first_of_outputs(graph, times, log, facts, newest, graph.outputs(edge))
 }
 
-// Why a phony edge is.
+// Returns why a phony edge is stale because of its outputs.
 fn by_phony_outputs(graph: &EdgeGraph, times: &[u64], edge: EdgeNo) -> Option<Reason>
     requires times { length times.now ≡ length graph.now.files }
     requires distinct { IsDistinct bytes_eq graph.now.files }

@@ -32,7 +32,7 @@ none_same : (found : Option (List ℕ)) → None ≡ option_map (λ (path : List
 none_same None h = refl
 none_same (Some path) h = absurd (cc)
 
--- where there is one
+-- if a file is at the place
 pub some_at_place : (files : List (List ℕ)) (numbers : List FileNo) (paths : List (List ℕ)) (place : ℕ)
     (file : FileNo)
     → AreFiles files numbers paths → slice_get numbers place ≡ Some file
@@ -42,7 +42,7 @@ some_at_place files numbers paths place file are found =
     (ap (option_map (λ (f : FileNo). slice_get files f.0)) (sym found)
     ∙ file_at_place files numbers paths place are)
 
--- and where there is none
+-- and if no file is at the place
 pub none_at_place : (files : List (List ℕ)) (numbers : List FileNo) (paths : List (List ℕ)) (place : ℕ)
     → AreFiles files numbers paths → slice_get numbers place ≡ None → slice_get paths place ≡ None
 none_at_place files numbers paths place are found =

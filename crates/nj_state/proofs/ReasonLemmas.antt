@@ -50,7 +50,7 @@ more_held count reasons edges stale edge lt held = record {
       (one_held edge (slice_index_or reasons edge None)));
 }
 
--- the reasons that are held of all edges are those of the state
+-- the reasons that are held for all edges are those of the state
 pub reason_is : (known : Evidence) (order : List ℕ) (reasons : List (Option Reason))
     → IsOrderOfAll known.edges order
     → AreReasonsOf known order reasons → (s : State) → IsStateOf known s → (edge : ℕ)
@@ -62,7 +62,7 @@ reason_is known order reasons all are s fits edge lt =
     get_or_from_slice_get reasons edge (s.reason edge) None
     (subst (λ e. slice_get reasons e ≡ Some (s.reason e)) at (are s fits turn.0 turn.1))
 
--- so the edges with a reason that is held are the stale ones
+-- so the edges with a held reason are the stale edges
 pub stale_are_held : (s : State) (count : ℕ) (reasons : List (Option Reason))
     → ((edge : ℕ) → edge < count → slice_index_or reasons edge None ≡ s.reason edge) → (edges : List ℕ)
     → AllByRecursion (λ e. e < count) edges → filter_map (stale_held reasons) edges ≡ stale_among s edges

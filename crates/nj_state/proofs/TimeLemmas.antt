@@ -13,7 +13,7 @@ one_more_time declared (p ∷ paths) (t ∷ times) path time so_far has =
 one_more_time declared [] (t ∷ times) path time so_far has = absurd so_far
 one_more_time declared (p ∷ paths) [] path time so_far has = absurd so_far
 
--- there is one for each path
+-- each path has a time
 pub times_count : (declared : DeclaredTimes) (paths : List (List ℕ)) (times : List ℕ)
     → HaveTimes declared paths times
     → length times ≡ length paths

@@ -1,4 +1,4 @@
--- What is known of the edges of a build beside their files.
+-- What is known of the edges of a build besides their files.
 use Rattle.std.specs.Prelude.{ℕ, Bool, not, unwrap_or, List, codes, map, ◌==◌}
 use Rattle.std.specs.List.{list_any, range_with_len}
 use Rattle.nj_text.specs.Calls.{is_empty}
@@ -14,7 +14,7 @@ use Rattle.nj_stale.specs.declared.evidence.EdgeFacts.{EdgeFacts}
 abbrev pub has_value : List ReadStatement → (edge : ℕ) → (name : List ℕ) → Bool
 has_value entries edge name = not (is_empty (late_text_of entries edge name))
 
--- the hash of the command of an edge, as a log of this version has it
+-- the hash of the command of an edge, as in a log of the given version
 abbrev pub edge_hash : List ReadStatement → LogVersion → (edge : ℕ) → ℕ
 edge_hash entries version edge =
     command_hash version (late_text_of entries edge (codes "command")) (late_text_of entries edge (codes "rspfile_content"))
@@ -28,14 +28,14 @@ facts_by entries version is_unknown edge = record {
   command_hash = edge_hash entries version edge;
 }
 
--- where these are the edges whose discovered inputs are unknown
+-- the facts of an edge, given the edges whose discovered inputs are unknown
 abbrev pub edge_facts : List ReadStatement → (unknown : List ℕ) → LogVersion → (edge : ℕ) → EdgeFacts
 edge_facts entries unknown version edge = facts_by entries version (list_any (λ other. edge == other) unknown) edge
 
--- of so many edges
+-- the facts of `count` edges
 abbrev pub facts_of : List ReadStatement → (unknown : List ℕ) → LogVersion → (count : ℕ) → List EdgeFacts
 facts_of entries unknown version count = map (edge_facts entries unknown version) (range_with_len 0 count)
 
--- the version by which a log has its hashes; a log without one has no hash, and is of the latest
+-- the version of the hashes in a log; a log without a version has no hashes, and is treated as one of the latest version
 abbrev pub hash_version : BuildLogModel → LogVersion
 hash_version log = unwrap_or log.version Seven

@@ -17,11 +17,11 @@ use Rattle.nj_state.specs.FileTimesFound.{HaveTimes}
 abbrev pub stale_edge : State → (edge : ℕ) → Option StaleEdge
 stale_edge s edge = option_map (λ reason. record { edge = record { 0 = edge }; reason = reason }) (s.reason edge)
 
--- those of some edges that are stale, in their order
+-- the given edges that are stale, in their order
 abbrev pub stale_among : State → (edges : List ℕ) → List StaleEdge
 stale_among s edges = filter_map (stale_edge s) edges
 
--- of some edges these are those that are stale in the state of the build
+-- the given edges that are stale in the state of the build
 abbrev pub AreStaleBy : Evidence → (edges : List ℕ) → (stale : List StaleEdge) → Type 0
 AreStaleBy known edges stale = (s : State) → IsStateOf known s → stale ≡ stale_among s edges
 
@@ -32,7 +32,7 @@ pub record IsEvidence (g : EdgeGraph) (entries : List ReadStatement) (unknown : 
   pub times_are : HaveTimes declared g.files times
   pub known_is : known ≡ evidence_of g (facts_of entries unknown (hash_version log) (length g.edges)) times log.lines
 
--- Of the edges whose commands the targets need, those that are stale, in the order of these commands.
+-- The stale edges whose commands the targets need, in the order of their commands.
 pub record AreStaleEdges (g : EdgeGraph) (entries : List ReadStatement) (unknown : List ℕ) (log : BuildLogModel)
     (declared : DeclaredTimes) (targets : List FileNo) (stale : List StaleEdge) : Type 0 where
   pub known : Evidence

@@ -6,17 +6,17 @@ use Rattle.nj_stale.specs.declared.reason.Reason.{Reason}
 use Rattle.nj_stale.specs.declared.reason.Reason.TheVariants.{UnknownInputs, StaleInput, MissingOutput, OlderOutput, OtherCommand, EarlierBuild, NotLogged}
 use Rattle.nj_state.specs.declared.commands.StaleEdge.{StaleEdge}
 
--- what is said of an input: a source is missing, and another file is stale
+-- the words about an input: a source is missing, and a file that an edge makes is stale
 abbrev pub input_words : (maker : Option ℕ) → List ℕ
 input_words None = codes " is missing"
 input_words (Some edge) = codes " is stale"
 
--- an input, and what is said of it
+-- an input, and the words about it
 abbrev pub input_text : List EdgePaths → Option (List ℕ) → List ℕ
 input_text edges None = []
 input_text edges (Some path) = path ++ input_words (maker_of edges path)
 
--- what is said of an output for a reason
+-- the words about an output for a reason
 abbrev pub output_words : Reason → List ℕ
 output_words UnknownInputs = []
 output_words (StaleInput place) = []
@@ -26,11 +26,11 @@ output_words (OtherCommand place) = codes " was made by another command"
 output_words (EarlierBuild place) = codes " was built before an input changed"
 output_words (NotLogged place) = codes " is not in the build log"
 
--- the output at a place, and what is said of it
+-- the output at a place, and the words about it
 abbrev pub output_text : EdgePaths → (place : ℕ) → (words : List ℕ) → List ℕ
 output_text e place words = name_at (outputs_of e) place ++ words
 
--- the reason of an edge with these paths, in words
+-- the reason of an edge with the given paths, in words
 abbrev pub reason_text : List EdgePaths → EdgePaths → Reason → List ℕ
 reason_text edges e UnknownInputs = codes "its discovered inputs are not known"
 reason_text edges e (StaleInput place) = input_text edges (slice_get (inputs_of e) place)

@@ -19,8 +19,9 @@ pub struct StaleEdge {
     pub reason: Reason,
 }
 
-/// The edges with commands that the targets need and that are stale, in the order of their
-/// commands. The discovered inputs have to be inputs of the graph; those of `unknown` are not known.
+/// Returns the stale edges whose commands the targets need, in the order of their commands. The
+/// discovered inputs have to be inputs of the graph; the discovered inputs of the edges in
+/// `unknown` are not known.
 ///
 /// # Errors
 ///
@@ -48,7 +49,7 @@ pub fn stale_edges<T: FileTimes>(
     Ok(stale_in(alloc, graph, &facts, &times, log, targets)?)
 }
 
-// The same by what is known of edges and files.
+// Returns the stale edges, given what is known of edges and files.
 fn stale_in(
     alloc: Global,
     graph: &EdgeGraph,
@@ -70,7 +71,7 @@ fn stale_in(
     with_reasons(alloc, graph, &reasons, targets)
 }
 
-// Of the edges whose commands the targets need, those that have a reason.
+// Returns the edges that have a reason and whose commands the targets need.
 fn with_reasons(
     alloc: Global,
     graph: &EdgeGraph,
@@ -89,7 +90,7 @@ fn with_reasons(
     Ok(stale)
 }
 
-// Appends an edge with its reason, if it has one.
+// Appends an edge with its reason, if any.
 fn push_stale(
     stale: &mut Vec<StaleEdge>,
     edge: EdgeNo,
@@ -104,7 +105,7 @@ fn push_stale(
     Ok(())
 }
 
-// The reason of an edge, if it has one.
+// Returns the reason of an edge, if any.
 fn reason_at(reasons: &[Option<Reason>], edge: EdgeNo) -> Option<Reason>
     ensures { result ≡ slice_index_or reasons.now edge.0 None }
 {

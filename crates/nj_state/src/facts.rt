@@ -1,4 +1,4 @@
-//! What is known of edges beside their files.
+//! What is known of edges besides their files.
 
 ghost use Rattle.std.specs.Prelude.{◌≡◌, ◌<◌, All, IfOk, codes, length, map};
 ghost use Rattle.nj_state.specs.Cited.{AreFlags, OfEdge, OfStatements, edge_hash, edge_of, edges_of, facts_by, facts_of, has_value};
@@ -8,8 +8,9 @@ use nj_graph::{Edge, EdgeNo, Graph};
 use nj_stale::EdgeFacts;
 use std::alloc::{AllocError, Global};
 
-/// What is known of each edge, where the discovered inputs of `unknown` are not known, and a build
-/// log of this version has the hashes of commands. Fails only if an allocation fails.
+/// Returns what is known of each edge. The discovered inputs of `unknown` are not known, and the
+/// hashes of commands are those of a build log of the given version. Fails only if an allocation
+/// fails.
 pub fn facts_of(
     alloc: Global,
     graph: &Graph,
@@ -32,7 +33,7 @@ pub fn facts_of(
     Ok(facts)
 }
 
-// Of each of `count` edges whether it is among these.
+// Returns for each of `count` edges whether it is among the given edges.
 fn edge_flags(alloc: Global, count: usize, edges: &[EdgeNo]) -> Result<Vec<bool>, AllocError>
     requires { All (λ edge. edge.0 < count) edges.now }
     ensures { IfOk result (λ flags.
@@ -45,7 +46,7 @@ fn edge_flags(alloc: Global, count: usize, edges: &[EdgeNo]) -> Result<Vec<bool>
     Ok(flags)
 }
 
-// What is known of an edge.
+// Returns what is known of an edge.
 fn edge_facts(
     alloc: Global,
     edge: Edge<'_>,
@@ -75,7 +76,7 @@ fn has_value(alloc: Global, edge: Edge<'_>, name: &[u8]) -> Result<bool, AllocEr
     Ok(!value.as_slice().is_empty())
 }
 
-// The hash of the command of an edge.
+// Returns the hash of the command of an edge.
 fn edge_hash(alloc: Global, edge: Edge<'_>, version: LogVersion) -> Result<u64, AllocError>
     ensures { OfEdge (edge_of edge.entry) (λ entries number. IfOk result (λ hash.
         hash ≡ edge_hash entries version number)) }

@@ -8,7 +8,7 @@ use nj_discovered::time_of;
 use nj_graph::{EdgeGraph, FileNo, FileTimes, TimeFound};
 use std::alloc::Global;
 
-/// The time of each file of a graph, 0 if it is not there. Looks up each file once.
+/// Returns the time of each file of a graph, 0 if it is missing. Looks up each file once.
 ///
 /// # Errors
 ///

@@ -8,8 +8,8 @@ use nj_graph::{EdgeGraph, EdgeNo, FileNo};
 use nj_stale::Reason;
 use std::alloc::{AllocError, Global};
 
-/// The lines of stale edges of a graph, with `why` each with its reason. Fails only if an allocation
-/// fails.
+/// Returns the lines of stale edges of a graph, with their reasons if `why` is set. Fails only if
+/// an allocation fails.
 pub fn stale_lines(
     alloc: Global,
     graph: &EdgeGraph,
@@ -27,7 +27,7 @@ pub fn stale_lines(
     Ok(text)
 }
 
-/// Appends the line of a stale edge of a graph: its first output, and with `why` its reason.
+/// Appends the line of a stale edge of a graph: its first output, and its reason if `why` is set.
 pub fn push_stale_line(
     text: &mut Vec<u8>,
     graph: &EdgeGraph,
@@ -86,7 +86,7 @@ fn push_reason(
     }
 }
 
-// What is said of an output for a reason.
+// Returns the words about an output for a reason.
 fn output_words(reason: Reason) -> &'static [u8]
     ensures { result.now ≡ output_words reason }
 {
@@ -100,7 +100,7 @@ fn output_words(reason: Reason) -> &'static [u8]
     }
 }
 
-// Appends the output at a place, and what is said of it.
+// Appends the output at a place, and the words about it.
 fn push_output(
     text: &mut Vec<u8>,
     graph: &EdgeGraph,
@@ -116,7 +116,7 @@ fn push_output(
     text.extend_from_slice(words)
 }
 
-// Appends the input at a place, and what is said of it.
+// Appends the input at a place, and the words about it.
 fn push_input(
     text: &mut Vec<u8>,
     graph: &EdgeGraph,
@@ -133,7 +133,7 @@ fn push_input(
     }
 }
 
-// Appends a file, and what is said of it as an input.
+// Appends a file, and the words about it as an input.
 fn push_stale_file(text: &mut Vec<u8>, graph: &EdgeGraph, file: FileNo) -> Result<(), AllocError>
     requires { file.0 < length graph.now.files }
     ensures { OnOk result (text.new.items ≡ text.old.items
@@ -143,7 +143,7 @@ fn push_stale_file(text: &mut Vec<u8>, graph: &EdgeGraph, file: FileNo) -> Resul
     text.extend_from_slice(input_words(graph.maker(file)))
 }
 
-// What is said of an input.
+// Returns the words about an input.
 fn input_words(maker: Option<EdgeNo>) -> &'static [u8]
     ensures { result.now ≡ input_words (option_map (λ edge. edge.0) maker) }
 {
@@ -153,7 +153,7 @@ fn input_words(maker: Option<EdgeNo>) -> &'static [u8]
     }
 }
 
-// The path of the file at a place of these; past the last one it is empty.
+// Returns the path of the file at a place in a list; past the last file the path is empty.
 fn path_in<'g>(graph: &'g EdgeGraph, files: &[FileNo], place: usize) -> &'g [u8]
     requires { All (λ file. file.0 < length graph.now.files) files.now }
     ensures { (paths : List (List ℕ)) → AreFiles graph.entry.now.files files.now paths
@@ -165,7 +165,7 @@ fn path_in<'g>(graph: &'g EdgeGraph, files: &[FileNo], place: usize) -> &'g [u8]
     }
 }
 
-// The file at a place of these; `None` past the last one.
+// Returns the file at a place in a list, or `None` past the last file.
 fn file_in(files: &[FileNo], place: usize) -> Option<FileNo>
     ensures { result ≡ slice_get files.now place }
 {

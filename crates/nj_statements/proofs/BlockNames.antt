@@ -16,7 +16,7 @@ use Rattle.nj_statements.proofs.OnceLemmas.{once-known, once-new}
 abbrev pub line_names : List Line → List (List ℕ)
 line_names ls = map (λ (l : LineModel). l.name) (lines_model ls)
 
--- the block of the edge binds these names, which its lines so far have
+-- the block of the edge binds exactly the names of its lines so far
 pub record AreNamesSoFar (blocks : BlocksModel) (edge : ℕ) (names : List (List ℕ)) : Type 0 where
   pub are : names_in blocks edge ≡ each_once bytes_eq names
   pub bound : (x : List ℕ) → is_some (bound_in blocks edge x) ≡ is_among names x

@@ -8,7 +8,7 @@ use Rattle.nj_scope.specs.Scopes.{expanded}
 use Rattle.nj_statements.specs.EdgeList.{Values, block_of}
 use Rattle.nj_statements.proofs.Lists.{find-last}
 
--- a line before the lines of a block counts where none of these binds the name
+-- a line before the lines of a block takes effect if no line of the block binds the name
 pub block-front : (values : Values) (l : LineModel) (ls : List LineModel) (name : List ℕ)
     (old : Option (List ℕ))
     → option_or (block_of values ls name) (if bytes_eq name l.name then Some (expanded values l.value.parts)

@@ -85,7 +85,7 @@ only n m (suc k, below, here) = absurd (omega arith)
 other : (n : ℕ) → 0 < n → n ≡ 0 → ⊥
 other n some none = absurd (omega arith)
 
--- no edge needs the first one
+-- no edge needs the first edge
 not-needed : (e : ℕ) → Needs makers e 0 → ⊥
 not-needed zero needs = other 1 (lit< tt) (only 1 0 (subst (λ row. Contains row (Some 0)) makers-first needs))
 not-needed (suc zero) needs = other 2 (lit< tt)

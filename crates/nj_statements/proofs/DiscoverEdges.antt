@@ -1,4 +1,4 @@
--- Discoveries for an edge: which edges they change, and which ones are pending from then on.
+-- Discoveries for an edge: which edges they change, and which edges are pending from then on.
 use Rattle.std.proofs.Common.{slice_index_or, ◌≡◌, ◌≢◌, ◌⊎◌, inl, inr, ℕ, zero, suc, ◌+◌, ◌<◌, ◌≤◌, ◌==◌}
 use Rattle.std.proofs.Common.{◌||◌, Bool, true, false, not, cond, true≢false, if◌then◌else◌, List, [], ◌∷◌}
 use Rattle.std.proofs.Common.{◌++◌, length, map, Option, Some, None, unwrap_or, slice_get, bytes_eq, is_some}
@@ -208,7 +208,7 @@ map-same g unseen (e ∷ edges) (o ∷ others) same =
     ap (λ x. x ∷ map g others) (ap g same.0 ∙ unseen e o.paths.implicit_outputs o.paths.implicit_inputs)
     ∙ ap (λ xs. g e ∷ xs) (map-same g unseen edges others same.1)
 
--- A function that does not look at implicit files gives the same for each edge.
+-- A function that does not look at implicit files has the same result for each edge.
 pub map-discover : {X : Type 0} (g : EdgeModel → X)
     → ((e : EdgeModel) (outs ins : List (List ℕ))
     → g (record e { paths = record e.paths { implicit_outputs = outs; implicit_inputs = ins } }) ≡ g e)
@@ -296,7 +296,7 @@ none-unjoined n [] below = refl
 none-unjoined n (p ∷ ps) below = ap (λ b. b || list_any (λ q. q.edge == n) ps)
     (ne_eqb p.edge n (λ is. omega (arith, is, below.0))) ∙ none-unjoined n ps below.1
 
--- a pending edge is one of those edges
+-- the number of a pending edge is below the bound
 pub unjoined-below : (n : ℕ) (most : ℕ) (ps : List Pending) → AreBelow most ps
     → list_any (λ p. p.edge == n) ps ≡ true → n < most
 unjoined-below n most [] below pends = absurd (true≢false (sym pends))
@@ -574,7 +574,7 @@ restats-count-item e before (DefaultModel words) rest = rest
 restats-count-item e before (IncludeModel word) rest = rest
 restats-count-item e before (SubninjaModel word) rest = rest
 
--- there is one for each edge
+-- there is one `restat` flag for each edge
 restats-count : (entries : List ReadStatement) → length (restats_read entries) ≡ length (edges_read entries)
 unfolding edges_read restats_read
 restats-count [] = refl

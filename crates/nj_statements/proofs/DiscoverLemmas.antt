@@ -305,7 +305,7 @@ pub names_of_edge-discover : (edge : ℕ) (found : Discovered) (entries : List R
 names_of_edge-discover edge found entries =
     names_of_edge-same entries (discover edge found entries) (as_read-discover edge found entries)
 
--- ---- all of these
+-- ---- all names
 
 pub names_stay : NamesStay
 names_stay entries edge found = record {
@@ -364,8 +364,8 @@ all-discover P kept edge found (e ∷ before) all =
     by true rest = (kept e true (Some (and_found e.discovered found)) all.0, all.1)
     by false rest = (all.0, rest)
 
--- A property of statements, and of them with discoveries for any edge, is one of them with the
--- additions of an entry.
+-- A property of statements that also holds with discoveries for any edge holds with the additions of an
+-- entry.
 pub with_entry-by : (P : List ReadStatement → Type 0) (stated joined : List ReadStatement)
     (entry : EntryModel) → P joined
     → ((edge : ℕ) → P (discover edge (discovered_by entry) joined)) → P (with_entry stated joined entry)

@@ -34,7 +34,7 @@ pub option-none : (o : Option ℕ) → option_map (λ n. n + 1) o ≡ None → o
 option-none None none = refl
 option-none (Some n) none = absurd (true≢false (ap is_some none))
 
--- a change after which one edge passes, where none did
+-- a change after which one edge passes, where no edge did
 passes-changed : {E : Type 0} (test : E → Bool) (f : E → E) → ((e : E) → test (f e) ≡ true)
     → (n : ℕ) (edges : List E) → n < length edges
     → first_edge test edges ≡ None → first_edge test (changed_at f n edges) ≡ Some n
@@ -100,7 +100,7 @@ fault_if-not : (b : Bool) (fault : GraphFault) → then_some b fault ≡ None �
 fault_if-not false fault none = refl
 fault_if-not true fault none = absurd (true≢false (ap is_some none))
 
--- no edge makes an output that has no fault, and it is none of those to its left
+-- no edge makes an output that has no fault, and the output is not among the outputs to its left
 pub neither-makes : (file : List ℕ) (values : Values) (edges : List EdgePaths) (left : List (List ℕ))
     (word : WordModel) → two_makers file values edges left word ≡ None
     → (maker_of edges (path_given values word) ≡ None) × (is_among left (path_given values word) ≡ false)
@@ -115,7 +115,7 @@ neither-makes file values edges left word none =
         || is_among left (path_given values word))
         (fault_at file word.spot (TwoMakers (path_given values word))) none)
 
--- no edge makes an output that has none
+-- no edge makes an output that has no fault
 pub outputs-new : (file : List ℕ) (values : Values) (edges : List EdgePaths) (left : List (List ℕ))
     (words : List WordModel) (path : List ℕ)
     → outputs_fault file values edges left words ≡ None → is_among (paths_given values words) path ≡ true

@@ -1,4 +1,4 @@
--- No file gets two makers.
+-- A file never has two makers.
 use Rattle.std.proofs.Common.{◌≡◌, ℕ, zero, suc, ◌+◌, ◌<◌, ◌||◌, Bool, true, false, true≢false, List, [], ◌∷◌}
 use Rattle.std.proofs.Common.{◌++◌, length, Option, Some, None, option_map, is_some, if◌then◌else◌, bytes_eq}
 use Rattle.std.proofs.Common.{refl, sym, ap, ◌∙◌, subst, arith}
@@ -50,7 +50,7 @@ no-output (e ∷ edges) path none = list_any-append (bytes_eq path) (outputs_of 
     by true rest none = absurd (true≢false (ap is_some none))
     by false rest none = rest (option-none (maker_of edges path) none)
 
--- outputs that have no fault are apart from each other, and from those before them
+-- outputs that have no fault are apart from each other, and from the outputs before them
 outputs-apart : (file : List ℕ) (values : Values) (edges : List EdgePaths) (left : List (List ℕ))
     (words : List WordModel) → outputs_fault file values edges left words ≡ None
     → IsDistinct bytes_eq (all_outputs edges ++ left)
@@ -82,7 +82,7 @@ outputs-apart file values edges left (word ∷ words) none apart =
 
 -- ---- a build statement
 
--- the inputs that an edge loses are none of its outputs
+-- an edge that loses inputs keeps its outputs
 outputs-stated : (e : EdgePaths) → outputs_of (edge_paths e) ≡ outputs_of e
 outputs-stated e = by (loses_own e)
   where

@@ -53,7 +53,7 @@ distinct-filter keep (p ∷ ps) distinct = by (keep p) (distinct-filter keep ps 
     by true rest = (files-filter (λ file. bytes_eq p.file file ≡ false) keep ps distinct.0, rest)
     by false rest = rest
 
--- a filter that keeps all that pass a test keeps the first one that does
+-- a filter that keeps all that pass a test keeps the first element that does
 find-filter : {X : Type 0} (test keep : X → Bool) → ((x : X) → test x ≡ true → keep x ≡ true) → (xs : List X)
     → find test (filter keep xs) ≡ find test xs
 find-filter test keep kept [] = refl
@@ -90,7 +90,7 @@ others-differ file (p ∷ ps) = by (bytes_eq p.file file) (apart-sym p.file file
     by true apart others = others
     by false apart others = (apart refl, others)
 
--- an edge that is pending on a file is not pending on another one
+-- an edge that is pending on a file is not pending on another file
 kept-others : (file other : List ℕ) → bytes_eq other file ≡ false → (p : Pending)
     → bytes_eq p.file file ≡ true → not (bytes_eq p.file other) ≡ true
 kept-others file other apart p is = by (bytes_eq p.file other) (bytes_eq-Decides p.file other).0

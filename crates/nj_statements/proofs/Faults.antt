@@ -16,7 +16,7 @@ use Rattle.nj_statements.specs.BuildFaults.{empty_path, two_makers, outputs_faul
 use Rattle.nj_statements.specs.Answers.{Checks}
 use Rattle.nj_statements.proofs.Lists.{at-next}
 
--- a fault is the expected one, or out of memory
+-- a fault is the expected fault, or out of memory
 pub by-fault : {R : Type 0} (expected f : GraphFault) → IsFault (Some expected) f → (f ≡ no_memory → R)
     → (f ≡ expected → R) → R
 by-fault expected f (inl none) lacks is = lacks none
@@ -82,7 +82,7 @@ first-four fault_of a b c d =
     ∙ ap (option_or (first_given fault_of a))
     (first-append fault_of b (c ++ d) ∙ ap (option_or (first_given fault_of b)) (first-append fault_of c d))
 
--- the fault of the next word is the fault of all of them, where the ones before it have none
+-- the fault of the next word is the fault of all of them, if the words before it have no fault
 pub next-fault : (fault_of : WordModel → Option GraphFault) (words : List Word) (i : ℕ) (word : Word)
     (f : GraphFault) → i < length words → word ≡ get_or words i word
     → first_given fault_of (words_model (drop i words)) ≡ first_given fault_of (words_model words)

@@ -63,7 +63,7 @@ joins-err after expected stated joined (Ok x) f is h = absurd is
 
 -- ---- files and their numbers
 
--- these are bound to files below this number
+-- the edges are bound to files below the given number
 abbrev pub AreKnown : (count : ℕ) → List (Option DyndepEdge) → Type 0
 AreKnown count bound = AllByRecursion (λ b. IfSome b (λ d. d.file.0 < count)) bound
 
@@ -157,7 +157,7 @@ changed-other f zero (x ∷ xs) (suc m) apart = refl
 changed-other f (suc n) (x ∷ xs) zero apart = refl
 changed-other f (suc n) (x ∷ xs) (suc m) apart = changed-other f n xs m (λ e. apart (ap suc e))
 
--- those to which nothing is joined after one more was
+-- the edges to which nothing is joined, after a file is joined to one more edge
 was-other : (n : ℕ) (was : List Bool) (m : ℕ) → n < length was
     → get_or (changed_at (λ w. true) n was) m false ≡ false → (m ≢ n) × (get_or was m false ≡ false)
 unfolding changed_at
@@ -330,7 +330,7 @@ module _ (j : JoiningFields) (held : JoiningIsHeld j) where
           restats = refl;
         })
 
-  -- ---- with one
+  -- ---- with a file joined to an edge
 
   module _ (edge : ℕ) (file : FileNo) (below : edge < length j.table.stated)
       (first : is_joined j.table edge ≡ false) (binds : is_bound_to (get_or j.bound edge None) file ≡ true)
@@ -575,7 +575,7 @@ module _ (j : JoiningFields) (held : JoiningIsHeld j) where
               ∙ slice_get-map (λ (e : EdgeModel). e.paths) (edges_read joined) edge
               ∙ ap (option_map (λ (e : EdgeModel). e.paths)) there.1)
 
-      -- which statement an entry means
+      -- which statement an entry denotes
       pub meaning-held : (entry : EntryModel)
           → maker_fault name entry.out j.table (edge_bound j.table j.bound file entry.out)
           ≡ meaning_fault name stated joined entry

@@ -159,7 +159,7 @@ pub row-discovered_names_none : wrong_after (entry (codes "o2") [] []) ≡ wrong
 unfolding clean_path_of without_leftmost_pair edges_read bounds pending_read discover
 row-discovered_names_none = refl
 
--- `build m: dyndep` after the entry of `o`: both mean one statement
+-- `build m: dyndep` after the entry of `o`: both denote one statement
 pub row-twice : wrong_after (entry (codes "m") [] []) ≡ wrong 7 (DyndepTwice (codes "m"))
 unfolding clean_path_of without_leftmost_pair edges_read bounds pending_read discover
 row-twice = refl

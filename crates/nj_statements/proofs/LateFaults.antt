@@ -49,7 +49,7 @@ module _ (file : List ℕ) (spot : Spot) (declared : List (List ℕ)) (meant tex
         ∙ ap (λ b. then_some (not (b || is_pool declared meant)) fault) (something-meant meant some)
         ∙ ap (λ b. then_some (not b) fault) unknown)) h
 
-    -- no pool is named, or this one
+    -- if the text is empty, no pool is named
     pub name-empty : (length meant == 0) ≡ true → name_given text ≡ None
     name-empty h = ap name_given (sym gives)
         ∙ ap (λ b. if b then None else Some meant) (nothing-meant meant h)

@@ -30,7 +30,7 @@ use Rattle.nj_statements.specs.EdgeList.{edge_paths, stated_paths, build_block, 
 use Rattle.nj_statements.specs.BuildFaults.{late_fault}
 use Rattle.nj_statements.specs.Inside.EdgeSteps.{names_read, SeesLate, names_fault, lines_of_rule}
 
--- functions that give the same everywhere are the same
+-- functions with the same result everywhere are the same
 pub same-everywhere : {A B : Type 0} (f g : A → B) → ((x : A) → f x ≡ g x) → f ≡ g
 same-everywhere f g same = λ i. λ x. same x i
 
@@ -174,7 +174,7 @@ first-known files numbers paths count are =
     All-take (λ (f : FileNo). f.0 < length files) count numbers
     (All-from_recursion (λ (f : FileNo). f.0 < length files) numbers (are-known files numbers paths are))
 
--- there are as many of them
+-- there are as many files as paths
 pub as-many : (files : List (List ℕ)) (numbers : List FileNo) (paths : List (List ℕ))
     → AreFiles files numbers paths → length numbers ≡ length paths
 as-many files numbers paths are = sym (length-map numbers (λ (f : FileNo). slice_get files f.0))

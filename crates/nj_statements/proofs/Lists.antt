@@ -33,7 +33,7 @@ unfolding clean_path_of
 clean-not-empty [] is = absurd (omega (arith, ap length is))
 clean-not-empty (x ∷ xs) is = refl
 
--- an element at a position of a list is at the same position of a longer one
+-- an element at a position of a list is at the same position of a longer list
 pub get-longer : {X : Type 0} (xs ys : List X) (i : ℕ) (x : X) → slice_get xs i ≡ Some x
     → slice_get (xs ++ ys) i ≡ Some x
 get-longer xs ys i x h =

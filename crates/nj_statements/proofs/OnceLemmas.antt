@@ -24,7 +24,7 @@ not_or true false = refl
 not_or false true = refl
 not_or false false = refl
 
--- paths that are not among the earlier ones
+-- paths that are not among the earlier paths
 abbrev fresh : (earlier paths : List (List ℕ)) → List (List ℕ)
 fresh earlier paths = filter (λ p. not (is_among earlier p)) paths
 

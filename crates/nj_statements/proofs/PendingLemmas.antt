@@ -132,7 +132,7 @@ unjoined-at path k (Some f ∷ ws) (suc n) m is =
     (other-eqb k m (λ e. omega (arith, is, e)))
     ∙ unjoined-at path (k + 1) ws n m (omega (arith, is))
 
--- the first one
+-- the first edge that is pending on a file
 pub find-first : (path : List ℕ) (k : ℕ) (ws : List (Option (List ℕ))) (n m : ℕ) (f : List ℕ) → m ≡ k + n
     → first_edge (λ w. is_path w path) ws ≡ Some n → get_or ws n None ≡ Some f
     → find (λ p. bytes_eq p.file path) (pending_from k ws) ≡ Some (record { edge = m; file = f })
@@ -180,7 +180,7 @@ find-none path k (Some g ∷ ws) first = by (bytes_eq g path) first (find-none p
     by true first later = absurd (true≢false (ap is_some first))
     by false first later = later (none-after (first_edge (λ w. is_path w path) ws) first)
 
--- without one of them
+-- without the edge of a lower number
 kept-below : (k : ℕ) (ws : List (Option (List ℕ))) (n : ℕ) → n < k
     → filter (λ p. not (p.edge == n)) (pending_from k ws) ≡ pending_from k ws
 kept-below k [] n below = refl
@@ -269,7 +269,7 @@ pub edge-within : (w : Option DyndepEdge) (n most : ℕ) → IfSome w (λ d. d.e
 edge-within None n most is below = tt
 edge-within (Some d) n most is below = omega (arith, is, below)
 
--- one more of those that are still pending
+-- one more edge, if it is still pending
 pub edges-turn : (bound : List (Option DyndepEdge)) (was : List Bool) (n : ℕ) → n < length bound
     → edges_in (take (n + 1) (still_pending bound was))
     ≡ edges_in (take n (still_pending bound was)) ++ edge_if (get_or (still_pending bound was) n None)
@@ -384,7 +384,7 @@ pub count-more : (file : FileNo) (ds : List DyndepEdge) (d : DyndepEdge)
 count-more file [] d = omega arith
 count-more file (x ∷ ds) d = let is = count-more file ds d in omega (arith, is)
 
--- where none is pending on it, there is no first one
+-- if no edge is pending on a file, there is no first pending edge
 pub none-first : (file : FileNo) (ws : List (Option DyndepEdge)) → count_pending file ws ≡ 0
     → first_edge (λ w. is_bound_to w file) ws ≡ None
 none-first file [] none = refl
@@ -654,7 +654,7 @@ none-if P (suc count) (suc n) = none-if P count n
 pub none-by-number : (count : ℕ) → AreByNumber (replicate count None)
 none-by-number count = λ n. none-if (λ d. d.edge.0 ≡ n) count n
 
--- ---- the first one by a walk
+-- ---- the first element, by a walk
 
 pub first-at : {X : Type 0} (test : X → Bool) (xs : List X) (n : ℕ) (d : X)
     → ((m : ℕ) → m < n → test (get_or xs m d) ≡ false) → n < length xs → test (get_or xs n d) ≡ true
@@ -694,7 +694,7 @@ first-passes test (x ∷ xs) n d first = by (test x) n refl first (λ j. first-p
         subst (λ i. (i < length (x ∷ xs)) × (test (get_or (x ∷ xs) i d) ≡ true)) (sym next.2)
         (omega (arith, below), found.1)
 
--- an edge that is bound to a file, and one that is bound to another
+-- an edge that is bound to a file, and an edge that is bound to another
 pub bound-same : (d : DyndepEdge) (file : FileNo) → d.file.0 ≡ file.0 → is_bound_to (Some d) file ≡ true
 bound-same d file is = ap (λ n. d.file.0 == n) (sym is) ∙ same-eqb d.file.0
 

@@ -63,7 +63,7 @@ entries items = map entry items
 abbrev line : (name value : List ℕ) → LineModel
 line name value = record { spot = at 3; name = name; value = word 7 (Text value) }
 
--- the fault of a build statement after these statements, the last one first
+-- the fault of a build statement after the given statements, the last statement first
 abbrev wrong_with : List StatementModel → OutputsModel → NameModel → InputsModel → List LineModel
     → Option GraphFault
 wrong_with before outputs rule inputs lines =

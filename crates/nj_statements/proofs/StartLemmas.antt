@@ -30,7 +30,7 @@ use Rattle.nj_statements.proofs.PendingLemmas.{bind-by-number, none-by-number}
 
 -- ---- the files on which edges are pending
 
--- these are the files on which edges are pending
+-- the given files are those on which edges are pending
 pub record AreAwaited (entries : List ReadStatement) (unjoined : List (Option (List ℕ))) : Type 0 where
   pub are : pending_read entries ≡ pending_from 0 unjoined
   pub count : length unjoined ≡ length (edges_read entries)

@@ -63,7 +63,7 @@ outputs-open t (p ∷ ps) = outputs-open (with_output t p) ps
 
 -- ---- inputs
 
--- those that an edge with these outputs keeps
+-- the inputs that an edge with the given outputs keeps
 abbrev pub kept : (loses_own : Bool) → (outputs paths : List (List ℕ)) → List (List ℕ)
 kept false outputs paths = paths
 kept true outputs paths = filter (λ path. not (is_among outputs path)) paths

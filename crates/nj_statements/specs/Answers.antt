@@ -24,8 +24,8 @@ Checks expected (Err fault) = IsFault expected fault
 
 -- ---- the files of an edge
 
--- The edges that were read stay the same. Files may be new, which keep the numbers of the others, and of the edge that is being
--- read nothing is known.
+-- The edges that were read stay the same. Files may be added, without changing the numbers of the others, and nothing
+-- is known of the edge that is being read.
 pub record KeepsRead (before after : EdgeTable) : Type 0 where
   pub edges : after.edges ≡ before.edges
   pub files : IsPrefix before.files after.files
@@ -44,22 +44,22 @@ HasReferences kept rules =
 pub record BuildingModel : Type 0 where
   pub table : EdgeTable
   pub records : RecordsModel
-  -- of each rule by number, which of its variables refer to which, where an edge has used it
+  -- for each rule by number, which of its variables refer to which, once an edge has used it
   pub references : List (Option (List ReferringKeyModel))
 
 -- the edges that were read
 abbrev pub graph_read : EdgeTable → EdgeGraph
 graph_read table = record { files = table.files; edges = table.edges }
 
--- It has the edges and defaults of these statements, the last read first.
+-- It has the edges and defaults of the given statements, the last read first.
 pub record HasEdges (held : BuildingModel) (entries : List ReadStatement) : Type 0 where
   pub none_open : held.table.«open» ≡ no_files
   pub fits : AreOfGraph (graph_read held.table) held.records
   pub built : IsBuiltOf (with_graph (graph_read held.table) held.records) entries
   pub references : HasReferences held.references (rules_read entries)
 
--- No edge and no default is added: those that were read stay the same, with their blocks. Files may be new, which keep the numbers of
--- the others, and an edge may be read in part.
+-- No edge or default is added: those that were read stay the same, with their blocks. Files may be added, without
+-- changing the numbers of the others, and an edge may be read in part.
 pub record AddsNothing (before after : BuildingModel) : Type 0 where
   pub edges : KeepsRead before.table after.table
   pub blocks : (number : ℕ) (name : List ℕ) → number < length before.records.details

@@ -31,7 +31,7 @@ abbrev pub unknown_rule : ReadStatement → (before : List ReadStatement) → Na
 unknown_rule e before rule =
     then_some (not (is_some (rule_in_force before (scope_of e) rule.name))) (fault_at e.file rule.spot (UnknownRule rule.name))
 
--- An output is refused if an earlier edge makes it, or if it is one of those to its left.
+-- An output is refused if an earlier edge makes it, or if it repeats an output to its left.
 abbrev pub two_makers : (file : List ℕ) → Values → List EdgePaths → (left : List (List ℕ)) → WordModel → Option GraphFault
 two_makers file values edges left word =
     then_some (is_some (maker_of edges (path_given values word)) || is_among left (path_given values word))
@@ -67,7 +67,7 @@ abbrev pub dyndep_not_input : (file : List ℕ) → Spot → (inputs : List (Lis
 dyndep_not_input file spot inputs dyndep =
     then_some (not (is_empty dyndep || is_among inputs (clean_path_of dyndep))) (fault_at file spot (DyndepNotInput (clean_path_of dyndep)))
 
--- The first of these faults. The edge is the one that the statement makes, with its block and without the inputs that it loses.
+-- The first fault of the names. The edge is that of the statement, with its block and without the inputs that it loses.
 -- A name of the file has the value that it has before the statement.
 abbrev pub late_fault : (before : List ReadStatement) → EdgeModel → Option GraphFault
 late_fault before edge =

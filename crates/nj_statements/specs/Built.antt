@@ -1,4 +1,4 @@
--- The result of a run's statements after the last one: its edges and defaults, or a dependency cycle.
+-- The result of a run's statements after the last statement: its edges and defaults, or a dependency cycle.
 use Rattle.std.specs.Prelude.{◌≡◌, ◌⊎◌, ℕ, Bool, Some, Result, Ok, Err, List, [], ◌∷◌, map, length, slice_get, slice_index_or}
 use Rattle.nj_text.specs.declared.spot.Spot.{Spot}
 use Rattle.nj_scope.specs.ReadingList.{ReadStatement}
@@ -35,12 +35,13 @@ pub record BuiltModel : Type 0 where
   -- for each edge, whether its dyndep file binds `restat`
   pub restats : List Bool
 
--- the detail of the edge with the given number; past the last edge there is none
+-- the detail of the edge with the given number; none past the last edge
 abbrev pub detail_at : List EdgeDetail → (number : ℕ) → EdgeDetail
 detail_at details number =
     slice_index_or details number (record { file = []; spot = record { line = 0; column = 0 }; scope = 0; rule = 0 })
 
--- The defaults in force: the files of the `default` lines, each naming at least one; the roots where there is no such line.
+-- The defaults in force: the files of the `default` lines, each naming at least one; the roots if there is no `default`
+-- line.
 abbrev pub defaults_in_force : (defaults : List (List ℕ)) → List EdgePaths → List (List ℕ)
 defaults_in_force [] edges = roots_of edges
 defaults_in_force (path ∷ paths) edges = path ∷ paths
@@ -51,7 +52,7 @@ defaults_in_force (path ∷ paths) edges = path ∷ paths
 abbrev pub detail_of : EdgeModel → EdgeDetail
 detail_of e = record { file = e.file; spot = e.spot; scope = e.scope; rule = e.rule }
 
--- It has the edges and the defaults of these statements, the last read first.
+-- It has the edges and the defaults of the given statements, the last read first.
 pub record IsBuiltOf (built : BuiltModel) (entries : List ReadStatement) : Type 0 where
   pub paths : built.graph.edges ≡ paths_of_edges (edges_read entries)
   pub details : built.details ≡ map detail_of (edges_read entries)
@@ -62,8 +63,8 @@ pub record IsBuiltOf (built : BuiltModel) (entries : List ReadStatement) : Type 
   pub assigned : built.assigned ≡ assigned_read entries
   pub restats : built.restats ≡ restats_read entries
 
--- The fault of a dependency cycle: at the statement of the edge of the smallest number that lies on one itself, with the first
--- output of that edge. An edge that only leads into a cycle does not lie on it.
+-- The fault of a dependency cycle: at the statement of the lowest-numbered edge that lies on a cycle itself, with the
+-- first output of that edge. An edge that only leads into a cycle does not lie on it.
 pub record IsCycleFault (edges : List EdgeModel) (fault : GraphFault) : Type 0 where
   pub number : ℕ
   pub edge : EdgeModel

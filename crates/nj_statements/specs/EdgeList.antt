@@ -28,7 +28,8 @@ Block = (name : List ℕ) → Option (List ℕ)
 abbrev pub no_block : Block
 no_block name = None
 
--- The last line of a name counts. Its value sees the scope of the file, and no line of the block itself.
+-- The last line of a name takes effect. Its value is expanded in the scope of the file, without the lines of the block
+-- itself.
 abbrev pub block_of : Values → List LineModel → Block
 block_of values lines name = option_map (λ l. expanded values l.value.parts) (last_line (λ l. l.name) lines name)
 
@@ -40,11 +41,11 @@ names_bound lines = each_once bytes_eq (map (λ l. l.name) lines)
 abbrev pub on_line : Values → Block → Values
 on_line values block name = unwrap_or (block name) (values name)
 
--- the path that a word gives
+-- the path that a word expands to
 abbrev pub path_given : Values → WordModel → List ℕ
 path_given values word = clean_path_of (expanded values word.parts)
 
--- the paths that words give
+-- the paths that words expand to
 abbrev pub paths_given : Values → List WordModel → List (List ℕ)
 paths_given values words = map (path_given values) words
 
@@ -58,7 +59,7 @@ pub record EdgeModel : Type 0 where
   -- its scope, and the scopes around it, the nearest first, by their numbers
   pub scope : ℕ
   pub around : List ℕ
-  -- the number of its rule: that which is in force before the statement; `phony` is 0
+  -- the number of its rule, which is the one in force before the statement; `phony` is 0
   pub rule : ℕ
   pub block : Block
   -- the names that its block binds
@@ -82,7 +83,7 @@ stated_paths values outputs inputs is_phony = record {
 abbrev pub loses_own : EdgePaths → Bool
 loses_own e = e.is_phony && length e.explicit_outputs == 1 && length e.implicit_outputs == 0 && length e.implicit_inputs == 0
 
--- these paths without the edge's own outputs
+-- the given paths without the edge's own outputs
 abbrev pub of_others : EdgePaths → List (List ℕ) → List (List ℕ)
 of_others e paths = filter (λ path. not (is_among (outputs_of e) path)) paths
 
@@ -94,7 +95,7 @@ without_own e = record e { explicit_inputs = of_others e e.explicit_inputs; orde
 abbrev pub edge_paths : EdgePaths → EdgePaths
 edge_paths e = if loses_own e then without_own e else e
 
--- the number of the rule that a name has in force; an unknown name has 0
+-- the number of the rule in force under a name; 0 for an unknown name
 abbrev pub rule_number : ReadStatement → (before : List ReadStatement) → NameModel → ℕ
 rule_number e before rule = unwrap_or (rule_in_force before (scope_of e) rule.name) 0
 
@@ -106,7 +107,8 @@ build_block e before lines = block_of (value_after before (scope_of e)) lines
 abbrev pub line_values : ReadStatement → (before : List ReadStatement) → List LineModel → Values
 line_values e before lines = on_line (value_after before (scope_of e)) (build_block e before lines)
 
--- Discovered files are implicit: they come after the implicit ones of the statement itself, its inputs before the order-only ones.
+-- Discovered files are implicit: they come after the implicit files of the statement itself, and the inputs before the
+-- order-only inputs.
 abbrev pub with_discovered : Option Discovered → EdgePaths → EdgePaths
 with_discovered None e = e
 with_discovered (Some found) e = record e {
@@ -135,16 +137,16 @@ edge_of_build e before outputs rule inputs lines = record {
       (edge_paths (stated_paths (line_values e before lines) outputs inputs (rule_number e before rule == 0)));
 }
 
--- the edge that a statement gives; only a build statement gives one
+-- the edge of a statement; only a build statement has an edge
 abbrev pub edge_given : ReadStatement → (before : List ReadStatement) → StatementModel → Option EdgeModel
 edge_given e before (BuildModel outputs rule inputs lines) = Some (edge_of_build e before outputs rule inputs lines)
 edge_given e before item = None
 
--- the edges of these statements
+-- the edges of the given statements
 unfoldable pub edges_read : List ReadStatement → List EdgeModel
 edges_read entries = gathered edge_given entries
 
--- the block of the edge with the given number; past the last edge there is none
+-- the block of the edge with the given number; none past the last edge
 abbrev pub block_of_edge : Option EdgeModel → Block
 block_of_edge None = no_block
 block_of_edge (Some e) = e.block
@@ -153,7 +155,7 @@ block_of_edge (Some e) = e.block
 abbrev pub block_at : List EdgeModel → (number : ℕ) → Block
 block_at edges number = block_of_edge (slice_get edges number)
 
--- the names that the block of the edge with the given number binds; past the last edge there are none
+-- the names that the block of the edge with the given number binds; none past the last edge
 abbrev pub block_names_at : List EdgeModel → (number : ℕ) → List (List ℕ)
 block_names_at edges number = slice_index_or (map (λ e. e.block_names) edges) number []
 
@@ -163,7 +165,7 @@ paths_of_edges edges = map (λ e. e.paths) edges
 
 -- ---- defaults
 
--- these paths with those of one more statement, if it is a `default` statement
+-- the given paths with those of one more statement, if it is a `default` statement
 abbrev pub with_defaults : ReadStatement → (before : List ReadStatement) → StatementModel → List (List ℕ) → List (List ℕ)
 with_defaults e before (DefaultModel words) paths = paths ++ paths_given (value_after before (scope_of e)) words
 with_defaults e before item paths = paths
@@ -175,8 +177,8 @@ defaults_read (e ∷ before) = with_defaults e before e.item (defaults_read befo
 
 -- ---- the names of rules
 
--- The dependencies of an edge's names, where its rule is used after these statements: its block and its rule come from its own
--- statement, its paths those that it keeps, and a name of the file has the value that it has by then.
+-- The dependencies of an edge's names, where its rule is used after the given statements: its block and its rule come
+-- from its own statement, its paths those that it keeps, and a name of the file has the value that it has by then.
 abbrev pub names_of_edge : List ReadStatement → EdgeModel → LateNames
 names_of_edge entries e = record {
   inputs = e.paths.explicit_inputs;
@@ -208,7 +210,7 @@ pending_at edge true file = []
 pending_at edge false (Some file) = record { edge = edge; file = file } ∷ []
 pending_at edge false None = []
 
--- these pending edges with that of one more statement, if its edge is pending
+-- the given pending edges with the edge of one more statement, if that edge is pending
 abbrev pub with_pending : ReadStatement → (before : List ReadStatement) → StatementModel → List Pending → List Pending
 with_pending e before (BuildModel outputs rule inputs lines) others =
     others ++ pending_at (length (edges_read before)) e.was_joined (dyndep_of before (edge_of_build e before outputs rule inputs lines))
@@ -238,7 +240,7 @@ pub record AssignedModel : Type 0 where
 abbrev pub assigned_of : (before : List ReadStatement) → EdgeModel → AssignedModel
 assigned_of before edge = record { pool = pool_of before edge; dyndep = dyndep_of before edge }
 
--- the assignment that a statement gives its edge
+-- the assignment of the edge of a statement
 abbrev pub assigned_given : ReadStatement → (before : List ReadStatement) → StatementModel → Option AssignedModel
 assigned_given e before item = option_map (assigned_of before) (edge_given e before item)
 
@@ -260,6 +262,6 @@ restat_given e before item = option_map (λ edge. binds_restat e.discovered) (ed
 unfoldable pub restats_read : List ReadStatement → List Bool
 restats_read entries = gathered restat_given entries
 
--- the same of the edge with the given number; past the last edge nothing is bound
+-- the same for the edge with the given number; past the last edge nothing is bound
 abbrev pub restat_at : List Bool → (number : ℕ) → Bool
 restat_at restats number = slice_index_or restats number false

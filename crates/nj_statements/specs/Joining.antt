@@ -18,7 +18,7 @@ use Rattle.nj_statements.specs.BuildFaults.{empty_path, outputs_fault}
 
 -- ---- the statements that are joined
 
--- discoveries, with those after them
+-- discoveries, followed by the given discoveries
 abbrev pub and_found : Option Discovered → Discovered → Discovered
 and_found None found = found
 and_found (Some earlier) found = record {
@@ -47,7 +47,7 @@ discovered_by entry = record {
   restat = entry.restat;
 }
 
--- An entry means the build statement that has its output; an output that another entry discovered names none.
+-- An entry denotes the build statement that has its output; an output that another entry discovered does not.
 abbrev pub edge_meant : (stated : List ReadStatement) → EntryModel → Option ℕ
 edge_meant stated entry = maker_of (paths_of_edges (edges_read stated)) (path_given no_values entry.out)
 
@@ -58,11 +58,11 @@ with_entry stated joined entry =
 
 -- ---- the fault of an entry
 
--- an edge is pending on this dyndep file
+-- an edge is pending on the given dyndep file
 abbrev pub pending_on : (file : List ℕ) → List Pending → Option ℕ → Bool
 pending_on file edges edge = option_map_or (λ number. list_any (λ p. p.edge == number && bytes_eq p.file file) edges) edge false
 
--- The build statement that is meant has to be bound to this file, and to be meant by no other entry.
+-- The denoted build statement must be bound to the given file, and no other entry may denote it.
 abbrev pub meaning_fault : (file : List ℕ) → (stated joined : List ReadStatement) → EntryModel → Option GraphFault
 meaning_fault file stated joined entry =
     let path = path_given no_values entry.out in
@@ -70,8 +70,8 @@ meaning_fault file stated joined entry =
     option_or (then_some (not (pending_on file (pending_read stated) edge)) (fault_at file entry.out.spot (DyndepExtra path)))
     (then_some (not (pending_on file (pending_read joined) edge)) (fault_at file entry.out.spot (DyndepTwice path)))
 
--- its output, and which statement it means; the outputs that it discovers, from left to right, which no other edge may make;
--- and the inputs
+-- its output, and which statement it denotes; the outputs that it discovers, from left to right, which no other edge
+-- may make; and the inputs
 abbrev pub entry_fault : (file : List ℕ) → (stated joined : List ReadStatement) → EntryModel → Option GraphFault
 entry_fault file stated joined entry =
     option_or (empty_path file no_values entry.out)
@@ -85,7 +85,8 @@ entry_fault file stated joined entry =
 abbrev pub no_statement : (file : List ℕ) → EdgeModel → GraphFault
 no_statement file e = fault_at e.file e.spot (DyndepNoStatement (unwrap_or (first_output e.paths) []) file)
 
--- After its last entry no edge may be pending on it; the fault is the fault of the lowest-numbered edge.
+-- After the last entry of a dyndep file no edge may be pending on it; the fault is that of the lowest-numbered pending
+-- edge.
 abbrev pub lacking_fault : (file : List ℕ) → (joined : List ReadStatement) → Option GraphFault
 lacking_fault file joined =
     option_and_then (λ p. option_map (no_statement file) (slice_get (edges_read joined) p.edge))

@@ -19,29 +19,29 @@ abbrev pub has_pending : List Pending → Bool
 has_pending [] = false
 has_pending (p ∷ others) = true
 
--- the file on which an edge is pending, if it is bound to this one, or to none
+-- the file on which an edge is pending, by the file to which it is bound, if any
 abbrev pub unless_joined : {A : Type 0} → Option A → (was_joined : Bool) → Option A
 unless_joined bound true = None
 unless_joined bound false = bound
 
--- the file on which each edge is pending, by the one to which it is bound; nothing was joined to edges past the end of
+-- the file on which each edge is pending, by the file to which it is bound; nothing was joined to edges past the end of
 -- the second list
 abbrev pub still_pending : {A : Type 0} → (bound : List (Option A)) → (was_joined : List Bool) → List (Option A)
 still_pending [] was_joined = []
 still_pending (b ∷ bound) [] = b ∷ bound
 still_pending (b ∷ bound) (was ∷ was_joined) = unless_joined b was ∷ still_pending bound was_joined
 
--- an edge as pending on a file; on none, it is not pending
+-- an edge as pending on a file; without a file, it is not pending
 abbrev pub pending_of : (edge : ℕ) → Option (List ℕ) → List Pending
 pending_of edge (Some file) = record { edge = edge; file = file } ∷ []
 pending_of edge None = []
 
--- the pending edges, numbered from this number on
+-- the pending edges, numbered from the given number on
 abbrev pub pending_from : (number : ℕ) → (unjoined : List (Option (List ℕ))) → List Pending
 pending_from number [] = []
 pending_from number (w ∷ unjoined) = pending_of number w ++ pending_from (number + 1) unjoined
 
--- the edges that are still pending, numbered from this number on
+-- the edges that are still pending, numbered from the given number on
 abbrev pub left_pending_from : (number : ℕ) → (bound : List (Option (List ℕ))) → (was_joined : List Bool) → List Pending
 left_pending_from number bound was_joined = pending_from number (still_pending bound was_joined)
 
@@ -66,7 +66,7 @@ pub record JoiningModel : Type 0 where
   pub defaults : List (List ℕ)
   -- the dyndep files, each with its first edge
   pub dyndep_files : List Pending
-  -- of each edge the dyndep file to which it is bound
+  -- for each edge, the dyndep file to which it is bound
   pub bound : List (Option (List ℕ))
   -- the assignment of each edge
   pub assigned : List AssignedModel
@@ -89,8 +89,8 @@ pub record HasJoined (held : JoiningModel) (stated joined : List ReadStatement) 
   pub assigned : held.assigned ≡ assigned_read joined
   pub restats : held.restats ≡ restats_read joined
 
--- Nothing is joined to an edge: the edges are unchanged, and so are the files on which they are pending. Files may be new, which
--- keep the numbers of the others, and the additions of an entry may be collected in part.
+-- Nothing is joined to an edge: the edges are unchanged, and so are the files on which they are pending. Files may be
+-- added, without changing the numbers of the others, and the additions of an entry may be collected in part.
 pub record JoinsNothing (before after : JoiningModel) : Type 0 where
   pub edges : KeepsEdges before.table after.table
   pub blocks : after.blocks ≡ before.blocks

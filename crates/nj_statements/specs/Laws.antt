@@ -15,8 +15,8 @@ use Rattle.nj_statements.specs.Joining.{discover, discovered_by, edge_meant, wit
 abbrev pub is_pending : List ReadStatement → (edge : ℕ) → Bool
 is_pending entries edge = list_any (λ p. p.edge == edge) (pending_read entries)
 
--- The same edge with discovered files: its outputs come after the implicit ones, and its inputs after the implicit ones and
--- before the order-only ones.
+-- The same edge with discovered files: the discovered outputs come after the implicit outputs, and the discovered
+-- inputs after the implicit inputs and before the order-only inputs.
 abbrev pub with_found : Discovered → EdgeModel → EdgeModel
 with_found found e = record e { paths = with_discovered (Some found) e.paths }
 
@@ -30,8 +30,8 @@ abbrev pub OthersArePendingAsBefore : Type 0
 OthersArePendingAsBefore = (entries : List ReadStatement) (edge : ℕ) (found : Discovered)
     → pending_read (discover edge found entries) ≡ filter (λ p. not (p.edge == edge)) (pending_read entries)
 
--- The discoveries of an entry of a dyndep file are added to this edge, which waited for the file. From then on it has `restat` if the
--- entry binds it, or an earlier one did.
+-- The discoveries of an entry of a dyndep file are added to the given edge, which waited for the file. From then on it
+-- has `restat` if the entry binds it, or an earlier entry did.
 pub record AddsToItsEdge (file : List ℕ) (stated joined : List ReadStatement) (entry : EntryModel) (edge : ℕ) : Type 0 where
   pub meant : edge_meant stated entry ≡ Some edge
   pub waited : pending_on file (pending_read joined) (Some edge) ≡ true
@@ -39,13 +39,13 @@ pub record AddsToItsEdge (file : List ℕ) (stated joined : List ReadStatement) 
   pub pending : pending_read (with_entry stated joined entry) ≡ filter (λ p. not (p.edge == edge)) (pending_read joined)
   pub restats : restats_read (with_entry stated joined entry) ≡ changed_at (λ had. had || entry.restat) edge (restats_read joined)
 
--- An entry that has no fault means one pending edge, and adds to that one.
+-- An entry without a fault denotes one pending edge, and adds to that edge.
 abbrev pub EntriesAddToTheirEdges : Type 0
 EntriesAddToTheirEdges = (file : List ℕ) (stated joined : List ReadStatement) (entry : EntryModel)
     → entry_fault file stated joined entry ≡ None → (edge : ℕ) × AddsToItsEdge file stated joined entry edge
 
--- An edge that has the entry of its dyndep file makes the outputs that the entry discovers, which no edge made before; each other
--- file has the maker that it had.
+-- An edge that has the entry of its dyndep file makes the outputs that the entry discovers, which no edge made before;
+-- every other file keeps its maker.
 pub record MakesWhatItDiscovers (stated joined : List ReadStatement) (entry : EntryModel) (edge : ℕ) (path : List ℕ) : Type 0 where
   pub new : is_among (discovered_by entry).outputs path ≡ true → maker_of (paths_of_edges (edges_read joined)) path ≡ None
   pub makes : is_among (discovered_by entry).outputs path ≡ true
@@ -65,7 +65,7 @@ IsFaultless e before (BuildModel outputs rule inputs lines) =
     (build_fault e before outputs rule inputs lines ≡ None) × (e.discovered ≡ None)
 IsFaultless e before item = Unit {0}
 
--- so is each of these statements, the last read first
+-- so is each of the given statements, the last read first
 abbrev pub AreFaultless : List ReadStatement → Type 0
 AreFaultless [] = Unit {0}
 AreFaultless (e ∷ before) = IsFaultless e before e.item × AreFaultless before
@@ -80,8 +80,8 @@ pub data IsWithEntries (stated : List ReadStatement) : List ReadStatement → Ty
 abbrev pub all_outputs : List EdgePaths → List (List ℕ)
 all_outputs edges = flat_map outputs_of edges
 
--- Of statements without a fault no two edges make the same file, and no edge makes one twice; nor with the additions of
--- dyndep files.
+-- In statements without a fault, no two edges make the same file, and no edge repeats an output; this also holds with
+-- the additions of dyndep files.
 abbrev pub NoFileGetsTwoMakers : Type 0
 NoFileGetsTwoMakers = (stated joined : List ReadStatement) → AreFaultless stated → IsWithEntries stated joined
     → IsDistinct bytes_eq (all_outputs (paths_of_edges (edges_read joined)))
@@ -99,7 +99,7 @@ pub record GivesTheSame (entries others : List ReadStatement) : Type 0 where
 abbrev pub NamesStay : Type 0
 NamesStay = (entries : List ReadStatement) (edge : ℕ) (found : Discovered) → GivesTheSame entries (discover edge found entries)
 
--- each has a smaller number than those after it
+-- each edge has a smaller number than the edges after it
 abbrev pub AreRising : List Pending → Type 0
 AreRising [] = Unit {0}
 AreRising (p ∷ others) = AllByRecursion (λ q. p.edge < q.edge) others × AreRising others
@@ -113,8 +113,8 @@ pub record AreByNumber (entries : List ReadStatement) : Type 0 where
 abbrev pub PendingEdgesRise : Type 0
 PendingEdgesRise = (entries : List ReadStatement) → AreByNumber entries
 
--- The dyndep files on which edges are pending: without duplicates, each with the lowest-numbered edge that is pending on it, and in the
--- order of these edges.
+-- The dyndep files on which edges are pending: without duplicates, each with the lowest-numbered edge that is pending
+-- on it, and in the order of those edges.
 pub record ComeOnce (edges : List Pending) : Type 0 where
   pub distinct : IsDistinct bytes_eq (map (λ p. p.file) (dyndep_files edges))
   pub first : (file : List ℕ) → find (λ p. bytes_eq p.file file) (dyndep_files edges) ≡ find (λ p. bytes_eq p.file file) edges

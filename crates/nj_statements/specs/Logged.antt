@@ -11,7 +11,7 @@ abbrev pub inputs_named : (named : (edge : ℕ) → List (List ℕ)) → (before
 inputs_named named before (BuildModel outputs rule inputs lines) = named (length (edges_read before))
 inputs_named named before item = []
 
--- discoveries, with these inputs after them
+-- discoveries, followed by the given inputs
 abbrev pub and_inputs : Option Discovered → List (List ℕ) → Option Discovered
 and_inputs found [] = found
 and_inputs found (path ∷ paths) = Some (and_found found (record { outputs = []; inputs = path ∷ paths; restat = false }))

@@ -14,15 +14,15 @@ use Rattle.nj_statements.specs.Built.{BuiltModel, EdgeDetail}
 
 -- ---- numbers
 
--- strings by numbers that count from 1; 0 is none
+-- strings by number, counted from 1; 0 is none
 abbrev pub numbered : (strings : List (List ℕ)) → List (Option (List ℕ))
 numbered strings = None ∷ map Some strings
 
--- the text of a number that counts from 1; past the last one there is none
+-- the text with the given number, counted from 1; none past the last text
 abbrev pub numbered_at : (strings : List (List ℕ)) → (number : ℕ) → Option (List ℕ)
 numbered_at strings number = slice_index_or (numbered strings) number None
 
--- there is a text of this number, which counts from 1
+-- a text has the given number, counted from 1
 abbrev pub IsNumbered : (strings : List (List ℕ)) → (number : ℕ) → Type 0
 IsNumbered strings number = number < length (numbered strings)
 
@@ -69,7 +69,7 @@ with_graph graph r = record {
   restats = map (λ d. d.restat) r.details;
 }
 
--- There is a detail of each edge, and all numbers are those of strings, files and edges.
+-- Each edge has a detail, and all numbers are those of strings, files and edges.
 pub record AreOfGraph (graph : EdgeGraph) (r : RecordsModel) : Type 0 where
   pub as_many : length r.details ≡ length graph.edges
   pub names_known : AllByRecursion (λ d. d.file < length r.names) r.details

@@ -28,7 +28,7 @@ use std::marker::Model;
 pub struct Building {
     edges: Edges,
     records: EdgeRecords,
-    // of each rule by number, which of its variables refer to which, where an edge has used it
+    // for each rule by number, which of its variables refer to which, once an edge has used it
     references: Vec<Option<KeyReferences>>,
     capacity: Capacity,
 }
@@ -49,7 +49,8 @@ impl Model for Building {
 }
 
 impl Building {
-    /// No edges. It allocates nothing. Names and paths are hashed by these keys.
+    /// Returns a `Building` without edges. Does not allocate. Names and paths are hashed with the
+    /// given keys.
     pub fn new(alloc: Global, keys: HashKeys) -> Building
         ensures { HasEdges result [] }
     {
@@ -72,11 +73,11 @@ impl Building {
     /// # Errors
     ///
     /// The first fault of the statement: an unknown rule, then its outputs from left to right, each
-    /// an empty path or one that has a maker, then an empty path among its inputs and validations,
-    /// and then a cycle of the rule's variables, a pool that is not declared, or a dyndep file that
-    /// is not an input ("Rule variables", "Pools" and "Dynamic Dependencies" in the manual). After
-    /// a fault the edges and defaults are those that were read before, but this edge may be read in
-    /// part, and nothing more may be read.
+    /// an empty path or a file with a maker already, then an empty path among its inputs and
+    /// validations, and then a cycle of the rule's variables, a pool that is not declared, or a
+    /// dyndep file that is not an input ("Rule variables", "Pools" and "Dynamic Dependencies" in
+    /// the manual). After a fault the edges and defaults are those that were read before, but the
+    /// faulty edge may be read in part, and nothing more may be read.
     pub fn read_build(
         &mut self,
         alloc: Global,
@@ -111,7 +112,7 @@ impl Building {
         self.read_edge(alloc, declarations, place, scope, build, rule)
     }
 
-    // Reads a build statement that has this rule.
+    // Reads a build statement that has the given rule.
     fn read_edge(
         &mut self,
         alloc: Global,
@@ -141,7 +142,7 @@ impl Building {
     {
         let records = &mut self.records;
         let number = records.details.as_slice().len();
-        // Capacity is made first, so that nothing can fail once the edge is there.
+        // Capacity is reserved first, so that nothing can fail once the edge is added.
         records.details.reserve(1)?;
         records.dyndeps.reserve(1)?;
         let file = file_number(&mut records.names, records.details.last(), place.file)?;
@@ -183,8 +184,8 @@ impl Building {
     ///
     /// # Errors
     ///
-    /// The fault of the first word that has one: an empty path, or a file that no earlier build
-    /// statement names. Nothing changes then.
+    /// The fault of the first faulty word: an empty path, or a file that no earlier build statement
+    /// names. Nothing changes then.
     pub fn read_default(
         &mut self,
         alloc: Global,
@@ -229,13 +230,14 @@ impl Building {
         }
     }
 
-    /// The result of the statements, which must be without faults. Takes time in proportion to the
-    /// edges and their inputs.
+    /// Returns the result of the statements, which must have no faults. Takes time in proportion to
+    /// the edges and their inputs.
     ///
     /// # Errors
     ///
-    /// A dependency cycle: at the statement of the lowest-numbered edge that lies on one itself,
-    /// with the first output of that edge. An edge that only leads into a cycle is not named.
+    /// A dependency cycle: at the statement of the lowest-numbered edge that lies on a cycle
+    /// itself, with the first output of that edge. An edge that only leads into a cycle is not
+    /// named.
     pub fn finish(self, alloc: Global) -> Result<Built, GraphFault>
         requires { (entries : List ReadStatement) × HasEdges self entries }
         ensures { (entries : List ReadStatement) → HasEdges self entries
@@ -247,7 +249,7 @@ impl Building {
     }
 }
 
-// Appends this edge, if it is bound to a dyndep file.
+// Appends the given edge, if it is bound to a dyndep file.
 fn push_dyndep(dyndeps: &mut Vec<DyndepEdge>, edge: EdgeNo, file: Option<FileNo>)
     requires { vec_len dyndeps.old < vec_capacity dyndeps.old }
     ensures { dyndeps.new.items ≡ with_dyndep edge file dyndeps.old.items }
@@ -281,7 +283,7 @@ fn add_targets(
     Ok(())
 }
 
-// The rule that is in force under the name in this scope.
+// The rule that is in force under the name in the given scope.
 fn rule_named<'a>(
     declarations: &'a Declarations,
     scope: ScopeNo,

@@ -63,7 +63,7 @@ impl Built {
         place_of(&self.records.names, self.records.details[edge.0])
     }
 
-    /// The number of the scope that has the build statement of an edge.
+    /// The number of the scope that contains the build statement of an edge.
     pub fn scope(&self, edge: EdgeNo) -> ScopeNo
         requires { edge.0 < length self.now.graph.edges }
         ensures { result.0 ≡ (detail_at self.now.details edge.0).scope }
@@ -80,7 +80,7 @@ impl Built {
     }
 
     /// The pool of an edge, by its name: the value of `pool` at its build statement ("Pools" in the
-    /// Ninja manual). `None` if that was nothing.
+    /// Ninja manual). `None` if the value was empty.
     pub fn pool(&self, edge: EdgeNo) -> Option<&[u8]>
         requires { edge.0 < length self.now.graph.edges }
         ensures { option_copied result ≡ (assigned_at self.now.assigned edge.0).pool }
@@ -89,7 +89,7 @@ impl Built {
     }
 
     /// The dyndep file of an edge, by its clean path: the value of `dyndep` at its build statement
-    /// ("Dynamic Dependencies" in the Ninja manual). `None` if that was nothing.
+    /// ("Dynamic Dependencies" in the Ninja manual). `None` if the value was empty.
     pub fn dyndep(&self, edge: EdgeNo) -> Option<&[u8]>
         requires { edge.0 < length self.now.graph.edges }
         ensures { option_copied result ≡ (assigned_at self.now.assigned edge.0).dyndep }
@@ -113,7 +113,7 @@ impl Built {
         self.records.dyndeps.as_slice().len()
     }
 
-    /// The edge at this index of those that are pending on dyndep files, by number.
+    /// The edge at the given index among those that are pending on dyndep files, by number.
     pub fn pending_edge(&self, index: usize) -> EdgeNo
         requires { index < length self.now.pending }
         ensures edge { option_map (λ p. p.edge) (slice_get self.now.pending index)
@@ -123,8 +123,8 @@ impl Built {
         self.records.dyndeps[index].edge
     }
 
-    /// The defaults in force: the files of the `default` lines in their order, or the roots where
-    /// there is no such line ("Default target statements" in the Ninja manual).
+    /// The defaults in force: the files of the `default` lines in their order, or the roots if
+    /// there is no `default` line ("Default target statements" in the Ninja manual).
     pub fn defaults(&self) -> &[FileNo]
         ensures files { AreFiles self.now.graph.files result.now
             (defaults_in_force self.now.defaults self.now.graph.edges) }

@@ -10,7 +10,7 @@ use nj_text::Spot;
 use std::alloc::Global;
 
 /// Where a statement is, and the meaning of names there: the binding of its edge's block, else the
-/// value in its scope. A statement that is not an edge has the number of the next one, which binds
+/// value in its scope. A statement that is not an edge has the number of the next edge, which binds
 /// nothing yet.
 #[derive(Clone, Copy)]
 pub(crate) struct Context<'a> {
@@ -24,7 +24,7 @@ pub(crate) struct Context<'a> {
 }
 
 impl Context<'_> {
-    /// The fault of this cause at a place of the file, or out of memory.
+    /// The fault with the given cause at a place in the file, or out of memory.
     pub(crate) fn fault(self, spot: Spot, cause: Cause) -> GraphFault
         ensures { IsFault (Some (fault_at self.entry.place.file.now spot cause)) result }
     {

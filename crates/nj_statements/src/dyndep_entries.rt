@@ -89,8 +89,8 @@ struct Start {
     unjoined: Vec<usize>,
 }
 
-// The edges of a graph, and the dyndep files of some of them. It owns no more than the graph, so
-// that each of its ends drops little.
+// The edges of a graph, and the dyndep files of some of them. The function owns only the graph, so
+// that each of its exits drops little.
 fn start_of(alloc: Global, graph: EdgeGraph, dyndeps: &[DyndepEdge]) -> Result<Start, AllocError>
     requires edges { AllByRecursion (λ d. d.edge.0 < length graph.edges) dyndeps.now }
     requires files { AllByRecursion (λ d. d.file.0 < length graph.files) dyndeps.now }
@@ -142,7 +142,7 @@ struct Awaited {
     unjoined: Vec<usize>,
 }
 
-// The dyndep files of edges, where there are this many files.
+// The dyndep files of edges, in a graph with the given number of files.
 fn awaited_files(
     alloc: Global,
     file_count: usize,
@@ -170,14 +170,14 @@ fn awaited_files(
 }
 
 impl Joining {
-    /// How many dyndep files there are.
+    /// The number of dyndep files.
     pub fn file_count(&self) -> usize
         ensures { result ≡ length self.now.dyndep_files }
     {
         self.dyndep_files.as_slice().len()
     }
 
-    /// The dyndep file at this index, in the order of their first edges.
+    /// The dyndep file at the given index; the files are in the order of their first edges.
     pub fn file(&self, index: usize) -> DyndepFile<'_>
         requires { index < length self.now.dyndep_files }
         ensures is { slice_get self.now.dyndep_files index
@@ -202,14 +202,14 @@ impl Joining {
         place_of(&self.records.names, self.records.details[edge.0])
     }
 
-    /// Joins an entry of this dyndep file, which was opened under this name.
+    /// Joins an entry of the given dyndep file, which was opened under the given name.
     ///
     /// # Errors
     ///
-    /// The first fault of the entry: an empty path, or one whose build statement is not bound to
-    /// the file, or is meant by an earlier entry; then the outputs that it discovers from left to
-    /// right, each an empty path or one that has a maker, and an empty path among its inputs. After
-    /// a fault no edge has changed, but nothing more may be joined.
+    /// The first fault of the entry: an empty path, or a build statement that is not bound to the
+    /// file or that an earlier entry denotes; then, from left to right, a discovered output with an
+    /// empty path or with a maker already; and then an empty path among its inputs. After a fault
+    /// the edges are unchanged, but nothing more may be joined.
     pub fn join_entry(
         &mut self,
         alloc: Global,
@@ -236,11 +236,12 @@ impl Joining {
         Ok(())
     }
 
-    /// Checks after the last entry of this dyndep file that no edge is pending on it.
+    /// Checks after the last entry of the given dyndep file that no edge is pending on the file.
     ///
     /// # Errors
     ///
-    /// The lowest-numbered edge that does, at its build statement; or an allocation failed.
+    /// The lowest-numbered edge that is pending on the file, at its build statement; or an
+    /// allocation failed.
     pub fn end_file(&self, alloc: Global, file: FileNo) -> Result<(), GraphFault>
         requires { file.0 < length self.now.table.files }
         ensures { (stated joined : List ReadStatement) → HasJoined self.now stated joined
@@ -274,8 +275,8 @@ impl Joining {
         Ok(place.fault(alloc, Cause::DyndepNoStatement(output, path)))
     }
 
-    /// The result of the edges with the files that were joined to them; other edges stay pending.
-    /// Takes time in proportion to the edges and their files.
+    /// Returns the edges of the run, with the dyndep files that were joined to them; other edges
+    /// stay pending. Takes time in proportion to the edges and their files.
     ///
     /// # Errors
     ///
@@ -348,7 +349,7 @@ fn pending_edge(edges: &JoiningEdges, bound: &[Option<DyndepEdge>], file: FileNo
     None
 }
 
-// The first output that an edge has in the graph; nothing if it has none.
+// The path of the first output of an edge in the graph; empty if the edge has no output.
 fn first_output(edges: &JoiningEdges, edge: EdgeNo) -> &[u8]
     requires { edge.0 < length edges.now.stated }
     ensures { result.now
@@ -360,7 +361,7 @@ fn first_output(edges: &JoiningEdges, edge: EdgeNo) -> &[u8]
     }
 }
 
-// A line of the dyndep file with this number, which was opened under this name.
+// A line of the dyndep file with the given number, which was opened under the given name.
 #[derive(Clone, Copy)]
 struct DyndepLine<'a> {
     alloc: Global,
@@ -369,7 +370,7 @@ struct DyndepLine<'a> {
 }
 
 impl DyndepLine<'_> {
-    // The path that a word gives.
+    // The path that a word expands to.
     fn path<'w>(
         self,
         capacity: &'w mut Capacity,
@@ -386,7 +387,7 @@ impl DyndepLine<'_> {
         }
     }
 
-    // The edge that makes a file in the graph, if it is bound to the dyndep file.
+    // The edge that makes a file in the graph, if the edge is bound to the dyndep file.
     fn bound_maker(
         self,
         edges: &JoiningEdges,
@@ -406,7 +407,7 @@ impl DyndepLine<'_> {
         }
     }
 
-    // The edge that has the output of an entry.
+    // The edge that an entry denotes by its output.
     fn edge_meant(
         self,
         capacity: &mut Capacity,
@@ -480,7 +481,7 @@ impl DyndepLine<'_> {
         Ok(())
     }
 
-    // The fault of this cause at a place of the file, or out of memory.
+    // The fault with the given cause at a place in the file, or out of memory.
     fn fault(self, spot: Spot, cause: Cause) -> GraphFault
         ensures { IsFault (Some (fault_at self.entry.name.now spot cause)) result }
     {
@@ -489,7 +490,7 @@ impl DyndepLine<'_> {
     }
 }
 
-// Whether an edge is bound to this dyndep file.
+// Whether an edge is bound to the given dyndep file.
 fn is_bound_to(bound: Option<DyndepEdge>, file: FileNo) -> bool
     ensures { result ≡ is_bound_to bound file }
 {
@@ -499,7 +500,7 @@ fn is_bound_to(bound: Option<DyndepEdge>, file: FileNo) -> bool
     }
 }
 
-// Whether the count at this index is 0; past the end it is.
+// Whether the count at the given index is 0. An index past the end has the count 0.
 fn is_zero(counts: &[usize], index: usize) -> bool
     ensures { result ≡ (slice_index_or counts.now index 0 == 0) }
 {

@@ -1,4 +1,4 @@
-//! The faults of the edge that is being read by the variables of its rule.
+//! The faults of the rule variables of the edge that is being read.
 
 ghost use Rattle.std.specs.Prelude.{◌≡◌, ◌<◌, List, Some, codes, length, slice_get, IfOk, IfSome, OnOk};
 ghost use Rattle.nj_statements.specs.Cited.{LateNames, asked_text, TellsCycles, ReadStatement, pools, variable_cycle_fault, unknown_pool, dyndep_not_input, IsPrefix, file_given, name_given, Checks, numbered, AreNumbersOf, SeesLate, IsFileGiven, assigned_by, names_fault};
@@ -95,7 +95,7 @@ impl Context<'_> {
         Err(self.place.fault(self.alloc, cause))
     }
 
-    // The dyndep file of the edge, if any. Refuses one that is not an input of the edge.
+    // The dyndep file of the edge, if any. Refuses a dyndep file that is not an input of the edge.
     fn check_dyndep(
         self,
         edge: LateEdge<'_>,

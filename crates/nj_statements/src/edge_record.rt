@@ -25,8 +25,8 @@ pub(crate) struct Detail {
 }
 
 /// The assignment of an edge at its build statement ("Pools" and "Dynamic Dependencies" in the
-/// Ninja manual): the numbers of its pool and of the path of its dyndep file among the strings that
-/// are kept, which count from 1, where 0 is none; and the dyndep file.
+/// Ninja manual): the numbers of its pool and of the path of its dyndep file among the kept
+/// strings, counted from 1, with 0 for none; and the dyndep file.
 #[derive(Clone, Copy)]
 pub(crate) struct Assigned {
     pub(crate) pool: u32,
@@ -35,9 +35,9 @@ pub(crate) struct Assigned {
 }
 
 impl Detail {
-    /// The detail of an edge that is at this place of the file with the given number, and to which
-    /// nothing is assigned yet. Numbers that take more than 32 bits are refused as if there were no
-    /// memory for them.
+    /// Returns the detail of an edge at the given place in the file with the given number, with
+    /// nothing assigned to the edge yet. A number of more than 32 bits is reported as a failed
+    /// allocation.
     pub(crate) fn new(
         file: u32,
         spot: Spot,
@@ -58,7 +58,7 @@ impl Detail {
         })
     }
 
-    /// The same edge, to which this is assigned.
+    /// Returns the same edge with the given assignment.
     pub(crate) fn with(self, assigned: Assigned) -> Detail
         ensures { result ≡ record self { pool = assigned.pool; dyndep = assigned.dyndep } }
     {

@@ -3,8 +3,8 @@
 
 ghost use Rattle.nj_statements.specs.Cited.{IsInReadingOrder, edge_given, edges_read, assigned_given, assigned_read, NamedInputsAreAdded, AddsToOneEdge, OthersArePendingAsBefore, NamesStay, EntriesAddToTheirEdges, EdgesMakeWhatIsDiscovered, NoFileGetsTwoMakers, PendingEdgesRise, DyndepFilesComeOnce};
 
-/// The k-th edge is that of the k-th `build` statement, by the statements before it, and so is its
-/// assignment; there are no others.
+/// The k-th edge and its assignment are those of the k-th `build` statement, by the statements
+/// before it; there are no other edges.
 pub fn edges_by_reading_order()
     ensures edges { IsInReadingOrder edge_given edges_read }
     ensures assigned { IsInReadingOrder assigned_given assigned_read }
@@ -19,16 +19,16 @@ pub fn discovered_files_are_added()
     ensures names { NamesStay }
 {}
 
-/// An entry of a dyndep file that has no fault means one edge that is pending on the file, and its
-/// discoveries are added to that edge: it makes the outputs, which no edge made before, and each
-/// other file has the maker that it had.
+/// An entry of a dyndep file that has no fault denotes one edge that is pending on the file, and
+/// its discoveries are added to that edge: the edge makes the outputs, which no edge made before,
+/// and every other file keeps its maker.
 pub fn entries_add_to_their_edges()
     ensures added { EntriesAddToTheirEdges }
     ensures makers { EdgesMakeWhatIsDiscovered }
 {}
 
-/// Where no statement and no entry of a dyndep file has a fault, the outputs of all edges are
-/// pairwise distinct paths.
+/// If no statement and no entry of a dyndep file has a fault, the outputs of all edges are pairwise
+/// distinct paths.
 pub fn no_file_gets_two_makers()
     ensures { NoFileGetsTwoMakers }
 {}

@@ -1,4 +1,4 @@
-//! The names on a line, and the paths that its words give.
+//! The names on a line, and the paths that its words expand to.
 
 ghost use Rattle.std.specs.Prelude.{◌≡◌, IfOk, OnOk};
 ghost use Rattle.nj_statements.specs.Cited.{clean_path_of, part_model, word_model, part_expanded, expanded, Values, path_given, empty_path, Checks, SeesNames};
@@ -43,7 +43,7 @@ impl Context<'_> {
         Ok(())
     }
 
-    /// The path that a word gives: a slice of its file if that is clean.
+    /// The path that a word expands to: a slice of its file if that is clean.
     pub(crate) fn path<'w>(
         self,
         capacity: &'w mut Capacity,

@@ -41,7 +41,7 @@ impl Model for EdgeRecords {
 }
 
 impl EdgeRecords {
-    /// The edges of a run: the graph that its edges finished as, with these records.
+    /// Returns the edges of a run: the finished graph, with the records of its edges.
     ///
     /// # Errors
     ///
@@ -80,7 +80,7 @@ impl EdgeRecords {
     }
 }
 
-// The fault of a cycle at the statement of this edge, with this output of it.
+// The fault of a cycle at the statement of the given edge, with the given output.
 fn cycle_fault(alloc: Global, names: &Names, detail: Detail, output: Name) -> GraphFault
     requires { detail.file < length names.now }
     ensures { IsFault (Some (fault_at (name_at names.now detail.file) (spot_of detail)
@@ -89,7 +89,7 @@ fn cycle_fault(alloc: Global, names: &Names, detail: Detail, output: Name) -> Gr
     place_of(names, detail).fault(alloc, Cause::Cycle(output))
 }
 
-// The place of the build statement of this edge.
+// The place of the build statement of the given edge.
 pub(crate) fn place_of(names: &Names, detail: Detail) -> PlaceRef<'_>
     requires { detail.file < length names.now }
     ensures file { result.file.now ≡ name_at names.now detail.file }

@@ -38,7 +38,7 @@ pub(crate) fn keep_references(
     Ok(())
 }
 
-/// The references kept for the rule with the given number, which must be there.
+/// The references kept for the rule with the given number, which must exist.
 pub(crate) fn rule_references(kept: &[Option<KeyReferences>], number: RuleNo) -> &KeyReferences
     requires { is_some (slice_index_or kept.now number.0 None) ≡ true }
     ensures { slice_index_or kept.now number.0 None ≡ Some result.now }
@@ -59,7 +59,7 @@ fn references_kept(kept: &[Option<KeyReferences>], number: RuleNo) -> Option<&Ke
     }
 }
 
-// Makes capacity for the references of this many rules.
+// Reserves capacity for the references of the given number of rules.
 fn make_capacity(kept: &mut Vec<Option<KeyReferences>>, count: usize) -> Result<(), AllocError>
     ensures capacity { OnOk result (count ≤ length kept.new.items) }
     ensures same { SameReferences kept.old.items kept.new.items }

@@ -14,7 +14,7 @@ pub(crate) struct Capacity {
 }
 
 impl Capacity {
-    /// Empty buffers. It allocates nothing.
+    /// Returns empty buffers. Does not allocate.
     pub(crate) fn new(alloc: Global) -> Capacity {
         Capacity {
             text: Vec::new(alloc),
@@ -35,11 +35,12 @@ impl Capacity {
         }
     }
 
-    /// The path that a word gives if each reference is empty: a slice of its file if that is clean.
+    /// Returns the path that a word expands to if each reference is empty: a slice of its file if
+    /// that is clean.
     ///
     /// # Errors
     ///
-    /// `EmptyPath` if it gives nothing, and `OutOfMemory` if an allocation failed.
+    /// `EmptyPath` if the word expands to nothing, and `OutOfMemory` if an allocation failed.
     pub(crate) fn plain_path<'w>(&'w mut self, word: &'w Word<'_>) -> Result<&'w [u8], TextFault>
         ensures path { IfOk result (λ path. path.now ≡ path_given no_values (word_model word.now)) }
         ensures meant { OnOk result (is_empty (expanded no_values (word_model word.now).parts)

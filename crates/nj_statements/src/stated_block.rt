@@ -44,8 +44,8 @@ pub(crate) fn bind_block(
     Ok(())
 }
 
-// The value of a word in this scope: a slice of its file if it has no reference and no escape. Any
-// other is put into the text.
+// The value of a word in the given scope: a slice of its file if it has no reference and no escape.
+// Any other value is put into the text.
 fn value_of<'w>(
     declarations: &Declarations,
     scope: ScopeNo,

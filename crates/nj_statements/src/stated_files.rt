@@ -146,7 +146,7 @@ impl Context<'_> {
     }
 }
 
-// The file of a word that is the path of a file already. Such a word is clean, since the paths of
+// The file of a word that is the path of a file already. The word is then clean, since the paths of
 // all files are.
 fn known_file(edges: &Edges, word: &Word<'_>) -> Option<FileNo>
     requires { AreClean edges.now.files }
@@ -159,8 +159,8 @@ fn known_file(edges: &Edges, word: &Word<'_>) -> Option<FileNo>
     edges.file_named(path)
 }
 
-// Appends an input to the edge that is being read, by the number of its file, unless it is an own
-// output of an edge that loses these.
+// Appends an input to the edge that is being read, by the number of its file, unless the edge makes
+// the file and loses its own outputs.
 fn add_known_input(edges: &mut Edges, file: FileNo, loses_own: bool) -> Result<(), AllocError>
     requires { file.0 < length edges.old.files }
     ensures added { (path : List ℕ) → slice_get edges.old.files file.0 ≡ Some path
@@ -174,8 +174,8 @@ fn add_known_input(edges: &mut Edges, file: FileNo, loses_own: bool) -> Result<(
     }
 }
 
-// Appends an input to the edge that is being read, unless it is an own output of an edge that loses
-// these.
+// Appends an input to the edge that is being read, unless the edge makes the file and loses its own
+// outputs.
 fn add_input(edges: &mut Edges, path: &[u8], loses_own: bool) -> Result<(), AllocError>
     ensures added { OnOk result (edges.new ≡ with_input_unless loses_own edges.old path.now) }
     ensures refused { OnErr result (edges.new ≡ edges.old) }
@@ -212,7 +212,7 @@ fn add_all_outputs(
 }
 
 // Appends all inputs and validations of a build statement to the edge that is being read. Returns
-// where its explicit inputs end, and its implicit ones.
+// where its explicit and its implicit inputs end.
 #[tactic(auto, using(crate::proofs::Keeps::keeps_then))]
 fn add_all_inputs(
     context: Context<'_>,
@@ -277,7 +277,7 @@ fn add_files(
     })
 }
 
-// The edge that is being read, with these ends of its kinds, for its late strings.
+// The edge that is being read, with the given ends of its kinds, for its late strings.
 fn late_edge<'a>(
     context: Context<'a>,
     edges: &'a Edges,
@@ -304,7 +304,7 @@ fn late_edge<'a>(
     }
 }
 
-/// Reads a build statement as an edge, which is then the last one. Returns its assignment.
+/// Reads a build statement as an edge, which is then the last edge. Returns its assignment.
 #[tactic(auto, using(crate::proofs::Keeps::keeps_same))]
 pub(crate) fn add_edge(
     context: Context<'_>,

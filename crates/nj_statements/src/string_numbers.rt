@@ -8,8 +8,8 @@ use crate::edge_record::Detail;
 use nj_names::{FileNo, Files, Names, short_number};
 use std::alloc::AllocError;
 
-/// The number of the file with the given name, in which there is an edge. It is looked up only
-/// where the edge before is in another file.
+/// The number of the file with the given name, which contains an edge. The name is looked up only
+/// if the previous edge is in another file.
 pub(crate) fn file_number(
     strings: &mut Names,
     before: Option<&Detail>,
@@ -38,7 +38,7 @@ pub(crate) fn string_number(strings: &mut Names, string: &[u8]) -> Result<u32, A
     Ok(number)
 }
 
-// The number after this one, in 32 bits.
+// The number after the given number, in 32 bits.
 fn next_number(number: usize) -> Result<u32, AllocError>
     ensures { IfOk result (λ next. next ≡ number + 1) }
 {
@@ -46,7 +46,7 @@ fn next_number(number: usize) -> Result<u32, AllocError>
     short_number(next)
 }
 
-/// The number of the path of this file, counted from 1; 0 if it is none.
+/// The number of the path of the given file, counted from 1; 0 for no file.
 #[tactic(auto, using(crate::proofs::AssignedLemmas::prefix_same))]
 pub(crate) fn path_number(
     strings: &mut Names,
@@ -64,7 +64,7 @@ pub(crate) fn path_number(
     }
 }
 
-/// The string of a number that counts from 1; `None` for 0.
+/// The string with the given number, counted from 1; `None` for 0.
 pub(crate) fn string_at(strings: &Names, number: u32) -> Option<&[u8]>
     requires { IsNumbered strings.now number }
     ensures { option_copied result ≡ numbered_at strings.now number }

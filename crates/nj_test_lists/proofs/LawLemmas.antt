@@ -42,7 +42,7 @@ has-right : {A : Type 0} (xs ys : List A) (x : A) → HasItem ys x → HasItem (
 has-right [] ys x has = has
 has-right (z ∷ xs) ys x has = inr (has-right xs ys x has)
 
--- what a list gives all of, each item gives
+-- an item has a list, whose items are all in the joined list
 pub record Part {A B : Type 0} (f : A → Option (List B)) (x : A) (all : List B) : Type 0 where
   pub given : List B
   pub gives : f x ≡ Some given
@@ -261,11 +261,11 @@ list-read FixturesSetup value test is = (test.set_up_fixtures, is.set_up_fixture
 list-read FixturesCleanup value test is = (test.cleaned_fixtures, is.cleaned_fixtures)
 list-read Depends value test is = (test.predecessors, is.predecessors)
 
--- what is there is not missing
+-- what exists is not missing
 not-none : {A : Type 0} (o : Option A) (x : A) → o ≡ Some x → o ≡ None → ⊥
 not-none o x there missing = let both : Some x ≡ None = sym there ∙ missing in cc
 
--- a value that is wrong at a key is no test
+-- a value that is wrong at a key is not a test
 not-both : (key : CTestKey) (value : Data) (test : TestModel) → IsCTest value test → IsWrongAt key value → ⊥
 not-both Name value test is wrong = not-none (string_at (codes "name") value) test.name is.name wrong
 not-both Command value test is wrong = not-none (command_of value) test.command is.command wrong

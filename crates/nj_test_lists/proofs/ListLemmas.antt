@@ -1,4 +1,4 @@
--- Lemmas on what lists give, one after another.
+-- Lemmas on the results of lists, item by item.
 use Rattle.std.proofs.Common.{◌≡◌, ℕ, ◌+◌, ◌<◌, List, [], ◌∷◌, ◌++◌, map, length, drop, get_or, refl, sym, ap}
 use Rattle.std.proofs.Common.{◌∙◌}
 use Rattle.std.proofs.Common.{suc, append_assoc, add-one, subst}
@@ -7,7 +7,7 @@ use Rattle.std.proofs.Math.Seq.{drop-cons}
 use Rattle.std.proofs.lemmas.List.{append-nil}
 use Rattle.nj_test_lists.specs.Values.{each}
 
--- What a whole list gives is what was found, and then what the rest of the list gives.
+-- The result of a whole list is what was found so far, and then the result of the rest of the list.
 pub record Stands {A : Type 0} (whole : Option (List A)) (done : List A) (rest : Option (List A)) : Type 0
   where
     pub cut : whole ≡ option_map (λ more. done ++ more) rest

@@ -20,17 +20,17 @@ pub record Property : Type 0 where
 abbrev property_with : (name : List ℕ) → Data → Property
 property_with name value = record { name = name; value = value }
 
--- the property that an item of the list is: it has a name and a value
+-- an item of the list as a property: it has a name and a value
 abbrev pub property_of : Data → Option Property
 property_of value =
     option_and_then (λ name. option_map (property_with name) (get (codes "value") value)) (string_at (codes "name") value)
 
--- the properties in a value; there are none without one
+-- the properties in a value; without a value, no properties
 abbrev properties_in : Option Data → Option (List Property)
 properties_in None = Some []
 properties_in (Some value) = option_and_then (each property_of) (items value)
 
--- the properties of a test; it has none if they are left out
+-- the properties of a test; if they are left out, no properties
 abbrev pub properties_of : (test : Data) → Option (List Property)
 properties_of test = properties_in (given (codes "properties") test)
 
@@ -46,11 +46,11 @@ property_name FixturesSetup = codes "FIXTURES_SETUP"
 property_name FixturesCleanup = codes "FIXTURES_CLEANUP"
 property_name Depends = codes "DEPENDS"
 
--- those that may name files
+-- the properties that may name files
 abbrev pub file_properties : List ListProperty
 file_properties = Environment ∷ EnvironmentModification ∷ RequiredFiles ∷ AttachedFiles ∷ AttachedFilesOnFail ∷ []
 
--- the values of a property: CTest writes one or none
+-- the values of a property: CTest writes at most one
 abbrev pub values_of : (name : List ℕ) → List Property → List Data
 values_of name [] = []
 values_of name (property ∷ properties) =
@@ -64,33 +64,34 @@ property_strings properties property = joined strings (values_of (property_name 
 abbrev pub strings_of_all : List Property → List ListProperty → Option (List (List ℕ))
 strings_of_all properties meant = joined (property_strings properties) meant
 
--- a directory that is the only value of its property, or none
+-- the directory that is the only value of its property, if any
 abbrev pub one_folder : List Data → Option (Option (List ℕ))
 one_folder [] = Some None
 one_folder (value ∷ []) = option_map Some (as_str value)
 one_folder (value ∷ other ∷ values) = None
 
--- The working directory, if the property is there. It is a string, and the property is not repeated.
+-- The working directory, if its property exists. It is a string, and the property is not repeated.
 abbrev pub folder_of : List Property → Option (Option (List ℕ))
 folder_of properties = one_folder (values_of (codes "WORKING_DIRECTORY") properties)
 
 -- ---- tests
 
--- The words of a command begin with its program. `NOT_AVAILABLE` stands for that of a test that has none in this configuration.
+-- The words of a command begin with its program. `NOT_AVAILABLE` stands for the program of a test without a program in
+-- this configuration.
 abbrev pub is_available : (words : List (List ℕ)) → Bool
 is_available [] = false
 is_available (program ∷ arguments) = not (bytes_eq program (codes "NOT_AVAILABLE"))
 
--- the words, if there is a program
+-- the words, if they have a program that is available
 abbrev pub known : Option (List (List ℕ)) → Option (List (List ℕ))
 known None = None
 known (Some words) = if is_available words then Some words else None
 
--- The command of a test; CTest leaves it out if it does not find the program, as one that is not built.
+-- The command of a test; CTest leaves it out if it does not find the program, such as a program that is not built.
 abbrev pub command_of : (test : Data) → Option (Option (List (List ℕ)))
 command_of test = option_map known (optional strings (given (codes "command") test))
 
--- A value is this test.
+-- A value is the given test.
 pub record IsCTest (value : Data) (test : TestModel) : Type 0 where
   pub properties : List Property
   pub has_properties : properties_of value ≡ Some properties
@@ -103,7 +104,7 @@ pub record IsCTest (value : Data) (test : TestModel) : Type 0 where
   pub cleaned_fixtures : property_strings properties FixturesCleanup ≡ Some test.cleaned_fixtures
   pub predecessors : property_strings properties Depends ≡ Some test.predecessors
 
--- A value is no test, since it has not what is expected at this key.
+-- A value is not a test: it is wrong at the given key.
 abbrev pub IsWrongAt : CTestKey → Data → Type 0
 IsWrongAt Name value = string_at (codes "name") value ≡ None
 IsWrongAt Command value = command_of value ≡ None
@@ -112,7 +113,7 @@ IsWrongAt WorkingDirectory value = (properties : List Property) × (properties_o
 IsWrongAt (Strings property) value =
     (properties : List Property) × (properties_of value ≡ Some properties) × (property_strings properties property ≡ None)
 
--- values are these tests, one for one
+-- values are the given tests, one for one
 abbrev pub AreCTests : (values : List Data) → List TestModel → Type 0
 AreCTests [] [] = Unit {0}
 AreCTests [] (test ∷ tests) = ⊥
@@ -126,7 +127,7 @@ abbrev pub major_version : Data → Option ℕ
 major_version list = option_and_then (λ version. option_and_then as_u64 (option_and_then as_number (get (codes "major") version)))
     (get (codes "version") list)
 
--- A value is a list with these tests.
+-- A value is a list with the given tests.
 pub record IsCTestList (list : Data) (tests : List TestModel) : Type 0 where
   pub kind : string_at (codes "kind") list ≡ Some (codes "ctestInfo")
   pub version : major_version list ≡ Some 1
@@ -134,7 +135,7 @@ pub record IsCTestList (list : Data) (tests : List TestModel) : Type 0 where
   pub has_values : items_at (codes "tests") list ≡ Some values
   pub are_tests : AreCTests values tests
 
--- The first value that is no test is the one with this number, which is wrong at this key.
+-- The value with the given number is the first that is not a test; it is wrong at the given key.
 pub record IsFirstWrong (values : List Data) (number : ℕ) (key : CTestKey) : Type 0 where
   pub before : List TestModel
   pub are_tests : AreCTests (take number values) before

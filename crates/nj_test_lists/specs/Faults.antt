@@ -56,13 +56,13 @@ fault_text OutOfMemory = codes "out of memory"
 
 -- ---- CTest
 
--- the list with a text that CTest wrote has these tests
+-- a text that CTest wrote is a list with the given tests
 pub record IsCTestText (text : List ℕ) (tests : List TestModel) : Type 0 where
   pub list : Data
   pub is_json : IsJson text list
   pub is_list : IsCTestList list tests
 
--- A value is no list of tests by CTest, for this reason.
+-- A value is not a list of tests by CTest, for the given reason.
 abbrev pub IsCTestListFault : (list : Data) → ListFault → Type 0
 IsCTestListFault list WrongKind = string_at (codes "kind") list ≢ Some (codes "ctestInfo")
 IsCTestListFault list WrongVersion = major_version list ≢ Some 1
@@ -76,7 +76,7 @@ IsCTestListFault list _ = ⊥
 abbrev pub IsNoJson : (text : List ℕ) → Type 0
 IsNoJson text = IsUtf8 text → read text ≡ None
 
--- A text is no list of tests by CTest, for this reason. Of a text that is not JSON the place is a hint.
+-- A text is not a list of tests by CTest, for the given reason. If the text is not JSON, the place is a hint.
 abbrev pub IsCTestFault : (text : List ℕ) → ListFault → Type 0
 IsCTestFault text (NotJson line column) = IsNoJson text
 IsCTestFault text OutOfMemory = Unit {0}
@@ -84,7 +84,7 @@ IsCTestFault text fault = (list : Data) × IsJson text list × IsCTestListFault 
 
 -- ---- Meson
 
--- the list with this text has these targets of a build
+-- a text is a list with the given targets of a build
 pub record IsTargetsText (build text : List ℕ) (targets : TargetsModel) : Type 0 where
   pub list : Data
   pub is_json : IsJson text list
@@ -92,7 +92,8 @@ pub record IsTargetsText (build text : List ℕ) (targets : TargetsModel) : Type
   pub has_values : items list ≡ Some values
   pub are_targets : AreTargets build values targets
 
--- The list with a text that Meson wrote has these tests, beside the text with its list of targets, in this build directory.
+-- A text that Meson wrote is a list with the given tests, beside the text with its list of targets, in the given build
+-- directory.
 pub record IsMesonText (build text targets_text : List ℕ) (tests : List TestModel) : Type 0 where
   pub targets : TargetsModel
   pub are_targets : IsTargetsText build targets_text targets
@@ -102,7 +103,7 @@ pub record IsMesonText (build text targets_text : List ℕ) (tests : List TestMo
   pub has_values : items list ≡ Some values
   pub are_tests : AreMesonTests targets values tests
 
--- A text is no list of targets by Meson, for this reason. Of a text that is not JSON the place is a hint.
+-- A text is not a list of targets by Meson, for the given reason. If the text is not JSON, the place is a hint.
 abbrev pub IsTargetsFault : (text : List ℕ) → ListFault → Type 0
 IsTargetsFault text (TargetsNotJson line column) = IsNoJson text
 IsTargetsFault text NoTargets = (list : Data) × IsJson text list × (items list ≡ None)
@@ -111,7 +112,7 @@ IsTargetsFault text (WrongTarget number key) = (list : Data) × (values : List D
 IsTargetsFault text OutOfMemory = Unit {0}
 IsTargetsFault text _ = ⊥
 
--- A text is no list of tests by Meson beside that of its targets, for this reason.
+-- A text is not a list of tests by Meson beside the text of its targets, for the given reason.
 abbrev pub IsMesonFault : (build text targets_text : List ℕ) → ListFault → Type 0
 IsMesonFault build text targets_text (NotJson line column) = IsNoJson text
 IsMesonFault build text targets_text NoTests = (list : Data) × IsJson text list × (items list ≡ None)

@@ -10,7 +10,7 @@ use Rattle.nj_test_lists.specs.CTest.{Property, properties_of, property_name, fi
 use Rattle.nj_test_lists.specs.Meson.{TargetsModel, files_of, IsMesonTest, AreMesonTests}
 use Rattle.nj_test_lists.specs.Faults.{IsCTestText, IsCTestFault}
 
--- a list has this item
+-- a list has the given item
 abbrev pub HasItem : {A : Type 0} → List A → A → Type 0
 HasItem [] x = ⊥
 HasItem (y ∷ ys) x = (x ≡ y) ⊎ HasItem ys x

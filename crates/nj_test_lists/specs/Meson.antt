@@ -23,7 +23,7 @@ pub record TargetsModel : Type 0 where
 abbrev pub files_made : (build : List ℕ) → (target : Data) → Option (List (List ℕ))
 files_made build target = option_map (map (path_in build)) (strings_at (codes "filename") target)
 
--- Values are these targets of a build. Their ids are distinct.
+-- Values are the given targets of a build. Their ids are distinct.
 pub record AreTargets (build : List ℕ) (values : List Data) (targets : TargetsModel) : Type 0 where
   pub ids : each (string_at (codes "id")) values ≡ Some targets.ids
   pub files : each (files_made build) values ≡ Some targets.files
@@ -34,14 +34,14 @@ abbrev pub files_of : TargetsModel → (id : Data) → Option (List (List ℕ))
 files_of targets id =
     option_and_then (slice_get targets.files) (option_and_then (λ name. position (bytes_eq name) targets.ids) (as_str id))
 
--- A value is no target, or repeats one of these ids of targets before it.
+-- A value is not a target, or repeats one of the given ids of targets before it.
 abbrev pub IsNoTarget : (before : List (List ℕ)) → TargetKey → Data → Type 0
 IsNoTarget before Id value = string_at (codes "id") value ≡ None
 IsNoTarget before Filename value = strings_at (codes "filename") value ≡ None
 IsNoTarget before RepeatedId value =
     (id : List ℕ) × (string_at (codes "id") value ≡ Some id) × IsTrue (list_any (bytes_eq id) before)
 
--- The value with this number is wrong at this key, and those before it have ids.
+-- The value with the given number is wrong at the given key, and the values before it have ids.
 pub record IsWrongTarget (values : List Data) (number : ℕ) (key : TargetKey) : Type 0 where
   pub before : List (List ℕ)
   pub have_ids : each (string_at (codes "id")) (take number values) ≡ Some before
@@ -66,7 +66,7 @@ assignments (member name value variables) = option_and_then
 abbrev pub environment : (test : Data) → Option (List (List ℕ))
 environment test = option_and_then assignments (option_and_then as_object (get (codes "env") test))
 
--- the strings in a value; there are none without one
+-- the strings in a value; without a value, no strings
 abbrev strings_or_none : Option Data → Option (List (List ℕ))
 strings_or_none None = Some []
 strings_or_none (Some value) = strings value
@@ -75,7 +75,7 @@ strings_or_none (Some value) = strings value
 abbrev pub extra_paths : (test : Data) → Option (List (List ℕ))
 extra_paths test = strings_or_none (given (codes "extra_paths") test)
 
--- the files of the targets that have to be built before the test; each is known
+-- the files of the targets that have to be built before the test; each target is known
 abbrev pub built_before : TargetsModel → (test : Data) → Option (List (List ℕ))
 built_before targets test = option_and_then (joined (files_of targets)) (items_at (codes "depends") test)
 
@@ -83,7 +83,7 @@ built_before targets test = option_and_then (joined (files_of targets)) (items_a
 abbrev pub folder_of_test : (test : Data) → Option (Option (List ℕ))
 folder_of_test test = optional as_str (given (codes "workdir") test)
 
--- A value is this test. Meson has no fixtures and no order of tests.
+-- A value is the given test. Meson has neither fixtures nor an order of tests.
 pub record IsMesonTest (targets : TargetsModel) (value : Data) (test : TestModel) : Type 0 where
   pub variables : List (List ℕ)
   pub extra : List (List ℕ)
@@ -100,7 +100,7 @@ pub record IsMesonTest (targets : TargetsModel) (value : Data) (test : TestModel
   pub cleaned_fixtures : test.cleaned_fixtures ≡ []
   pub predecessors : test.predecessors ≡ []
 
--- A value is no test, since it has not what is expected at this key.
+-- A value is not a test: it is wrong at the given key.
 abbrev pub IsNoMesonTest : TargetsModel → MesonKey → Data → Type 0
 IsNoMesonTest targets Name value = string_at (codes "name") value ≡ None
 IsNoMesonTest targets Command value = strings_at (codes "cmd") value ≡ None
@@ -109,14 +109,14 @@ IsNoMesonTest targets ExtraPaths value = extra_paths value ≡ None
 IsNoMesonTest targets Depends value = built_before targets value ≡ None
 IsNoMesonTest targets Folder value = folder_of_test value ≡ None
 
--- values are these tests, one for one
+-- values are the given tests, one for one
 abbrev pub AreMesonTests : TargetsModel → (values : List Data) → List TestModel → Type 0
 AreMesonTests targets [] [] = Unit {0}
 AreMesonTests targets [] (test ∷ tests) = ⊥
 AreMesonTests targets (value ∷ values) [] = ⊥
 AreMesonTests targets (value ∷ values) (test ∷ tests) = IsMesonTest targets value test × AreMesonTests targets values tests
 
--- The first value that is no test is the one with this number, which is wrong at this key.
+-- The value with the given number is the first that is not a test; it is wrong at the given key.
 pub record IsFirstNoMesonTest (targets : TargetsModel) (values : List Data) (number : ℕ) (key : MesonKey) : Type 0 where
   pub before : List TestModel
   pub are_tests : AreMesonTests targets (take number values) before

@@ -22,18 +22,18 @@ const FILE_PROPERTIES: [ListProperty; 5] = [
 
 /// Reads the tests that `ctest --show-only=json-v1` lists, in the order of the list.
 ///
-/// Of each test it takes `name`, `command`, and of its `properties` those that may name files, the
-/// working directory, the fixtures and `DEPENDS`. Everything else is ignored. A command that is
+/// Of each test it reads `name`, `command` and some of its `properties`: those that may name files,
+/// the working directory, the fixtures and `DEPENDS`. Everything else is ignored. A command that is
 /// left out is not known: its program is not built.
 ///
-/// A test that is only of other configurations is not in the list. Without `-C`, a build directory
-/// of several configurations has an empty list.
+/// A test that exists only in other configurations is not in the list. Without `-C`, the list of a
+/// build directory with several configurations is empty.
 ///
 /// # Errors
 ///
 /// [`ListFault::NotJson`], [`ListFault::WrongKind`], [`ListFault::WrongVersion`] and
-/// [`ListFault::NoTests`]; [`ListFault::WrongCTest`] for the first test where something that is
-/// taken is not of the type that CTest writes; and [`ListFault::OutOfMemory`].
+/// [`ListFault::NoTests`]; [`ListFault::WrongCTest`] for the first test with a value that is read
+/// and is not of the type that CTest writes; and [`ListFault::OutOfMemory`].
 pub fn ctest_tests(alloc: Global, text: &[u8]) -> Result<Vec<Test>, ListFault>
     ensures tests { IfOk result (λ tests. IsCTestText text.now (map test_model tests.items)) }
     ensures fault { IfErr result (λ fault. IsCTestFault text.now fault) }
@@ -42,7 +42,7 @@ pub fn ctest_tests(alloc: Global, text: &[u8]) -> Result<Vec<Test>, ListFault>
     read_list(alloc, &list)
 }
 
-// The tests of a list.
+// Reads the tests of a list.
 fn read_list(alloc: Global, list: &Value) -> Result<Vec<Test>, ListFault>
     ensures tests { IfOk result (λ tests.
         IsCTestList (view list.now) (map test_model tests.items)) }
@@ -85,7 +85,7 @@ fn is_version_one(list: &Value) -> bool
     }
 }
 
-// The tests that these values are.
+// Reads the tests of the given values.
 fn read_tests(alloc: Global, values: &[Value]) -> Result<Vec<Test>, ListFault>
     ensures tests { IfOk result (λ tests.
         AreCTests (map view values.now) (map test_model tests.items)) }
@@ -98,7 +98,7 @@ fn read_tests(alloc: Global, values: &[Value]) -> Result<Vec<Test>, ListFault>
     Ok(tests)
 }
 
-// The test with this number.
+// Reads the test with the given number.
 fn read_test(alloc: Global, number: usize, value: &Value) -> Result<Test, ListFault>
     ensures test { IfOk result (λ test. IsCTest (view value.now) (test_model test)) }
     ensures fault { IfErr result (λ fault. IsTestFault number (view value.now) fault) }
@@ -130,7 +130,7 @@ fn read_test(alloc: Global, number: usize, value: &Value) -> Result<Test, ListFa
     })
 }
 
-// The name of the test with this number.
+// Reads the name of the test with the given number.
 fn read_name(alloc: Global, number: usize, value: &Value) -> Result<String, ListFault>
     ensures name { IfOk result (λ s.
         string_at (codes "name") (view value.now) ≡ Some (string_bytes s)) }
@@ -145,7 +145,7 @@ fn read_name(alloc: Global, number: usize, value: &Value) -> Result<String, List
     }
 }
 
-// The command of the test with this number, if it is known.
+// Reads the command of the test with the given number, if it is known.
 fn read_command(
     alloc: Global,
     number: usize,
@@ -165,7 +165,7 @@ fn read_command(
     }
 }
 
-// The words of a command, if it has a program that is available.
+// Returns the words of a command, if it has a program that is available.
 fn known(words: Vec<String>) -> Option<Vec<String>>
     ensures { option_map (λ words. map string_bytes words.items) result
         ≡ known (Some (map string_bytes words.items)) }
@@ -187,7 +187,7 @@ fn is_available(words: &[String]) -> bool
     }
 }
 
-// The properties of the test with this number.
+// Reads the properties of the test with the given number.
 fn read_properties(
     alloc: Global,
     number: usize,

@@ -100,17 +100,17 @@ impl fmt::Display for TargetKey {
 /// Why a list of tests is not read. Tests and targets are numbered from 0, lines and columns from 1.
 #[derive(Clone, Copy, Debug, PartialEq, Eq)]
 pub enum ListFault {
-    /// The list of tests is not JSON: it is wrong about here.
+    /// The list of tests is not JSON; the fault is near this place.
     NotJson { line: usize, column: usize },
-    /// The list of targets is not JSON: it is wrong about here.
+    /// The list of targets is not JSON; the fault is near this place.
     TargetsNotJson { line: usize, column: usize },
-    /// `kind` is not `ctestInfo`: CTest did not write this.
+    /// `kind` is not `ctestInfo`: CTest did not write the list.
     WrongKind,
-    /// `version` has another `major` number than 1.
+    /// `version` has a `major` number other than 1.
     WrongVersion,
-    /// There is no array of tests.
+    /// The list has no array of tests.
     NoTests,
-    /// There is no array of targets.
+    /// The list has no array of targets.
     NoTargets,
     /// The CTest test with this number is wrong at this key.
     WrongCTest { number: usize, key: CTestKey },

@@ -18,7 +18,7 @@ pub enum ListProperty {
 }
 
 impl ListProperty {
-    /// The name of the property in CMake.
+    /// Returns the name of the property in CMake.
     pub fn name(self) -> &'static str
         ensures { result.now ≡ property_name self }
     {

@@ -10,20 +10,20 @@ use nj_tests::Test;
 use serde_json::{Map, Value};
 use std::alloc::{AllocError, Global};
 
-/// Reads the tests that Meson lists in `intro-tests.json`, in the order of the list, beside its
-/// targets in `intro-targets.json`. Both files are in `meson-info` of a build directory, whose
-/// absolute path `build` is.
+/// Reads the tests that Meson lists in `intro-tests.json`, in the order of the list, together with
+/// its targets in `intro-targets.json`. Both files are in `meson-info` of the build directory,
+/// whose absolute path is `build`.
 ///
-/// Of each test it takes `name`, `cmd`, `env` as `NAME=value`, `extra_paths`, `workdir`, and the
-/// files of the targets that it `depends` on, which are read in the build directory. Everything
-/// else is ignored.
+/// Of each test it reads `name`, `cmd`, `env` as `NAME=value`, `extra_paths`, `workdir`, and the
+/// files of the targets in `depends`, which are relative to the build directory. Everything else is
+/// ignored.
 ///
 /// # Errors
 ///
 /// [`ListFault::NotJson`] and [`ListFault::NoTests`] for the list of tests,
-/// [`ListFault::TargetsNotJson`], [`ListFault::NoTargets`] and [`ListFault::WrongTarget`] for that
-/// of targets; [`ListFault::WrongMesonTest`] for the first test where something that is taken is not
-/// of the type that Meson writes, or that depends on a target that is not listed; and
+/// [`ListFault::TargetsNotJson`], [`ListFault::NoTargets`] and [`ListFault::WrongTarget`] for the
+/// list of targets; [`ListFault::WrongMesonTest`] for the first test with a value that is read and
+/// is not of the type that Meson writes, or that depends on a target that is not listed; and
 /// [`ListFault::OutOfMemory`].
 pub fn meson_tests(
     alloc: Global,
@@ -44,7 +44,7 @@ pub fn meson_tests(
     }
 }
 
-// The targets of a text.
+// Reads the targets of a text.
 fn read_targets(alloc: Global, build: &str, text: &[u8]) -> Result<Targets, ListFault>
     ensures targets { IfOk result (λ targets. IsTargetsText build.now text.now targets) }
     ensures fault { IfErr result (λ fault. IsTargetsFault text.now fault) }
@@ -56,7 +56,7 @@ fn read_targets(alloc: Global, build: &str, text: &[u8]) -> Result<Targets, List
     }
 }
 
-// The value of the text of a list of targets.
+// Parses the text of a list of targets.
 fn parse_targets(alloc: Global, text: &[u8]) -> Result<Value, ListFault>
     ensures value { IfOk result (λ value. IsJson text.now (view value)) }
     ensures fault { IfErr result (λ fault. IsTargetsFault text.now fault) }
@@ -67,7 +67,7 @@ fn parse_targets(alloc: Global, text: &[u8]) -> Result<Value, ListFault>
     }
 }
 
-// The tests that these values are.
+// Reads the tests of the given values.
 fn read_tests(alloc: Global, targets: &Targets, values: &[Value]) -> Result<Vec<Test>, ListFault>
     ensures tests { IfOk result (λ tests.
         AreMesonTests targets.now (map view values.now) (map test_model tests.items)) }
@@ -81,7 +81,7 @@ fn read_tests(alloc: Global, targets: &Targets, values: &[Value]) -> Result<Vec<
     Ok(tests)
 }
 
-// The test with this number.
+// Reads the test with the given number.
 fn read_test(
     alloc: Global,
     targets: &Targets,
@@ -112,14 +112,14 @@ fn read_test(
     })
 }
 
-// The fault of a test that is wrong at this key.
+// Returns the fault of a test that is wrong at the given key.
 fn wrong_at(number: usize, key: MesonKey) -> ListFault
     ensures { result ≡ WrongMesonTest number key }
 {
     ListFault::WrongMesonTest { number, key }
 }
 
-// The name of a test. If there is none, the fault is this one, as below.
+// Reads the name of a test. Without a name, the fault is `wrong`, as below.
 fn read_name(alloc: Global, value: &Value, wrong: ListFault) -> Result<String, ListFault>
     ensures name { IfOk result (λ s.
         string_at (codes "name") (view value.now) ≡ Some (string_bytes s)) }
@@ -132,7 +132,7 @@ fn read_name(alloc: Global, value: &Value, wrong: ListFault) -> Result<String, L
     }
 }
 
-// The command of a test, if it has a program.
+// Reads the command of a test, if it has a program.
 fn read_command(
     alloc: Global,
     value: &Value,
@@ -148,7 +148,7 @@ fn read_command(
     Ok(nonempty(words))
 }
 
-// Words, if any.
+// Returns the words, or `None` without words.
 fn nonempty(words: Vec<String>) -> Option<Vec<String>>
     ensures { option_map (λ words. map string_bytes words.items) result
         ≡ nonempty (map string_bytes words.items) }
@@ -160,7 +160,7 @@ fn nonempty(words: Vec<String>) -> Option<Vec<String>>
     }
 }
 
-// The variables of a test.
+// Reads the variables of a test.
 fn read_environment(
     alloc: Global,
     value: &Value,
@@ -177,7 +177,7 @@ fn read_environment(
     }
 }
 
-// Variables, as `NAME=value`.
+// Returns variables as `NAME=value`.
 fn read_variables(
     alloc: Global,
     variables: &Map<String, Value>,
@@ -205,7 +205,7 @@ fn assignment(alloc: Global, name: &str, value: &str) -> Result<String, AllocErr
     format!(in alloc; "{name}={value}")
 }
 
-// The directories with libraries of a test.
+// Reads the directories with libraries of a test.
 fn read_extra_paths(
     alloc: Global,
     value: &Value,
@@ -222,7 +222,7 @@ fn read_extra_paths(
     }
 }
 
-// The files of the targets that have to be built before a test.
+// Reads the files of the targets that have to be built before a test.
 fn read_built(
     alloc: Global,
     targets: &Targets,
@@ -240,7 +240,7 @@ fn read_built(
     }
 }
 
-// The files of the targets with these ids.
+// Copies the files of the targets with the given ids.
 fn copy_files(
     alloc: Global,
     targets: &Targets,
@@ -265,7 +265,7 @@ fn copy_files(
     Ok(built)
 }
 
-// The same strings again.
+// Copies strings.
 fn copied(alloc: Global, strings: &[String]) -> Result<Vec<String>, AllocError>
     ensures { IfOk result (λ v. map string_bytes v.items ≡ map string_bytes strings.now) }
 {
@@ -276,7 +276,7 @@ fn copied(alloc: Global, strings: &[String]) -> Result<Vec<String>, AllocError>
     Ok(again)
 }
 
-// The working directory of a test, if any.
+// Reads the working directory of a test, if any.
 fn read_folder(alloc: Global, value: &Value, wrong: ListFault) -> Result<Option<String>, ListFault>
     ensures folder { IfOk result (λ o.
         folder_of_test (view value.now) ≡ Some (option_map string_bytes o)) }

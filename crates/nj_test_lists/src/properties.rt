@@ -16,7 +16,7 @@ pub(crate) struct Property<'v> {
     pub(crate) value: &'v Value,
 }
 
-/// The property that a value is.
+/// Returns the property that a value is, if any.
 pub(crate) fn property_of(value: &Value) -> Option<Property<'_>>
     ensures { option_map property_model result ≡ property_of (view value.now) }
 {
@@ -26,7 +26,8 @@ pub(crate) fn property_of(value: &Value) -> Option<Property<'_>>
     }
 }
 
-/// The properties that all of these are. If one is none, the fault is this one.
+/// Returns the properties that the given values are. If a value is not a property, the fault is
+/// `wrong`.
 pub(crate) fn collect_properties(
     alloc: Global,
     values: &[Value],
@@ -47,7 +48,7 @@ pub(crate) fn collect_properties(
     Ok(properties)
 }
 
-/// The strings of several properties, one after another, of the test with this number.
+/// Reads the strings of several properties, one after another, of the test with the given number.
 pub(crate) fn read_all(
     alloc: Global,
     number: usize,
@@ -68,7 +69,7 @@ pub(crate) fn read_all(
     Ok(strings)
 }
 
-/// The strings of a property of the test with this number.
+/// Reads the strings of a property of the test with the given number.
 pub(crate) fn read_property(
     alloc: Global,
     number: usize,
@@ -94,7 +95,7 @@ pub(crate) fn read_property(
     Ok(strings)
 }
 
-/// The working directory of the test with this number, if a property names it.
+/// Reads the working directory of the test with the given number, if a property names it.
 pub(crate) fn read_folder(
     alloc: Global,
     number: usize,
@@ -122,7 +123,7 @@ pub(crate) fn read_folder(
     }
 }
 
-// A directory that a value names. If it is no string, the fault is this one.
+// Copies the directory that a value names. If the value is not a string, the fault is `wrong`.
 fn copy_folder(alloc: Global, value: &Value, wrong: ListFault) -> Result<Option<String>, ListFault>
     ensures folder { IfOk result (λ o. one_folder (view value.now ∷ [])
         ≡ Some (option_map string_bytes o)) }

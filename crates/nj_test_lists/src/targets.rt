@@ -14,7 +14,7 @@ use std::marker::Model;
 #[derive(Drop)]
 pub(crate) struct Targets {
     ids: Names,
-    // of each target the files that it makes
+    // for each target the files that it makes
     files: Vec<Vec<String>>,
 }
 
@@ -31,7 +31,7 @@ impl Model for Targets {
 }
 
 impl Targets {
-    /// The targets that these values are. Their files are read in the build directory.
+    /// Reads the targets of the given values. Their files are relative to the build directory.
     pub(crate) fn read(alloc: Global, build: &str, values: &[Value]) -> Result<Targets, ListFault>
         ensures targets { IfOk result (λ targets.
             AreTargets build.now (map view values.now) targets) }
@@ -49,7 +49,7 @@ impl Targets {
         Ok(Targets { ids, files })
     }
 
-    /// The files of the target whose id a value is.
+    /// Returns the files of the target whose id a value is, if any.
     pub(crate) fn files_of(&self, id: &Value) -> Option<&[String]>
         ensures { option_map (λ files. map string_bytes files.now) result
             ≡ files_of self.now (view id.now) }
@@ -60,8 +60,8 @@ impl Targets {
     }
 }
 
-// The files that a target makes, read in the build directory. If they are not strings, the fault is
-// this one.
+// Reads the files that a target makes, relative to the build directory. If they are not strings,
+// the fault is `wrong`.
 fn read_files(
     alloc: Global,
     build: &str,
@@ -77,7 +77,7 @@ fn read_files(
     Ok(all_in(alloc, build, &files)?)
 }
 
-// Paths, each read in a directory.
+// Returns the given paths, each read in a directory.
 fn all_in(alloc: Global, folder: &str, paths: &[String]) -> Result<Vec<String>, AllocError>
     ensures { IfOk result (λ v. map string_bytes v.items
         ≡ map (path_in folder.now) (map string_bytes paths.now)) }
@@ -89,7 +89,7 @@ fn all_in(alloc: Global, folder: &str, paths: &[String]) -> Result<Vec<String>, 
     Ok(read)
 }
 
-// A path, read in a directory.
+// Returns a path, read in a directory.
 fn path_in(alloc: Global, folder: &str, path: &str) -> Result<String, AllocError>
     ensures { IfOk result (λ s. string_bytes s ≡ path_in folder.now path.now) }
 {
@@ -109,7 +109,7 @@ fn is_absolute(path: &[u8]) -> bool
     }
 }
 
-// The id of the target with this number, if no target before it has that.
+// Returns the id of the target with the given number, unless an earlier target has the same id.
 fn new_id<'v>(ids: &Names, number: usize, value: &'v Value) -> Result<&'v str, ListFault>
     ensures id { IfOk result (λ id. string_at (codes "id") (view value.now) ≡ Some id.now) }
     ensures is_new { IfOk result (λ id. list_any (bytes_eq id.now) ids.now ≡ false) }

@@ -1,4 +1,4 @@
-//! What is taken from JSON values.
+//! Reading JSON values.
 
 ghost use Rattle.std.specs.Prelude.{◌≡◌, Some, None, map, option_map, string_bytes, IfOk, IfErr};
 ghost use Rattle.nj_test_lists.specs.Cited.{as_str, view, IsJson, IsNoJsonFault, Refuses, each, items, strings, string_at, strings_at, items_at, given};
@@ -7,7 +7,7 @@ use crate::list_fault::ListFault;
 use serde_json::Value;
 use std::alloc::Global;
 
-/// The value of a text.
+/// Parses a text.
 pub(crate) fn parse(alloc: Global, text: &[u8]) -> Result<Value, ListFault>
     ensures value { IfOk result (λ value. IsJson text.now (view value)) }
     ensures fault { IfErr result (λ fault. IsNoJsonFault text.now fault) }
@@ -26,7 +26,7 @@ pub(crate) fn parse(alloc: Global, text: &[u8]) -> Result<Value, ListFault>
     }
 }
 
-/// The items of an array.
+/// Returns the items of an array.
 pub(crate) fn items(value: &Value) -> Option<&[Value]>
     ensures { option_map (λ values. map view values.now) result ≡ items (view value.now) }
 {
@@ -36,14 +36,14 @@ pub(crate) fn items(value: &Value) -> Option<&[Value]>
     }
 }
 
-/// The string of an object at this name.
+/// Returns the string that an object has at the given name, if any.
 pub(crate) fn string_at<'v>(value: &'v Value, name: &str) -> Option<&'v str>
     ensures { option_map (λ s. s.now) result ≡ string_at name.now (view value.now) }
 {
     value.get(name).and_then(Value::as_str)
 }
 
-/// What an object has at this name; `null` stands for nothing.
+/// Returns the value that an object has at the given name, unless it is `null`.
 pub(crate) fn given<'v>(value: &'v Value, name: &str) -> Option<&'v Value>
     ensures { option_map (λ v. view v.now) result ≡ given name.now (view value.now) }
 {
@@ -53,7 +53,7 @@ pub(crate) fn given<'v>(value: &'v Value, name: &str) -> Option<&'v Value>
     }
 }
 
-/// The strings of an array of strings. If it is none, the fault is this one.
+/// Reads the strings of an array. If the value is not an array of strings, the fault is `wrong`.
 pub(crate) fn read_strings(
     alloc: Global,
     value: &Value,
@@ -69,8 +69,8 @@ pub(crate) fn read_strings(
     }
 }
 
-/// The strings of the array of strings that an object has at this name. If there is none, the fault
-/// is this one.
+/// Reads the strings of the array that an object has at the given name. If the object has no array
+/// of strings there, the fault is `wrong`.
 pub(crate) fn read_strings_at(
     alloc: Global,
     value: &Value,
@@ -88,7 +88,7 @@ pub(crate) fn read_strings_at(
     }
 }
 
-/// The items of the array that an object has at this name.
+/// Returns the items of the array that an object has at the given name, if any.
 pub(crate) fn items_at<'v>(value: &'v Value, name: &str) -> Option<&'v [Value]>
     ensures { option_map (λ values. map view values.now) result
         ≡ items_at name.now (view value.now) }
@@ -96,7 +96,7 @@ pub(crate) fn items_at<'v>(value: &'v Value, name: &str) -> Option<&'v [Value]>
     value.get(name).and_then(items)
 }
 
-// The strings that all of these are. If one is none, the fault is this one.
+// Copies the strings that the given values are. If a value is not a string, the fault is `wrong`.
 fn copy_strings(alloc: Global, values: &[Value], wrong: ListFault) -> Result<Vec<String>, ListFault>
     ensures strings { IfOk result (λ v. each as_str (map view values.now)
         ≡ Some (map string_bytes v.items)) }

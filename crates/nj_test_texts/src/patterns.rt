@@ -15,7 +15,7 @@ pub(crate) fn push_regex(text: &mut Vec<u8>, name: &[u8]) -> Result<(), AllocErr
     Ok(())
 }
 
-/// Appends a byte of it.
+/// Appends a byte of a name as a part of a regular expression.
 fn push_regex_part(text: &mut Vec<u8>, byte: u8) -> Result<(), AllocError>
     ensures { OnOk result (text.new.items ≡ text.old.items ++ regex_part byte) }
 {
@@ -46,7 +46,7 @@ pub(crate) fn push_glob(text: &mut Vec<u8>, name: &[u8]) -> Result<(), AllocErro
     Ok(())
 }
 
-/// Appends a byte of it.
+/// Appends a byte of a name as a part of a pattern.
 fn push_glob_part(text: &mut Vec<u8>, byte: u8) -> Result<(), AllocError>
     ensures { OnOk result (text.new.items ≡ text.old.items ++ glob_part byte) }
 {
@@ -57,7 +57,7 @@ fn push_glob_part(text: &mut Vec<u8>, byte: u8) -> Result<(), AllocError>
     Ok(())
 }
 
-/// Whether a byte is a sign in such a pattern, outside of brackets.
+/// Whether a byte is a sign in patterns of `fnmatch`, outside of brackets.
 fn is_glob_sign(byte: u8) -> bool
     ensures { result ≡ is_glob_sign byte }
 {

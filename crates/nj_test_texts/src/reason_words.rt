@@ -5,7 +5,7 @@ ghost use Rattle.nj_test_texts.specs.Cited.{choice_model, link_word, own_path, o
 
 use nj_chosen::{Choice, Link, Reason};
 
-/// The word of the reason of a test; without one, of a test that is written since all are.
+/// Returns the word of the reason of a test. Without a reason, the test is written since all are.
 pub(crate) fn reason_word(choice: Option<Choice<'_>>) -> &'static str
     ensures { result.now ≡ reason_word (option_map choice_model choice.entry) }
 {
@@ -17,7 +17,7 @@ pub(crate) fn reason_word(choice: Option<Choice<'_>>) -> &'static str
     }
 }
 
-/// The word of a reason of a test's own.
+/// Returns the word of a test's own reason.
 fn own_word(reason: &Reason) -> &'static str
     ensures { result.now ≡ own_word (why_of reason.now) }
 {
@@ -28,7 +28,7 @@ fn own_word(reason: &Reason) -> &'static str
     }
 }
 
-/// The word of a link to a change.
+/// Returns the word of a link to a change.
 fn link_word(link: Link) -> &'static str
     ensures { result.now ≡ link_word link }
 {
@@ -40,7 +40,7 @@ fn link_word(link: Link) -> &'static str
     }
 }
 
-/// The path of the reason of a test; empty if it has none.
+/// Returns the path of the reason of a test; it is empty if the reason has no path.
 pub(crate) fn reason_path<'c>(choice: Option<Choice<'c>>) -> &'c [u8]
     ensures { result.now ≡ reason_path (option_map choice_model choice.entry) }
 {
@@ -50,7 +50,7 @@ pub(crate) fn reason_path<'c>(choice: Option<Choice<'c>>) -> &'c [u8]
     }
 }
 
-/// The path of a reason of a test's own.
+/// Returns the path of a test's own reason.
 fn own_path(reason: &Reason) -> &[u8]
     ensures { result.now ≡ own_path (why_of reason.now) }
 {

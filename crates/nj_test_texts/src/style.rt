@@ -1,17 +1,17 @@
 //! How chosen tests are written.
 
-/// How the tests that are chosen are written.
+/// How the chosen tests are written.
 #[derive(Clone, Copy, Debug, PartialEq, Eq)]
 pub enum Style {
     /// A name in each line, as `ctest --tests-from-file` reads them.
     Names,
-    /// A line for each: the name, a tab, the word of the reason, and after a space a path, if the
-    /// reason has one.
+    /// A line for each test: the name, a tab, the word of the reason, and after a space the path of
+    /// the reason, if any.
     Reasons,
-    /// A line for each: an object in JSON with the keys `name`, `reason` and `path`.
+    /// A line for each test: an object in JSON with the keys `name`, `reason` and `path`.
     Objects,
-    /// One line: a regular expression for `ctest -R`, which matches exactly these names.
+    /// One line: a regular expression for `ctest -R` that matches exactly the names.
     CTest,
-    /// A line for each: a pattern for `meson test`, which matches this name alone, in any project.
+    /// A line for each test: a pattern for `meson test` that matches only its name, in any project.
     Meson,
 }

@@ -10,7 +10,7 @@ use nj_chosen::Choice;
 use serde_json::Value;
 use std::alloc::AllocError;
 
-/// Appends what is written of a test: of one that is not chosen only if all are written.
+/// Appends what is written of a test. A test that is not chosen is written only if all tests are.
 pub(crate) fn push_if_written(
     text: &mut Vec<u8>,
     style: Style,
@@ -75,7 +75,7 @@ fn push_reason(text: &mut Vec<u8>, name: &str, choice: Option<Choice<'_>>) -> Re
     Ok(())
 }
 
-/// Appends a path after a space, if there is one.
+/// Appends a path after a space, if any.
 fn push_spaced(text: &mut Vec<u8>, path: &[u8]) -> Result<(), AllocError>
     ensures { OnOk result (text.new.items ≡ text.old.items ++ spaced path.now) }
 {

@@ -9,7 +9,7 @@ use nj_chosen::ChosenTests;
 use nj_tests::Test;
 use std::alloc::{AllocError, Global};
 
-/// The text of the tests that are chosen, in the order of their list, or of all tests.
+/// Returns the text of the chosen tests, or of all tests, in the order of their list.
 ///
 /// Takes time in proportion to the list. Fails only if an allocation fails.
 pub fn tests_text(
@@ -30,7 +30,7 @@ pub fn tests_text(
     }
 }
 
-/// What is written of each of them, one after another.
+/// Returns what is written of each test, one after another.
 fn body_of(
     alloc: Global,
     style: Style,
@@ -50,7 +50,7 @@ fn body_of(
     Ok(text)
 }
 
-/// A regular expression of names that each have a bar before them.
+/// Returns a regular expression for names that each have a bar before them.
 fn enclosed(alloc: Global, body: &[u8]) -> Result<Vec<u8>, AllocError>
     ensures { IfOk result (λ text. text.items ≡ enclosed body.now) }
 {

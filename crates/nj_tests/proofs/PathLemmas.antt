@@ -1,4 +1,4 @@
--- Paths that are read in a directory.
+-- Paths that are resolved against a directory.
 use Rattle.std.proofs.Common.{◌≡◌, ℕ, zero, suc, Bool, true, false, Option, Some, None, List, [], ◌∷◌, ◌++◌}
 use Rattle.std.proofs.Common.{replicate, refl, sym, ap, ◌∙◌, append_assoc}
 use Rattle.std.specs.List.{slice_split, onto_first, list_any, AllByRecursion}
@@ -30,7 +30,7 @@ onto-append x p (y ∷ xs) parts = by (p y) refl (slice_split p xs) refl
     by false is [] same = rw (slice_split-cons_no p y xs is, same) refl
     by false is (part ∷ ps) same = rw (slice_split-cons_no p y xs is, same) refl
 
--- a text is split where a byte of the kind stands
+-- a text is split at a byte of the kind
 pub split-append : (p : ℕ → Bool) (xs : List ℕ) (b : ℕ) (ys : List ℕ) → p b ≡ true
     → slice_split p (xs ++ b ∷ ys) ≡ slice_split p xs ++ slice_split p ys
 split-append p [] b ys is = slice_split-cons_yes p b ys is
@@ -50,7 +50,7 @@ kept-append : (kept : Kept) (xs ys : List (List ℕ))
 kept-append kept [] ys = refl
 kept-append kept (x ∷ xs) ys = kept-append (with_component (component_of x) x kept) xs ys
 
--- each is taken as a name
+-- each component is a name
 abbrev AllNamed : List (List ℕ) → Type 0
 AllNamed [] = Unit {0}
 AllNamed (n ∷ ns) = (component_of n ≡ Name) × AllNamed ns
@@ -62,7 +62,7 @@ replicate-last : (n : ℕ) → replicate (suc n) up ≡ replicate n up ++ up ∷
 replicate-last zero = refl
 replicate-last (suc n) = ap (λ ps. up ∷ ps) (replicate-last n)
 
--- what is kept of components, taken again after others
+-- the kept components, taken again after others
 abbrev again : (kept done : Kept) → Kept
 again kept done = kept_after kept (components_kept done.ups done.names)
 
@@ -78,7 +78,7 @@ again-up : (kept : Kept) (ups : ℕ)
 again-up kept ups = ap (kept_after kept) (replicate-last ups)
     ∙ kept-append kept (components_kept ups []) (up ∷ [])
 
--- components have the same effect as those of them that are kept
+-- components have the same effect as the kept components
 taken-again : (ps : List (List ℕ)) (kept : Kept) (ups : ℕ) (names : List (List ℕ)) → AllNamed names
     → kept_after (again kept (record { ups = ups; names = names })) ps
     ≡ again kept (kept_after (record { ups = ups; names = names }) ps)
@@ -228,7 +228,7 @@ absolutes build folder path high =
     ap clean_path_of (in-high (folder_of build folder) (clean_path_of whole) (clean-front whole ∙ high-whole))
     ∙ clean-twice whole
 
--- `..` and a name in a directory of this name lead back to it
+-- `..` and a name, in a directory of that name, lead back to the directory
 round : (above name path : List ℕ) → IsName name
     → kept_of ((above ++ 47 ∷ name) ++ 47 ∷ (46 ∷ 46 ∷ 47 ∷ name ++ 47 ∷ path))
     ≡ kept_of ((above ++ 47 ∷ name) ++ 47 ∷ path)

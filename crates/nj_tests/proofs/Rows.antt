@@ -14,14 +14,14 @@ rests_of_a_list : pieces_of (codes "P=/a:/b")
     ∷ codes "/b" ∷ []
 rests_of_a_list = refl
 
--- the value of an option of one letter, in a word that is one and in one that follows a sign
+-- the value of an option of one letter, where the option is the whole word and where it follows a sign
 attached_value : pieces_of (codes "-Idata") ≡ codes "-Idata" ∷ codes "data" ∷ []
 attached_value = refl
 
 response_file : pieces_of (codes "@a.rsp") ≡ codes "@a.rsp" ∷ codes "a.rsp" ∷ []
 response_file = refl
 
--- no piece is empty
+-- empty pieces are left out
 empty_word : pieces_of [] ≡ []
 empty_word = refl
 

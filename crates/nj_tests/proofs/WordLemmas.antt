@@ -132,7 +132,7 @@ module _ (word stretch : List ℕ) where
       by false is = subst (λ ss. Contains ss stretch)
           (slice_split_none is_cut word (none-pass is_cut word is) ∙ sym (if-whole word is)) has
 
--- ---- what follows a sign
+-- ---- the rest after a sign
 
 if-sign : (b : ℕ) (word : List ℕ) → is_sign b ≡ true → rests_of (b ∷ word) ≡ word ∷ rests_of word
 if-sign b word is = rw is refl
@@ -152,7 +152,7 @@ rests-are before piece sign is some =
     (rest-at before piece sign is))
     some
 
--- ---- what lies between two bytes of a kind
+-- ---- the text between two bytes of a kind
 
 module _ (p : ℕ → Bool) (piece : List ℕ) (none : list_any p piece ≡ false) where
   -- at the front

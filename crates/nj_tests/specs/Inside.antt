@@ -1,2 +1,3 @@
--- How the code meets the definitions beside this directory. No contract of a public call needs these.
+-- How the code meets the definitions beside this directory. Contracts of public calls do not need this
+-- directory.
 pub mod Pieces

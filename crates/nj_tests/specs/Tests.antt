@@ -3,7 +3,7 @@ use Rattle.std.specs.Prelude.{ℕ, Option, option_map, List, map, string_bytes}
 use Rattle.nj_tests.specs.declared.test.Test.{Test}
 
 -- A test. `command`: the words of its command, if it is known; `texts`: other texts that may name files; `folder`: the
--- directory that it runs in, if it names one; `predecessors`: the names of tests that it comes after.
+-- directory that it runs in, if it names any; `predecessors`: the names of the tests after which it runs.
 pub record TestModel : Type 0 where
   pub name : List ℕ
   pub command : Option (List (List ℕ))

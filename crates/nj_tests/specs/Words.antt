@@ -14,17 +14,17 @@ is_sign b = b == 61 || b == 58 || b == 44 || b == 59
 abbrev pub is_blank_or_quote : ℕ → Bool
 is_blank_or_quote b = b == 32 || b == 9 || b == 10 || b == 34 || b == 39
 
--- a piece may end before such a byte, and another one begin after it
+-- a piece may end before the byte, and another piece begin after it
 abbrev pub is_cut : ℕ → Bool
 is_cut b = is_sign b || is_blank_or_quote b
 
--- what follows each sign of a word, up to the end of the word
+-- the rest of a word after each of its signs
 abbrev pub rests_of : (word : List ℕ) → List (List ℕ)
 rests_of [] = []
 rests_of (b ∷ word) = (if is_sign b then word ∷ [] else []) ++ rests_of word
 
--- The stretches of a word: the whole word; what follows each sign, up to the end; what lies between two signs; and what lies between
--- two signs, blanks or quotes. The ends of the word count as signs.
+-- The stretches of a word: the whole word; the rest after each sign; the parts between two signs; and the parts between two signs,
+-- blanks or quotes. The ends of the word count as signs.
 abbrev pub stretches_of : (word : List ℕ) → List (List ℕ)
 stretches_of word =
     if list_any is_cut word then word ∷ rests_of word ++ slice_split is_sign word ++ slice_split is_cut word else word ∷ []
@@ -45,16 +45,16 @@ pieces_of word = flat_map pieces_in (stretches_of word)
 
 -- ---- paths
 
--- a path that is read in a directory
+-- a path that is resolved against a directory
 abbrev pub path_in : (folder path : List ℕ) → List ℕ
 path_in folder path = if is_absolute path then path else folder ++ 47 ∷ path
 
--- the directory that a test runs in; the build directory is the absolute path of the one that the build runs in
+-- the directory that a test runs in; `build` is the absolute path of the directory that the build runs in
 abbrev pub folder_of : (build : List ℕ) → (folder : Option (List ℕ)) → List ℕ
 folder_of build None = build
 folder_of build (Some folder) = path_in build folder
 
--- the path that a piece names for a test that runs in a directory: clean, and absolute if that of the build is
+-- the path that a piece names for a test that runs in a directory: clean, and absolute if `build` is absolute
 abbrev pub path_of : (build : List ℕ) → (folder : Option (List ℕ)) → (piece : List ℕ) → List ℕ
 path_of build folder piece = clean_path_of (path_in (folder_of build folder) piece)
 

@@ -8,12 +8,12 @@ pub fn spellings_name_the_same()
     ensures { SpellingsNameTheSame }
 {}
 
-/// A path names the same as the absolute path that it names.
+/// A path names the same path as its absolute form.
 pub fn absolute_paths_name_the_same()
     ensures { AbsolutePathsNameTheSame }
 {}
 
-/// In a directory `name`, `../name/a` names the same as `a`.
+/// In a directory `name`, `../name/a` names the same path as `a`.
 pub fn way_round_names_the_same()
     ensures { WayRoundNamesTheSame }
 {}
@@ -23,17 +23,17 @@ pub fn words_are_pieces()
     ensures { WordsArePieces }
 {}
 
-/// What follows a sign, up to the end of the word, is a piece.
+/// The rest of a word after a sign is a piece, unless it is empty.
 pub fn rests_are_pieces()
     ensures { RestsArePieces }
 {}
 
-/// What lies between two signs, without one, is a piece.
+/// The text between two successive signs is a piece, unless it is empty.
 pub fn pieces_between_signs()
     ensures { PiecesBetweenSigns }
 {}
 
-/// What lies between two signs, blanks or quotes, without one, is a piece.
+/// The text between two successive signs, blanks or quotes is a piece, unless it is empty.
 pub fn pieces_between_cuts()
     ensures { PiecesBetweenCuts }
 {}

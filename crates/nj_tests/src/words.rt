@@ -14,14 +14,14 @@ fn is_sign(byte: u8) -> bool
     matches!(byte, b'=' | b':' | b',' | b';')
 }
 
-/// Whether a piece may end before the byte, and another one begin after it.
+/// Whether a piece may end before the byte, and another piece begin after it.
 fn is_cut(byte: u8) -> bool
     ensures { result ≡ is_cut byte }
 {
     is_sign(byte) || matches!(byte, b' ' | b'\t' | b'\n' | b'"' | b'\'')
 }
 
-/// What lies between the signs of a word.
+/// The parts of a word between its signs.
 fn split_at_signs(alloc: Global, word: &[u8]) -> Result<Vec<&[u8]>, AllocError>
     ensures { IfOk result (λ stretches.
         map (λ stretch. stretch.now) stretches.items ≡ slice_split is_sign word.now) }
@@ -29,7 +29,7 @@ fn split_at_signs(alloc: Global, word: &[u8]) -> Result<Vec<&[u8]>, AllocError>
     word.split(|byte| is_sign(*byte)).collect(alloc)
 }
 
-/// What lies between the signs, blanks and quotes of a word.
+/// The parts of a word between its signs, blanks and quotes.
 fn split_at_cuts(alloc: Global, word: &[u8]) -> Result<Vec<&[u8]>, AllocError>
     ensures { IfOk result (λ stretches.
         map (λ stretch. stretch.now) stretches.items ≡ slice_split is_cut word.now) }
@@ -37,7 +37,7 @@ fn split_at_cuts(alloc: Global, word: &[u8]) -> Result<Vec<&[u8]>, AllocError>
     word.split(|byte| is_cut(*byte)).collect(alloc)
 }
 
-/// What follows each sign of a word, up to the end of the word.
+/// The rest of a word after each of its signs.
 fn rests_of(alloc: Global, word: &[u8]) -> Result<Vec<&[u8]>, AllocError>
     ensures { IfOk result (λ rests. map (λ rest. rest.now) rests.items ≡ rests_of word.now) }
 {
@@ -68,8 +68,8 @@ fn push_all<'w>(stretches: &mut Vec<&'w [u8]>, others: &[&'w [u8]]) -> Result<()
     stretches.extend_from_slice(others)
 }
 
-/// Appends what follows each sign of a word, and what lies between its signs, and between its
-/// signs, blanks and quotes.
+/// Appends the rest of a word after each sign, the parts between its signs, and the parts between
+/// its signs, blanks and quotes.
 fn push_parts<'w>(
     alloc: Global,
     stretches: &mut Vec<&'w [u8]>,
@@ -122,10 +122,11 @@ fn push_pieces<'w>(pieces: &mut Vec<&'w [u8]>, stretch: &'w [u8]) -> Result<(), 
     }
 }
 
-/// The pieces of a word, any of which may be a path. They are the word itself; what follows each
-/// `=`, `:`, `,` and `;`, up to the end of the word; what lies between two of them; and what lies
-/// between two of them, blanks or quotes. The ends of the word count as signs. If a piece begins
-/// with `-` and a letter, or with `@`, then the rest of it is a piece too. No piece is empty.
+/// Returns the pieces of a word, any of which may be a path. They are the word itself; the rest of
+/// the word after each sign, that is `=`, `:`, `,` or `;`; the parts between two signs; and the
+/// parts between two signs, blanks or quotes. The ends of the word count as signs. If a piece
+/// begins with `-` and one more byte, or with `@`, then the rest of the piece is a piece too. Empty
+/// pieces are left out.
 ///
 /// Takes time in proportion to the word and its pieces. Fails only if an allocation fails.
 pub fn pieces_of(alloc: Global, word: &[u8]) -> Result<Vec<&[u8]>, AllocError>
@@ -140,7 +141,7 @@ pub fn pieces_of(alloc: Global, word: &[u8]) -> Result<Vec<&[u8]>, AllocError>
     Ok(pieces)
 }
 
-/// Appends a path, read in a directory.
+/// Appends a path, resolved against a directory.
 fn push_path_in(out: &mut Vec<u8>, folder: &[u8], path: &[u8]) -> Result<(), AllocError>
     ensures { OnOk result (out.new.items ≡ out.old.items ++ path_in folder.now path.now) }
 {
@@ -151,7 +152,7 @@ fn push_path_in(out: &mut Vec<u8>, folder: &[u8], path: &[u8]) -> Result<(), All
     out.extend_from_slice(path)
 }
 
-/// The directory that a test runs in: that of the build, or one that is read in it.
+/// The directory that a test runs in: the build directory, or a path that is resolved against it.
 fn folder_of(alloc: Global, build: &[u8], folder: Option<&[u8]>) -> Result<Vec<u8>, AllocError>
     ensures { IfOk result (λ whole.
         whole.items ≡ folder_of build.now (option_copied folder.entry)) }
@@ -164,9 +165,10 @@ fn folder_of(alloc: Global, build: &[u8], folder: Option<&[u8]>) -> Result<Vec<u
     Ok(whole)
 }
 
-/// The path that a piece names for a test that runs in this directory: clean, and absolute. A
-/// relative piece is read in the directory, and that in the directory of the build, whose absolute
-/// path `build` is; without a directory the piece is read in that of the build.
+/// Returns the path that a piece names for a test that runs in the given directory: clean, and
+/// absolute. A relative piece is resolved against `folder`, and a relative `folder` against
+/// `build`, the absolute path of the build directory; without `folder`, the piece is resolved
+/// against `build`.
 ///
 /// Fails only if an allocation fails.
 pub fn path_of(
@@ -182,7 +184,7 @@ pub fn path_of(
     clean_in(alloc, &folder, piece)
 }
 
-/// A path, read in a directory and cleaned.
+/// A path, resolved against a directory and cleaned.
 fn clean_in(alloc: Global, folder: &[u8], path: &[u8]) -> Result<Vec<u8>, AllocError>
     ensures { IfOk result (λ clean. clean.items ≡ clean_path_of (path_in folder.now path.now)) }
 {
@@ -212,7 +214,7 @@ pub fn names_of(
     clean_all_in(alloc, &folder, &pieces)
 }
 
-/// Paths, each read in a directory and cleaned.
+/// Paths, each resolved against a directory and cleaned.
 fn clean_all_in(alloc: Global, folder: &[u8], paths: &[&[u8]]) -> Result<Vec<Vec<u8>>, AllocError>
     ensures { IfOk result (λ names. map (λ name. name.items) names.items
         ≡ map (λ path. clean_path_of (path_in folder.now path))

@@ -18,7 +18,7 @@ use Rattle.nj_text.proofs.KeptComponents.{up_is, replicate-push, components_afte
 use Rattle.nj_text.proofs.SlashComponents.{or_false, components-at, components-none}
 use Rattle.nj_text.proofs.WrittenComponents.{text_of}
 
--- ---- no component has a slash
+-- ---- components have no slash
 
 abbrev pub AllWhole : List (List ℕ) → Type 0
 AllWhole [] = Unit {0}

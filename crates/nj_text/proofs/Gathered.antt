@@ -29,7 +29,7 @@ pub text_ends : (k : TextKind) (u : TextUnit) (us : List TextUnit) → in_text k
     → (gathered k (u ∷ us) ≡ []) × (after_text k (u ∷ us) ≡ u ∷ us)
 text_ends k u us h = grind arith
 
--- a unit that is none of a text's, at the place of a cursor
+-- a unit that does not belong to a text, at the place of a cursor
 pub ends_by : (k : TextKind) (spot : Spot) (bytes : List ℕ) (m : Meaning) (n : ℕ) (remainder : List TextUnit)
     → Begins spot bytes m n remainder → in_text k (record { spot = spot; bytes = take n bytes; means = m })
     ≡ false
@@ -174,7 +174,7 @@ run_read k r spot there bytes xs ys is_r run remainder whole e nonempty =
     rw e (run_piece k spot bytes xs ys whole all none
     (λ h. false≢true (sym nonempty ∙ ap (λ zs. eqb (length zs) 0) h)))
 
--- after the run at a place none of its bytes follows
+-- after the run at a place, no byte of the run follows
 pub run_over : (k : TextKind) (r : Run) (bytes ys : List ℕ) → r ≡ run_of k → ys ≡ drop_while (in_run r) bytes
     → NoneInRun (in_run (run_of k)) ys
 run_over k r bytes ys is_r remainder = rw (← is_r, remainder) (none_after (in_run r) bytes)

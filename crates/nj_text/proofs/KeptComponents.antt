@@ -59,11 +59,11 @@ going-no p ps e = rw e refl
 going-yes : (p : List ℕ) (ps : List (List ℕ)) → leads_nowhere p ≡ false → going (p ∷ ps) ≡ p ∷ going ps
 going-yes p ps e = rw e refl
 
--- the kept ones of the components, as components
+-- the components that are kept, as a list
 abbrev pub components_after : Kept → List (List ℕ) → List (List ℕ)
 components_after kept ps = components_kept (kept_after kept ps).ups (kept_after kept ps).names
 
--- the components that are left when all pairs are taken out, those before them being clean
+-- the components that are left when all pairs are taken out, where the components before them are clean
 pub pairs-kept : (ps : List (List ℕ)) (ups : ℕ) (names : List (List ℕ)) → AllDown names
     → without_pairs (components_kept ups names ++ going ps)
     ≡ components_after (record { ups = ups; names = names }) ps

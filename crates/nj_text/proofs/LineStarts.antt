@@ -66,7 +66,7 @@ cut_has_line position zero spot (b ∷ bs) =
     (spot_after b spot) bs)
 cut_has_line position (suc skip) spot (b ∷ bs) = cut_has_line position skip (spot_after b spot) bs
 
--- lines are those within which one may be
+-- the lines of a text that may be within a line
 pub inside_is : (ls : List Line) → HasLine ls → ls ≡ first_line ls ∷ other_lines ls
 inside_is ls h = rw h.2 refl
 
@@ -94,7 +94,7 @@ plainly m h = grind arith
 
 -- ---- lines without leading spaces
 
--- a line that begins with such a unit is plain
+-- a line whose first unit starts it plainly is plain
 plain_by : (u : TextUnit) (l : Line) (ls : List Line) → StartsPlainly u.means
     → begun (before_first_line u (l ∷ ls))
     ≡ reply start.Plain (Inside (record { units = u ∷ l.units; end = l.end; is_last = l.is_last }) ls)
@@ -107,7 +107,7 @@ plain_begun u us h s = grind arith
 HasLine-after : (u : TextUnit) (ls : List Line) → HasLine (before_first_line u ls) → HasLine ls
 HasLine-after u ls h = grind arith
 
--- ---- the first unit of a line, and of a text within one
+-- ---- the first unit of a line, and of a text within a line
 
 abbrev reopened : List TextUnit → List TextUnit
 reopened [] = []
@@ -141,7 +141,7 @@ cut-spaces : (spot : Spot) (bs : List ℕ) → begins_with_space_byte bs ≡ fal
 unfolding cut
 cut-spaces spot bs s t = grind arith
 
--- a unit that is not a tab does not begin with one
+-- a unit that is not a tab does not begin with a tab
 no_tab : (spot : Spot) (bs : List ℕ) (m : Meaning) (n : ℕ) (remainder : List TextUnit)
     → Begins spot bs m n remainder → (m ≡ Ordinary 9 → ⊥) → is_first 9 bs ≡ false
 unfolding cut
@@ -461,7 +461,7 @@ pub over_comment_read : (spot there end : Spot) (bs rest after : List ℕ) → o
     → without_comments (lines_from spot bs) ≡ without_comments (lines_from end after)
 over_comment_read spot there end bs rest after h t r e s a = grind (arith, over_comment, drop)
 
--- ---- a line that begins with no comment is none
+-- ---- a line that does not begin with a comment is not a comment
 
 abbrev gives_comment : Meaning → Bool
 gives_comment Comment = true

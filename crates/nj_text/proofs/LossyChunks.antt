@@ -4,7 +4,7 @@ use Rattle.std.proofs.lemmas.Str.{utf8_lossy_chunk, utf8_lossy_last_chunk}
 use Rattle.std.specs.Str.Lossy.{utf8_lossy, utf8_valid_len, utf8_invalid_len}
 use Rattle.nj_text.specs.Inside.Chunks.{replaced}
 
--- a chunk off the front, by whether bytes that are no text end it
+-- a chunk off the front, by whether it ends with bytes that are not text
 pub lossy-chunk : (bs valid invalid rest : List ℕ) → bs ≡ valid ++ (invalid ++ rest)
     → length valid ≡ utf8_valid_len bs
     → length invalid ≡ utf8_invalid_len (drop (utf8_valid_len bs) bs) → (length invalid ≡ 0 → length rest ≡ 0)

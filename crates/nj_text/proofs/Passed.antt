@@ -14,7 +14,7 @@ use Rattle.nj_text.specs.Inside.Meanings.{is_blank_meaning}
 use Rattle.nj_text.proofs.Lists.{AllIn, AllIn-weaker, AllIn-take_while, drop_while-append}
 use Rattle.nj_text.proofs.Cuts.{plain_units, cut-run}
 
--- a unit that is not a blank stops them
+-- a unit that is not a blank ends the blanks
 pub blanks_stop : (spot : Spot) (bytes : List ℕ) (m : Meaning) (n : ℕ) (remainder : List TextUnit)
     → Begins spot bytes m n remainder → is_blank_meaning m ≡ false
     → drop_while is_blank (units_within spot bytes) ≡ units_within spot bytes
@@ -33,7 +33,7 @@ pub first_is_not_space : (b : ℕ) (bytes : List ℕ) → is_first b bytes ≡ t
     → begins_with_space_byte bytes ≡ false → is_space b ≡ false
 first_is_not_space b bytes e h = grind arith
 
--- a join is one
+-- a join is a blank
 pub blanks_over_join : (spot : Spot) (bytes : List ℕ) (n : ℕ) (remainder : List TextUnit)
     → Begins spot bytes Join n remainder → drop_while is_blank (units_within spot bytes)
     ≡ drop_while is_blank remainder

@@ -24,7 +24,7 @@ use Rattle.nj_text.proofs.States.{blanks_skipped, spot_inside, value_inside}
 use Rattle.nj_text.proofs.SignsTaken.{sign_taken, line_end_taken}
 use Rattle.nj_text.proofs.PlainWords.{over_space}
 
--- the units at a place begin with no blank and with no fault
+-- the units at a place begin with neither a blank nor a fault
 abbrev Starts : List TextUnit → Type 0
 Starts us = (drop_while is_blank us ≡ us) × (next_fault us ≡ None)
 

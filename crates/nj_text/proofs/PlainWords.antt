@@ -34,7 +34,7 @@ over_space spot there b bytes rest tail e is_space r t =
 
 -- ---- the beginning of a word
 
--- the units at a place begin with no blank and with no fault, and whether they begin a word
+-- the units at a place begin with neither a blank nor a fault, and whether they begin a word
 abbrev StartsWith : Bool → List TextUnit → Type 0
 StartsWith t us = (drop_while is_blank us ≡ us) × (next_fault us ≡ None) × (begins_with opens_word us ≡ t)
 
@@ -79,7 +79,7 @@ word_starts spot bytes h = grind (
 
 -- ---- the end of a word
 
--- no text goes on at a place where the units begin with no fault
+-- a word ends at a place where the units do not begin with a fault
 abbrev EndsWord : List TextUnit → Type 0
 EndsWord us = (gathered kind.Word us ≡ []) × (after_text kind.Word us ≡ us) × (next_fault us ≡ None)
 
@@ -111,7 +111,7 @@ stop_ends spot (b ∷ bs) h = by_space (eqb b 32) refl
 
 -- ---- the word
 
--- after one space or none no word begins
+-- no word begins after at most one space
 pub none_seen : (spot here : Spot) (bytes rest : List ℕ)
     → drop_while is_blank (units_within spot bytes) ≡ drop_while is_blank (units_within here rest)
     → no_word_begins rest ≡ true
@@ -121,7 +121,7 @@ none_seen spot here bytes rest e h =
     at_cursor (unless_bad word_at) spot here bytes rest (sym (e ∙ starts.0))
     ∙ no_word_here here rest (sym starts.1) starts.2
 
--- after one space or none a run of its bytes is the whole word
+-- after at most one space, a run of its bytes is the whole word
 pub run_seen : (spot here there : Spot) (bytes rest xs ys : List ℕ)
     → drop_while is_blank (units_within spot bytes) ≡ drop_while is_blank (units_within here rest)
     → xs ≡ take_while is_word_byte rest → ys ≡ drop_while is_word_byte rest → rest ≡ xs ++ ys

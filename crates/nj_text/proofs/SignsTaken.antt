@@ -99,7 +99,7 @@ after_two : (spot : Spot) (x y : ℕ) (ys : List ℕ) → is_ordinary_byte x ≡
     (others spot (x ∷ y ∷ ys)) ≡ inside (lines_within (advance 2 spot) ys)
 after_two spot x y ys o p = grind (arith, drop, line_after_byte, after_one, advance-advance)
 
--- the second byte, after an ordinary one
+-- the second byte, after an ordinary byte
 second_byte : (b : ℕ) → is_ordinary_byte b ≡ true → (spot : Spot) (x : ℕ) (xs : List ℕ)
     → is_ordinary_byte x ≡ true → begins_with_byte b (drop 1 (line spot (x ∷ xs)).units) ≡ is_first b xs
 second_byte b o spot x xs p = grind (arith, drop, line_after_byte, byte_of_line)

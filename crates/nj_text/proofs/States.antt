@@ -65,7 +65,7 @@ pub value_opening : (place : Spot) (joined : List ℕ) (spot : Spot) (bytes : Li
     ≡ value_at (after_blanks (line spot bytes)) (others spot bytes)
 value_opening place joined spot bytes = ap value_of (opened_is place joined spot bytes)
 
--- within a line no join opens it
+-- a join within a line does not open the line
 opening_is_unsaid : IsUnsaid opens_line_meaning
 opening_is_unsaid = grind arith
 

@@ -41,7 +41,7 @@ abbrev lines_of_state : State → List Line
 lines_of_state (Inside l ls) = ls
 lines_of_state other = []
 
--- a reading of the line after the blanks is one of the line at the cursor that the blanks lead to
+-- a reading of the line after the blanks is a reading of the line at the cursor that the blanks lead to
 pub at_cursor : {A : Type 0} (f : Line → List Line → A) (spot there : Spot) (bytes rest : List ℕ)
     → units_within there rest ≡ drop_while is_blank (units_within spot bytes)
     → f (after_blanks (first_line (lines_within spot bytes))) (other_lines (lines_within spot bytes))

@@ -99,13 +99,13 @@ none_more tests i n front e = grind (
   ap₂ (λ s t. s || t) front e,
 )
 
--- no more pairs than bytes but one
+-- at most as many pairs as bytes, less one
 suspects_short : (text : List ℕ) → length (suspects text) ≤ length text - 1
 suspects_short [] = omega arith
 suspects_short (b ∷ []) = omega arith
 suspects_short (b ∷ c ∷ bs) = let rest = suspects_short (c ∷ bs) in omega (arith, rest)
 
--- where no pair below i is suspect, one in the text is one in its last vector
+-- where no pair below i is suspect, a suspect pair of the text is in its last vector
 pub any_last : (text : List ℕ) (i last n : ℕ) → last ≤ i → length text ≤ last + n + 1
     → any (take i (suspects text)) ≡ false → any (chunk last n (suspects text)) ≡ any (suspects text)
 any_last text i last n low short none =

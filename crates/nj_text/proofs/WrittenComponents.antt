@@ -35,7 +35,7 @@ pub go-kept : (ups : ℕ) (names : List (List ℕ)) → AllByRecursion IsName na
 go-kept ups [] h = go-replicate ups
 go-kept ups (n ∷ names) h = go-push (components_kept ups names) n (go-kept ups names h.1) h.0.leads_somewhere
 
--- a component more, after others
+-- one more component, after others
 pub text-push : (q : List ℕ) (ps : List (List ℕ)) (p : List ℕ)
     → text_of ((q ∷ ps) ++ p ∷ []) ≡ text_of (q ∷ ps) ++ 47 ∷ p
 text-push q [] p = refl

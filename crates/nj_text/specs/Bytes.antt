@@ -21,15 +21,15 @@ is_digit b = nat_le 48 b && nat_le b 57
 abbrev pub is_name_byte : ℕ → Bool
 is_name_byte b = is_letter b || is_digit b || b == 95 || b == 45
 
--- the bytes of an identifier, and of a name in `${}`: those, and `.`
+-- the bytes of an identifier, and of a name in `${}`: the bytes of a bare name, and `.`
 abbrev pub is_identifier_byte : ℕ → Bool
 is_identifier_byte b = is_name_byte b || b == 46
 
--- the byte that means itself after a `$`: a space, `:` or `$`
+-- a byte that stands for itself after a `$`: a space, `:` or `$`
 abbrev pub is_escapable : ℕ → Bool
 is_escapable b = b == 32 || b == 58 || b == 36
 
--- the bytes that mean themselves: all but `$`, the line feed, the carriage return and NUL
+-- the bytes that stand for themselves: all but `$`, the line feed, the carriage return and NUL
 abbrev pub is_ordinary_byte : ℕ → Bool
 is_ordinary_byte b = not (b == 36 || b == 10 || b == 13 || b == 0)
 

@@ -18,7 +18,7 @@ use Rattle.nj_text.specs.Units.{TextUnit, first_spot}
 use Rattle.nj_text.specs.Lines.{Line, text_lines, line_spot, with_units, lines_after, Kind, CommentLine, TabLine, BlankLine, IndentedLine, PlainLine, kind_of, is_space_unit}
 use Rattle.nj_text.specs.Words.{is_blank, after_opening, in_identifier, opens_word, in_word, begins_with_byte, next_fault, first_fault, parts_of, WordModel, plain_model}
 
--- Where a lexer is: between lines, before those that are left; inside a line, before the rest of it and the lines after
+-- Where a lexer is: between lines, before the lines that are left; inside a line, before its rest and the lines after
 -- it; or at a fault, permanently.
 pub data State : Type 0 where
   Between : (lines : List Line) → State
@@ -69,12 +69,12 @@ abbrev pub without_comments : List Line → List Line
 without_comments [] = []
 without_comments (l ∷ ls) = if is_comment (kind_of l) then lines_after l (without_comments ls) else l ∷ ls
 
--- how the first of these lines starts; where there is none, the text ends
+-- how the first of the lines starts; without a line the text ends
 abbrev pub begun : List Line → Reply LineStart
 begun [] = Ok (start.End, Between [])
 begun (l ∷ ls) = begun_by (kind_of l) l ls
 
--- The start of the next line that is no comment; a line that was begun has no other start.
+-- The start of the next line that is not a comment; a line that was begun has no other start.
 abbrev pub start_line_of : State → Reply LineStart
 start_line_of (Between ls) = begun (without_comments ls)
 start_line_of (Inside l ls) = Ok (start.Middle, Inside l ls)
@@ -86,7 +86,7 @@ start_line_of (Failed f) = Err f
 abbrev pub after_blanks : Line → Line
 after_blanks l = with_units (drop_while is_blank l.units) l
 
--- the same state behind the blanks that stand next on its line
+-- the same state after the blanks that come next on its line
 abbrev pub skip_blanks_of : State → State
 skip_blanks_of (Inside l ls) = Inside (after_blanks l) ls
 skip_blanks_of s = s
@@ -95,7 +95,7 @@ skip_blanks_of s = s
 abbrev pub bytes_of : List TextUnit → List ℕ
 bytes_of us = flat_map (λ u. u.bytes) us
 
--- the bytes, where there are any
+-- the bytes, if any
 abbrev pub some_bytes : List ℕ → Option (List ℕ)
 some_bytes [] = None
 some_bytes (b ∷ bs) = Some (b ∷ bs)
@@ -110,7 +110,7 @@ ident_of s = in_line None ident_at (skip_blanks_of s)
 
 -- ---- sign
 
--- The units begin with this sign. The longest sign counts: a `|` before another one, or before an `@`, is no lone pipe.
+-- The units begin with the given sign. The longest sign wins: a `|` before another `|`, or an `@`, is not a lone pipe.
 abbrev pub is_sign : Sign → List TextUnit → Bool
 is_sign sign.Colon us = begins_with_byte 58 us
 is_sign sign.Equals us = begins_with_byte 61 us
@@ -119,7 +119,7 @@ is_sign sign.Pipe2 us = begins_with_byte 124 us && begins_with_byte 124 (drop 1 
 is_sign sign.PipeAt us = begins_with_byte 124 us && begins_with_byte 64 (drop 1 us)
 is_sign sign.LineEnd us = is_empty us
 
--- behind this sign; the end of a line leads to the next one
+-- the state after the given sign; the end of a line leads to the next line
 abbrev pub state_after_sign : Sign → Line → List Line → State
 state_after_sign sign.LineEnd l ls = Between (lines_after l ls)
 state_after_sign sign.Pipe2 l ls = Inside (with_units (drop 2 l.units) l) ls
@@ -130,7 +130,7 @@ state_after_sign want l ls = Inside (with_units (drop 1 l.units) l) ls
 abbrev pub sign_at : Sign → Line → List Line → Reply Bool
 sign_at want l ls = if is_sign want l.units then Ok (true, state_after_sign want l ls) else Ok (false, Inside l ls)
 
--- whether this sign stands behind blanks
+-- whether the given sign follows the blanks
 abbrev pub sign_of : Sign → State → Reply Bool
 sign_of want s = in_line false (sign_at want) (skip_blanks_of s)
 
@@ -153,7 +153,7 @@ path_word_of s = in_line None word_at (skip_blanks_of s)
 
 -- ---- spot
 
--- where these lines begin; where there is none, line 1 and column 1
+-- where the first of the lines begins; without a line, line 1 and column 1
 abbrev pub first_line_spot : List Line → Spot
 first_line_spot [] = first_spot
 first_line_spot (l ∷ ls) = line_spot l
@@ -185,7 +185,7 @@ value_of (Failed f) = Err f
 
 -- ---- the calls of the program
 
--- the bad unit that a fault reports; out of memory reports none
+-- the bad unit that a fault reports; an out-of-memory fault reports none
 abbrev pub unit_of : LexFault → Option UnitFault
 unit_of (lex.BadByte spot) = Some (fault.BadByte spot)
 unit_of (lex.Tab spot) = Some (fault.Tab spot)
@@ -207,12 +207,12 @@ abbrev pub is_inside : State → Bool
 is_inside (Inside l ls) = true
 is_inside s = false
 
--- A call answers its fault, and then each later call does; or memory lacked inside a line, and the state is the one before.
+-- A call returns its fault, and so does each later call; or memory ran out inside a line, and the state is unchanged.
 abbrev pub FailsOrLacksMemory : {Y : Type 0} → Option UnitFault → (before after : State) → Reply Y → Type 0
 FailsOrLacksMemory (Some f) before after expected = (expected ≡ Err f) × (after ≡ Failed f)
 FailsOrLacksMemory None before after expected = (is_inside before ≡ true) × (after ≡ before)
 
--- The same of a call that takes memory, which it does inside a line only: out of memory leaves the lexer unchanged.
+-- The same of a call that allocates, inside a line only: running out of memory leaves the lexer unchanged.
 abbrev pub ReturnsOrLacksMemory : {X Y : Type 0} → (X → Y) → Result X LexFault → (before after : State) → Reply Y → Type 0
 ReturnsOrLacksMemory view (Ok x) before after expected = expected ≡ Ok (view x, after)
 ReturnsOrLacksMemory view (Err f) before after expected = FailsOrLacksMemory (unit_of f) before after expected

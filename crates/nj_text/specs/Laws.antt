@@ -13,7 +13,8 @@ use Rattle.nj_text.specs.Calls.{bytes_of}
 abbrev pub UnitsAreTheText : Type 0
 UnitsAreTheText = (text : List ℕ) → bytes_of (units text) ≡ text
 
--- the place after some bytes: one more than their line feeds, and one more than the bytes after the last of these
+-- the place after some bytes: one more than the number of line feeds, and one more than the number of bytes after the
+-- last line feed
 abbrev pub counted_spot : List ℕ → Spot
 counted_spot bytes = record { line = count_by is_line_feed bytes + 1; column = suffix_len (λ b. not (is_line_feed b)) bytes + 1 }
 
@@ -54,7 +55,7 @@ AreInOrder [] bytes = Unit {0}
 AreInOrder (piece ∷ pieces) bytes = (gap : List ℕ) × (rest : List ℕ) × (bytes ≡ gap ++ piece ++ rest) × AreInOrder pieces rest
 
 -- Units that follow one another in a text, as the units of a word or a value do, are a range of its bytes, and their parts
--- come in that range from left to right. So the parts have rising ranges of the text, none over another.
+-- come in that range from left to right. So the ranges of the parts rise in the text, and do not overlap.
 abbrev pub PartsComeInOrder : Type 0
 PartsComeInOrder =
     (text : List ℕ) (before us after : List TextUnit) → units text ≡ before ++ us ++ after

@@ -26,16 +26,16 @@ abbrev pub lines_before : Option Bool → TextUnit → List Line → List Line
 lines_before None u ls = before_first_line u ls
 lines_before (Some is_last) u ls = record { units = []; end = u.spot; is_last = is_last } ∷ ls
 
--- these units, cut into lines
+-- the given units, cut into lines
 abbrev pub lines_of : List TextUnit → List Line
 lines_of [] = []
 lines_of (u ∷ us) = lines_before (ending_of u.means) u (lines_of us)
 
--- the lines of a whole text; after its last line end comes one more, which may have no units
+-- the lines of a whole text; after its last line end comes one more line, which may have no units
 abbrev pub text_lines : List ℕ → List Line
 text_lines text = lines_of (units text)
 
--- the place of the first of the units, or the end where there is none
+-- the place of the first unit, or the end if there are no units
 abbrev pub spot_of_first : List TextUnit → Spot → Spot
 spot_of_first [] end = end
 spot_of_first (u ∷ us) end = u.spot
@@ -44,11 +44,11 @@ spot_of_first (u ∷ us) end = u.spot
 abbrev pub line_spot : Line → Spot
 line_spot l = spot_of_first l.units l.end
 
--- a line with these units in the place of its own
+-- a line with the given units in place of its own
 abbrev pub with_units : List TextUnit → Line → Line
 with_units us l = record { units = us; end = l.end; is_last = l.is_last }
 
--- the lines after one; after the last one its empty end is left
+-- the lines after the given line; after the last line its empty end is left
 abbrev pub lines_after : Line → List Line → List Line
 lines_after l ls = if l.is_last then with_units [] l ∷ ls else ls
 
@@ -71,13 +71,13 @@ pub data Kind : Type 0 where
 abbrev pub is_space_unit : TextUnit → Bool
 is_space_unit u = is_ordinary_in is_space u.means
 
--- a line with this unit after its leading spaces, which may be none
+-- the kind of a line with the given unit after its leading spaces, if any
 abbrev pub kind_with : Meaning → Spot → (indented : Bool) → Kind
 kind_with Comment spot indented = CommentLine
 kind_with LeadingTab spot indented = TabLine spot
 kind_with m spot indented = if indented then IndentedLine else PlainLine
 
--- the kind of a line by its units after the leading spaces, and by whether there are any of these
+-- the kind of a line by its units after the leading spaces, and by whether it has leading spaces
 abbrev pub kind_after_spaces : List TextUnit → (indented : Bool) → Kind
 kind_after_spaces [] indented = BlankLine
 kind_after_spaces (u ∷ us) indented = kind_with u.means u.spot indented

@@ -17,7 +17,7 @@ number_of (digit ∷ digits) = Some (min (digits_value 10 (digit ∷ digits)) gr
 abbrev pub leading_number_of : List ℕ → Option ℕ
 leading_number_of text = number_of (take_while is_digit text)
 
--- a part of a version: the number at its front, 0 if there is none
+-- a part of a version: the number at its front, or 0
 abbrev pub version_part : List ℕ → ℕ
 version_part text = unwrap_or (leading_number_of text) 0
 

@@ -11,7 +11,8 @@ pub data IsCleanPath (path : List ℕ) : Type 0 where
       → path ≡ join_with_byte 47 (replicate ups (46 ∷ 46 ∷ []) ++ names) → IsCleanPath path
   IsAbsolute : (names : List (List ℕ)) → 0 < length names → All IsName names → path ≡ 47 ∷ join_with_byte 47 names → IsCleanPath path
 
--- a cleaned path is clean: no component is empty or `.`, and `..` comes only before all names, and in no absolute path
+-- a cleaned path is clean: no component is empty or `.`, and `..` comes only before all names, never in an absolute
+-- path
 abbrev pub CleanedPathsAreClean : Type 0
 CleanedPathsAreClean = (path : List ℕ) → IsCleanPath (clean_path_of path)
 

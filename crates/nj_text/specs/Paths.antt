@@ -13,7 +13,7 @@ is_slash b = b == 47
 abbrev pub is_up : List ℕ → Bool
 is_up component = bytes_eq component (codes "..")
 
--- an empty component or `.`: it leads to where one is
+-- an empty component or `.`: it stays in the same directory
 abbrev pub leads_nowhere : List ℕ → Bool
 leads_nowhere component = bytes_eq component [] || bytes_eq component (codes ".")
 
@@ -31,14 +31,14 @@ components_of_path path = filter (λ component. not (leads_nowhere component)) (
 abbrev pub is_pair : List ℕ → List ℕ → Bool
 is_pair component next = not (is_up component) && is_up next
 
--- the components without their leftmost pair: one other than `..` that comes directly before a `..`
+-- the components without their leftmost pair: a component other than `..` directly before a `..`
 unfoldable pub without_leftmost_pair : List (List ℕ) → List (List ℕ)
 without_leftmost_pair [] = []
 without_leftmost_pair (component ∷ []) = component ∷ []
 without_leftmost_pair (component ∷ next ∷ components) =
     if is_pair component next then components else component ∷ without_leftmost_pair (next ∷ components)
 
--- the components with the leftmost pair taken out while there is one, which is at most as often as there are components
+-- the components with the leftmost pair taken out until no pair is left: at most as often as there are components
 abbrev pub without_pairs : List (List ℕ) → List (List ℕ)
 without_pairs components = iterate without_leftmost_pair (length components) components
 
@@ -46,7 +46,7 @@ without_pairs components = iterate without_leftmost_pair (length components) com
 abbrev pub is_absolute : List ℕ → Bool
 is_absolute path = begins_with is_slash path
 
--- the text of a relative path: its components, joined by slashes, or `.` where there are none
+-- the text of a relative path: its components, joined by slashes, or `.` without components
 abbrev pub relative_text : List (List ℕ) → List ℕ
 relative_text [] = 46 ∷ []
 relative_text (component ∷ components) = join_with_byte 47 (component ∷ components)
@@ -55,7 +55,7 @@ relative_text (component ∷ components) = join_with_byte 47 (component ∷ comp
 abbrev pub absolute_text : List (List ℕ) → List ℕ
 absolute_text components = 47 ∷ join_with_byte 47 components
 
--- the clean path of a path that is not empty; an absolute one loses all leading `..`
+-- the clean path of a path that is not empty; an absolute path loses all leading `..`
 unfoldable pub clean_path_of : List ℕ → List ℕ
 clean_path_of path =
     if is_absolute path then absolute_text (drop_while is_up (without_pairs (components_of_path path)))

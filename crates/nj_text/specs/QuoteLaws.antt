@@ -21,7 +21,7 @@ state_after Unquoted b = if is_quote b then InQuotes else if b == 92 then AfterB
 state_after InQuotes b = if is_quote b then Unquoted else InQuotes
 state_after AfterBackslash b = Unquoted
 
--- two pieces of a word, one after the other; none where either piece is none
+-- two pieces of a word, one after the other; `None` if either piece is `None`
 abbrev pub joined_words : Option (List ℕ) → Option (List ℕ) → Option (List ℕ)
 joined_words None rest = None
 joined_words (Some bytes) None = None
@@ -33,7 +33,7 @@ ends Unquoted = Some []
 ends InQuotes = None
 ends AfterBackslash = None
 
--- The word that a shell reads from these bytes. It is none where a byte means something else, or a quote stays open.
+-- The word that a shell reads from the given bytes; `None` if a byte has another meaning, or a quote stays open.
 abbrev pub word_from : ShellState → List ℕ → Option (List ℕ)
 word_from state [] = ends state
 word_from state (b ∷ bs) = joined_words (added state b) (word_from (state_after state b) bs)
@@ -43,6 +43,6 @@ abbrev pub shell_word : List ℕ → Option (List ℕ)
 shell_word [] = None
 shell_word (b ∷ bs) = word_from Unquoted (b ∷ bs)
 
--- a shell takes the quote of a path for the path
+-- a shell reads the quote of a path as the path
 abbrev pub ShellTakesThePath : Type 0
 ShellTakesThePath = (path : List ℕ) → path ≢ [] → shell_word (quoted path) ≡ Some path

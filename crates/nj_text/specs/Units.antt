@@ -1,4 +1,4 @@
--- The one cut of a text, from the left, into units: the longest that fits at each place. A comment is one too.
+-- The one cut of a text, from the left, into units: the longest that fits at each place. A comment is a unit too.
 use Rattle.std.specs.Prelude.{ℕ, zero, suc, ◌+◌, Bool, true, false, not, ◌&&◌, ◌==◌, if◌then◌else◌, List, [], ◌∷◌, length, take, drop}
 use Rattle.std.specs.List.{take_while}
 use Rattle.nj_text.specs.declared.spot.Spot.{Spot}
@@ -6,9 +6,9 @@ use Rattle.nj_text.specs.Bytes.{is_space, is_line_feed, is_name_byte, is_identif
 
 -- the meaning of a unit
 pub data Meaning : Type 0 where
-  -- a byte that means itself
+  -- a byte that stands for itself
   Ordinary : (byte : ℕ) → Meaning
-  -- `$ `, `$:` or `$$`: the second byte, as an ordinary one
+  -- `$ `, `$:` or `$$`: the second byte, as an ordinary byte
   Escape : (byte : ℕ) → Meaning
   -- `$name` or `${name}`
   Reference : (name : List ℕ) → Meaning
@@ -26,7 +26,7 @@ pub data Meaning : Type 0 where
   TextEnd : Meaning
   -- a NUL, or a carriage return that no line feed follows
   BadByte : Meaning
-  -- a `$` that begins none of these
+  -- a `$` that begins no escape, reference or join
   BadEscape : Meaning
 
 -- a unit, with its bytes and the place of the first of them
@@ -62,7 +62,7 @@ named [] closed = (BadEscape, 0)
 named (b ∷ bs) false = (BadEscape, 0)
 named (b ∷ bs) true = (Reference (b ∷ bs), length (b ∷ bs) + 2)
 
--- the reference whose name these bytes begin with, if a closing brace follows the name
+-- the reference whose name the bytes begin with, if a closing brace follows the name
 abbrev pub in_braces : List ℕ → Found
 in_braces bytes = named (take_while is_identifier_byte bytes) (begins_with (λ b. b == 125) (drop_while is_identifier_byte bytes))
 

@@ -47,14 +47,14 @@ begins_with_byte b us = begins_with (λ u. is_ordinary_in (λ c. c == b) u.means
 
 -- ---- bad units
 
--- the fault of a unit at this place, where it is a bad one
+-- the fault of a unit at the given place, if the unit is bad
 abbrev pub fault_of : Meaning → Spot → Option UnitFault
 fault_of BadByte spot = Some (fault.BadByte spot)
 fault_of BadEscape spot = Some (fault.BadEscape spot)
 fault_of LeadingTab spot = Some (fault.Tab spot)
 fault_of m spot = None
 
--- the fault of the first of the units, where it is a bad one
+-- the fault of the first unit, if it is bad
 abbrev pub next_fault : List TextUnit → Option UnitFault
 next_fault [] = None
 next_fault (u ∷ us) = fault_of u.means u.spot
@@ -66,7 +66,7 @@ first_fault (u ∷ us) = option_or (fault_of u.means u.spot) (first_fault us)
 
 -- ---- the meaning of the units of a word or a value
 
--- bytes that mean themselves, or the name of a reference
+-- bytes that stand for themselves, or the name of a reference
 pub data PartModel : Type 0 where
   Text : (bytes : List ℕ) → PartModel
   Name : (name : List ℕ) → PartModel
@@ -85,7 +85,7 @@ part_before (Escape b) run_continues ps = Text (b ∷ []) ∷ ps
 part_before (Reference name) run_continues ps = Name name ∷ ps
 part_before m run_continues ps = ps
 
--- A longest run of ordinary bytes is one part; an escape and a reference are a part each; joins mean nothing.
+-- A longest run of ordinary bytes is one part; an escape and a reference are a part each; joins add nothing.
 abbrev pub parts_of : List TextUnit → List PartModel
 parts_of [] = []
 parts_of (u ∷ us) = part_before u.means (begins_with is_ordinary us) (parts_of us)
@@ -95,7 +95,7 @@ pub record WordModel : Type 0 where
   pub spot : Spot
   pub parts : List PartModel
 
--- a word of bytes that mean themselves
+-- a word of bytes that stand for themselves
 abbrev pub plain_model : Spot → List ℕ → WordModel
 plain_model spot bytes = record { spot = spot; parts = Text bytes ∷ [] }
 

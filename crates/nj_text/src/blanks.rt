@@ -7,7 +7,7 @@ use crate::cursor::Cursor;
 use crate::runs::Run;
 use crate::unit::{NextUnit, next_unit};
 
-/// The cursor after the join that comes next; `None` if there is none.
+/// Returns the cursor after the join that comes next, or `None`.
 #[inline(always)]
 fn past_join(cursor: Cursor<'_>) -> Option<Cursor<'_>>
     ensures blanks { MatchOption result

@@ -30,8 +30,7 @@ fn drop_name(out: &mut Vec<u8>, floor: usize)
     }
 }
 
-/// Adds a component to those from `front` on, whose names are from `floor` on; returns the new
-/// floor.
+/// Adds a component to those from `front` on, whose names begin at `floor`; returns the new floor.
 fn add_component(
     out: &mut Vec<u8>,
     absolute: bool,

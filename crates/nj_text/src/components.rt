@@ -66,7 +66,7 @@ pub fn after_ups(text: &[u8]) -> &[u8]
     left
 }
 
-/// Whether each component of the text is in its clean path unchanged; `named` tells whether a name
+/// Whether each component of the text is in its clean path unchanged; `named` is whether a name
 /// came before.
 pub fn all_stay(text: &[u8], named: bool) -> bool
     ensures { result ≡ all_stay named (slice_split is_slash text.now) }
@@ -74,7 +74,7 @@ pub fn all_stay(text: &[u8], named: bool) -> bool
     are_names(text) || each_stays(text, named)
 }
 
-/// Whether each component of the text stays unchanged, by a look at one after another.
+/// Whether each component of the text stays unchanged, checked one by one.
 fn each_stays(text: &[u8], mut named: bool) -> bool
     ensures { result ≡ all_stay named (slice_split is_slash text.now) }
 {

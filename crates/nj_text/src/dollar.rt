@@ -18,8 +18,8 @@ pub enum Dollar<'a> {
     Bad,
 }
 
-/// The length of the line end at the front, a line feed or a carriage return and a line feed; 0 if
-/// there is none.
+/// Returns the length of the line end at the front, a line feed with or without a carriage return
+/// before it, or 0.
 pub fn line_end_length(bytes: &[u8]) -> usize
     ensures length { result ≡ line_end_length bytes.now }
     ensures within { result ≤ length bytes.now }

@@ -39,7 +39,7 @@ impl LaneRun {
     }
 }
 
-/// A bit for each lane, set where the byte is not one of the run.
+/// A bit for each lane, set where the byte does not belong to the run.
 #[inline(always)]
 pub fn stops(run: LaneRun, lanes: u8x16) -> u64
     ensures { result ≡ mask_l (map (λ b. not (in_run (lane_run run) b)) lanes) }
@@ -64,7 +64,7 @@ fn identifier_stops(lanes: u8x16) -> u64
         & lanes.simd_ne(u8x16::splat(b'.'))).to_bitmask()
 }
 
-// The bytes that end a run, each at the place of its low four bits. A place without one has a byte
+// The bytes that end a run, each at the place of its low four bits. Every other place has a byte
 // that belongs to another place, or 0.
 const WORD_STOPS: [u8; 16] = [0, 0, 0, 0, b'$', 0, 0, 0, 0, 0, b'\n', 0, b'|', b'\r', 0, 0];
 

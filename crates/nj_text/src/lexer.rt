@@ -98,8 +98,7 @@ impl<'a> Lexer<'a> {
         }
     }
 
-    /// Skips blanks and takes the longest identifier; `None` if there is none. Skips nothing
-    /// between lines.
+    /// Skips blanks and takes the longest identifier, if any. Skips nothing between lines.
     ///
     /// # Errors
     /// The fault of a bad unit that comes next.
@@ -175,8 +174,8 @@ impl<'a> Lexer<'a> {
         }
     }
 
-    /// Takes the word that [`Lexer::path_word`] takes, if it is plain or there is none; else
-    /// nothing.
+    /// Takes the word that [`Lexer::path_word`] takes, if that word is plain or no word begins;
+    /// else takes nothing.
     #[inline(always)]
     pub fn plain_word(&mut self) -> PlainWord<'a>
         ensures { TakesPlainWord result self.old self.new }
@@ -196,7 +195,7 @@ impl<'a> Lexer<'a> {
     /// Skips blanks and takes a word; `None` if none begins there. Skips nothing between lines.
     ///
     /// # Errors
-    /// The fault of a bad unit that comes next, or of the one at which the word stops;
+    /// The fault of a bad unit that comes next, or of the bad unit at which the word stops;
     /// [`LexFault::OutOfMemory`], which leaves the lexer unchanged.
     pub fn path_word(&mut self, alloc: Global) -> Result<Option<Word<'a>>, LexFault>
         ensures { ReturnsOrLacksMemory (option_map word_model) result self.old self.new

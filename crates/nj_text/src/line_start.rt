@@ -20,7 +20,7 @@ pub enum LineStart {
     Indented,
     /// A line that begins with something else.
     Plain,
-    /// No line begins here: the last one was begun and not ended.
+    /// No line begins here: the last line was begun and has not ended.
     Middle,
 }
 
@@ -33,7 +33,7 @@ pub enum Begun<'a> {
     Fault(UnitFault),
 }
 
-/// The cursor after the comment that comes next and its line end; `None` if there is none.
+/// Returns the cursor after the comment that comes next and its line end, or `None`.
 fn past_comment(cursor: Cursor<'_>) -> Option<Cursor<'_>>
     ensures comment { MatchOption result (opens_comment cursor.entry.rest.now ≡ false)
         (λ after. without_comments (lines_at cursor.entry) ≡ without_comments (lines_at after)) }

@@ -12,7 +12,7 @@ use crate::unit::bad_unit;
 use crate::word::Word;
 use std::alloc::Global;
 
-/// The identifier after the blanks; `None` if there is none.
+/// Returns the identifier after the blanks, or `None`.
 #[inline(always)]
 pub fn identifier(start: Cursor<'_>) -> Result<(Option<&[u8]>, Cursor<'_>), UnitFault>
     ensures { Steps (option_map (λ bytes. bytes.now))
@@ -54,7 +54,7 @@ pub fn word<'a>(
     }
 }
 
-/// The value after the blanks, which goes up to the line's end.
+/// The value after the blanks, up to the line's end.
 #[inline(always)]
 pub fn value<'a>(alloc: Global, start: Cursor<'a>) -> Result<(Word<'a>, Cursor<'a>), WordFault>
     ensures { StepsOrLacksMemory word_model

@@ -20,7 +20,7 @@ impl fmt::Display for Lossy<'_> {
     }
 }
 
-/// Writes a text, and U+FFFD for the bytes after it that are no text.
+/// Writes a text, and U+FFFD for the bytes after it that are not text.
 fn write_chunk<W: fmt::Write>(f: &mut fmt::Formatter<W>, text: &str, invalid: &[u8]) -> fmt::Result
     ensures { WritesOnOk W.write_str_gives f.old result (text.now ++ replaced invalid.now) f.new }
 {

@@ -3,8 +3,8 @@
 ghost use Rattle.std.specs.Prelude.{◌≡◌, ◌+◌, ◌-◌, ◌*◌, ◌==◌, true, min};
 ghost use Rattle.nj_text.specs.Cited.{after_first, is_digit, greatest, leading_number_of, version_pair_of};
 
-/// The number that the digits at the front of the text write, in base ten; `None` where the text
-/// does not begin with a digit. A number above 18446744073709551615 is reported as that one.
+/// Returns the number that the digits at the front of the text write, in base ten, capped at
+/// 18446744073709551615; `None` if the text does not begin with a digit.
 pub fn leading_number(text: &[u8]) -> Option<u64>
     ensures { result ≡ leading_number_of text.now }
 {
@@ -45,7 +45,7 @@ fn with_digit(number: u64, digit: u8) -> u64
         .saturating_add(u64::from(digit - b'0'))
 }
 
-/// The text after the first `.`; empty if there is none.
+/// The text after the first `.`; empty if the text has no `.`.
 fn after_dot(text: &[u8]) -> &[u8]
     ensures { result.now ≡ after_first (λ b. b == 46) text.now }
 {

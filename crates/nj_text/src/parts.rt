@@ -33,7 +33,7 @@ pub enum NextPart<'a> {
     Join(Cursor<'a>),
     /// Nothing that belongs to it.
     End,
-    /// A unit at which no text continues.
+    /// A unit that does not continue a text.
     Bad(UnitFault),
 }
 
@@ -48,7 +48,7 @@ impl TextKind {
     }
 }
 
-/// The next part of a text, where that is not an ordinary byte of it.
+/// The next part of a text that does not begin with an ordinary byte of it.
 #[inline(always)]
 fn next_part(kind: TextKind, cursor: Cursor<'_>) -> NextPart<'_>
     requires { NoneInRun (in_run (run_of kind)) cursor.rest.now }
@@ -73,7 +73,7 @@ fn next_part(kind: TextKind, cursor: Cursor<'_>) -> NextPart<'_>
     }
 }
 
-/// Appends a part. Nearly all words have one; where a second one comes, more will.
+/// Appends a part. Nearly all words have one part; after a second one, more will follow.
 #[inline(always)]
 fn append<'a>(parts: &mut SmallVec<Part<'a>, 1>, part: Part<'a>) -> Result<(), WordFault>
     ensures items { OnOk result (parts.new.items ≡ parts.old.items ++ part.entry ∷ []) }

@@ -32,7 +32,7 @@ fn has_suspect_from(text: &[u8], start: usize) -> bool
 }
 
 /// Whether a slash comes before a slash or a dot. The last sixteen bytes may overlap with those
-/// before them, so that none is left to be tested alone.
+/// before them, so that no byte is left to be tested alone.
 #[inline]
 fn has_suspect(text: &[u8]) -> bool
     requires { 16 < length text.now }
@@ -49,7 +49,7 @@ fn has_suspect(text: &[u8]) -> bool
     has_suspect_from(text, last)
 }
 
-/// Whether the first byte is one that begins a name: neither a slash nor a dot.
+/// Whether the first byte begins a name: it is neither a slash nor a dot.
 #[inline]
 fn begins_name(text: &[u8]) -> bool
     ensures { result ≡ begins_name text.now }
@@ -65,7 +65,7 @@ fn ends_with_slash(text: &[u8]) -> bool
     matches!(text, [.., b'/'])
 }
 
-/// Whether each component is seen at once to be a name; `false` means nothing. Short texts are not
+/// Whether each component is seen at once to be a name; `false` proves nothing. Short texts are not
 /// looked at.
 #[inline]
 #[tactic(auto, using(crate::proofs::NamesSeen::names_seen))]

@@ -2,8 +2,8 @@
 
 ghost use Rattle.nj_text.specs.Cited.{CleanedPathsAreClean, CleanPathsStay, CleaningIsIdempotent};
 
-/// A cleaned path is clean: it is `.` or `/`, or no component of it is empty or `.`, and `..`
-/// comes only before all other components, and in no absolute path.
+/// A cleaned path is clean: it is `.` or `/`, or no component of it is empty or `.`, and `..` comes
+/// only before all other components, and never in an absolute path.
 pub fn cleaned_paths_are_clean()
     ensures { CleanedPathsAreClean }
 {}

@@ -68,9 +68,9 @@ fn stays_clean(path: &[u8]) -> bool
     }
 }
 
-/// Appends the clean path of a path: its components without empty and `.` ones, without each one
-/// that a `..` after it takes back, and without `..` at the front of an absolute path; `.` or `/`
-/// if no component is left.
+/// Appends the clean path of a path: its components without empty components and `.`, without each
+/// component that a later `..` takes back, and without `..` at the front of an absolute path; `.`
+/// or `/` if no component is left.
 ///
 /// # Errors
 ///

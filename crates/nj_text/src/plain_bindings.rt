@@ -32,8 +32,8 @@ fn past_equals(cursor: Cursor<'_>) -> Option<Cursor<'_>>
     Some(cursor.advance(3))
 }
 
-/// The plain binding that comes next, with just these spaces, and the cursor after its line feed;
-/// `None` says nothing of the line.
+/// The plain binding that comes next, with one space on each side of the `=`, and the cursor after
+/// its line feed; `None` proves nothing about the line.
 #[inline(always)]
 pub fn plain_binding<'a>(alloc: Global, start: Cursor<'a>) -> Option<(PlainBinding<'a>, Cursor<'a>)>
     ensures { IfSome result (λ found. TakesBinding

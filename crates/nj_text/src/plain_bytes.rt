@@ -45,7 +45,7 @@ fn front_by_bytes(path: &[u8]) -> usize
 }
 
 /// How many plain bytes are at the front, tested sixteen at a time. The last sixteen may overlap
-/// with those before them, so that none is left to be tested alone.
+/// with those before them, so that no byte is left to be tested alone.
 #[inline]
 fn front_by_lanes(path: &[u8]) -> usize
     requires { 16 ≤ length path.now }

@@ -12,7 +12,7 @@ use crate::spot::Spot;
 /// [`Lexer::plain_word`]: crate::lexer::Lexer::plain_word
 #[derive(Clone, Copy, Debug)]
 pub enum PlainWord<'a> {
-    /// A word of these bytes, at this place.
+    /// A word of the given bytes, at the given place.
     Word(Spot, &'a [u8]),
     /// Blanks, after which no word begins.
     NoWord,
@@ -43,7 +43,7 @@ fn no_word_begins(bytes: &[u8]) -> bool
     byte == b'\n' || byte == b':' || byte == b'|'
 }
 
-/// Whether one of these comes next, or a space, at which a word ends.
+/// Whether a space, a line feed, a `:` or a `|` comes next, at which a word ends.
 #[inline(always)]
 fn word_ends(bytes: &[u8]) -> bool
     ensures { result ≡ word_ends bytes.now }
@@ -54,7 +54,7 @@ fn word_ends(bytes: &[u8]) -> bool
     byte == b' ' || byte == b'\n' || byte == b':' || byte == b'|'
 }
 
-/// The plain word after one space or none, and the cursor after it.
+/// The plain word after at most one space, and the cursor after it.
 #[inline(always)]
 pub fn plain_word(start: Cursor<'_>) -> (PlainWord<'_>, Cursor<'_>)
     ensures { TakesPlainWord result.0

@@ -2,7 +2,7 @@
 
 ghost use Rattle.nj_text.specs.Cited.{ShellTakesThePath};
 
-/// A POSIX shell takes the quote of a path for the path; of the empty path it makes no word.
+/// A POSIX shell reads the quote of a path as the path; of the empty path it makes no word.
 pub fn shells_take_the_path()
     ensures { ShellTakesThePath }
 {}

@@ -31,7 +31,7 @@ pub fn quote_into(out: &mut Vec<u8>, path: &[u8]) -> Result<(), AllocError>
     Ok(())
 }
 
-/// The bytes before the first `'`, and those after it; the whole text and `None` if there is none.
+/// The bytes before the first `'`, and the bytes after it; the whole text and `None` without a `'`.
 fn first_run(text: &[u8]) -> (&[u8], Option<&[u8]>)
     ensures run { flat_map within_quotes text.now
         ≡ result.0.now ++ after_run (option_copied result.1) }

@@ -31,7 +31,7 @@ fn is_name_byte(byte: u8) -> bool
     matches!(byte, b'a'..=b'z' | b'A'..=b'Z' | b'0'..=b'9' | b'_' | b'-')
 }
 
-/// Whether a byte means itself.
+/// Whether a byte stands for itself.
 #[inline(always)]
 pub fn is_ordinary_byte(byte: u8) -> bool
     ensures { result ≡ in_run Run.Value byte }
@@ -101,8 +101,8 @@ fn length_of_comment(bytes: &[u8]) -> usize
 }
 
 /// The length of the run at the front. Runs of spaces and names after a `$` are short: testing
-/// sixteen bytes at once gains nothing. One byte alone ends a comment; those that end the others
-/// are more than `memchr` looks for at once.
+/// sixteen bytes at once gains nothing. A single byte ends a comment; the other runs end at more
+/// different bytes than `memchr` looks for at once.
 #[inline(always)]
 pub fn run_length(run: Run, bytes: &[u8]) -> usize
     ensures length { result ≡ prefix_len (in_run run) bytes.now }
@@ -128,7 +128,7 @@ pub fn split_run(run: Run, bytes: &[u8]) -> (&[u8], &[u8])
     bytes.split_at(run_length(run, bytes))
 }
 
-/// The first byte and those after it; `None` if there is none.
+/// The first byte and the bytes after it; `None` if there are no bytes.
 #[inline(always)]
 pub fn first_byte(bytes: &[u8]) -> Option<(u8, &[u8])>
     ensures { MatchOption result (bytes.now ≡ []) (λ first. bytes.now ≡ first.0 ∷ first.1.now) }

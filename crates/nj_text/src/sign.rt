@@ -9,7 +9,7 @@ use crate::fault::UnitFault;
 use crate::runs::first_byte;
 use crate::unit::{NextUnit, bad_unit, next_unit};
 
-/// A sign between the parts of a line. Of `|`, `||` and `|@` the longest that is there counts.
+/// A sign between the parts of a line. Of `|`, `||` and `|@` the longest match wins.
 #[derive(Clone, Copy, Debug, PartialEq, Eq)]
 pub enum Sign {
     /// `:`
@@ -26,8 +26,8 @@ pub enum Sign {
     LineEnd,
 }
 
-/// The cursor after the line end that comes next; `None` if there is none. The end of the text ends
-/// its line, and stays.
+/// Returns the cursor after the line end that comes next, or `None`. The end of the text ends its
+/// line, and is not passed.
 #[inline(always)]
 pub fn past_line_end(cursor: Cursor<'_>) -> Option<Cursor<'_>>
     ensures { EndsLine cursor.entry result }

@@ -10,7 +10,7 @@ use std::fmt;
 pub struct Spot {
     /// One more than the number of line feeds before the byte.
     pub line: usize,
-    /// One more than the number of bytes between the last of these line feeds and the byte.
+    /// One more than the number of bytes between the line's start and the byte.
     pub column: usize,
 }
 

@@ -13,7 +13,7 @@ use crate::runs::{first_byte, is_ordinary_byte};
 pub enum NextUnit<'a> {
     /// The end of the text.
     End,
-    /// A byte that means itself.
+    /// A byte that stands for itself.
     Ordinary(u8),
     /// A join: how many bytes it takes, and how many of them are spaces of the next line.
     Join(usize, usize),
@@ -25,7 +25,7 @@ pub enum NextUnit<'a> {
     LineEnd(usize),
     /// A byte that may not be here.
     BadByte,
-    /// A `$` that begins nothing.
+    /// A `$` that begins no escape, reference or join.
     BadEscape,
 }
 
@@ -66,7 +66,7 @@ pub fn next_unit(bytes: &[u8]) -> NextUnit<'_>
     NextUnit::LineEnd(end)
 }
 
-/// The fault of the unit that comes next, if it is a bad one.
+/// The fault of the unit that comes next, if it is bad.
 #[inline(always)]
 pub fn bad_unit(cursor: Cursor<'_>) -> Option<UnitFault>
     ensures { result ≡ next_fault (units_within cursor.entry.spot cursor.entry.rest.now) }

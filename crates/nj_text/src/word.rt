@@ -11,7 +11,7 @@ use std::default::Default;
 /// A part of a word or of a value.
 #[derive(Clone, Copy, Debug, PartialEq, Eq)]
 pub enum Part<'a> {
-    /// Bytes that mean themselves: a run of ordinary bytes, or the byte of an escape.
+    /// Bytes that stand for themselves: a run of ordinary bytes, or the byte of an escape.
     Bytes(&'a [u8]),
     /// A reference: the name of the variable whose value is put here.
     Name(&'a [u8]),
@@ -35,7 +35,7 @@ pub struct Word<'a> {
 }
 
 impl<'a> Word<'a> {
-    /// A word of bytes that mean themselves, at this place.
+    /// A word of bytes that stand for themselves, at the given place.
     #[inline(always)]
     pub fn plain(alloc: Global, spot: Spot, bytes: &'a [u8]) -> Word<'a>
         ensures { word_model result ≡ plain_model spot bytes.now }

@@ -39,7 +39,7 @@ module _ {X : Type 0} (bytes : X → List ℕ) where
       ap (λ b. b || is_among (map bytes xs) rule) (differs 0 x (omega arith))
       ∙ none-among rule xs (λ i d below. differs (suc i) d (omega (arith, below)))
 
-  -- two names that the order does not tell apart are the same, and no others
+  -- two names tie in the order exactly if they are equal
   tie : (rule name : List ℕ) → slice_cmp nat_cmp name rule ≡ Equal → bytes_eq rule name ≡ true
   tie rule name equal = texts_ties rule name
       ∙ ap is_eq (nat_list_cmp_total.antisymm rule name ∙ ap ordering_reverse equal)
@@ -67,7 +67,7 @@ module _ {X : Type 0} (bytes : X → List ℕ) where
       (λ (l : i ≤ k). apart rule (bytes (get_or xs k d)) Greater (λ h. absurd cc) (parted.1 k d l within))
       (cases_lt k i)))
 
-  -- where there are names at all
+  -- if there are any names
   pub chosen-found : (xs : List X) (rule : List ℕ) (found : Bool) → (length xs ≡ 0 → ⊥)
       → found ≡ is_among (map bytes xs) rule → found ≡ is_chosen (map bytes xs) rule
   chosen-found [] rule found some is = absurd (some refl)

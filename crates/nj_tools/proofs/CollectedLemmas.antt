@@ -22,7 +22,7 @@ use Rattle.nj_tools.specs.Inside.Collections.{HasExactly, new_paths, with_paths}
 
 -- ---- lists without their repeats
 
--- an element that differs from one is among the others
+-- removing an element keeps the elements that differ from it
 among-others : (y x : List ℕ) (zs : List (List ℕ)) → bytes_eq y x ≡ false
     → is_among (filter (λ o. not (bytes_eq o x)) zs) y ≡ is_among zs y
 among-others y x [] h = refl
@@ -73,7 +73,7 @@ with-once (x ∷ more) xs =
     ap (λ ps. with_paths ps more) (sym (once-more xs x)) ∙ with-once more (xs ++ x ∷ [])
     ∙ ap (each_once bytes_eq) (append_assoc xs (x ∷ []) more)
 
--- paths that are added to none
+-- paths that are added to an empty list
 pub with-none : (more : List (List ℕ)) → with_paths [] more ≡ each_once bytes_eq more
 with-none more = with-once more []
 
@@ -82,7 +82,7 @@ pub with-append : (paths xs ys : List (List ℕ))
 with-append paths [] ys = refl
 with-append paths (x ∷ xs) ys = with-append (with_name paths x) xs ys
 
--- the new ones of two lists, one after the other
+-- the new paths of two lists, one after the other
 pub new-append : (paths xs ys : List (List ℕ))
     → new_paths paths (xs ++ ys) ≡ new_paths paths xs ++ new_paths (with_paths paths xs) ys
 new-append paths [] ys = refl
@@ -104,7 +104,7 @@ with-new paths (x ∷ more) =
     by true = sym (append-nil paths)
     by false = refl
 
--- all are new after none
+-- all paths are new after an empty list
 pub new-none : (more : List (List ℕ)) → new_paths [] more ≡ each_once bytes_eq more
 new-none more = sym (with-new [] more) ∙ with-none more
 

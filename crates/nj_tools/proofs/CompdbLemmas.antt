@@ -117,7 +117,7 @@ module _ (c : Compilation) where
       by true h = absurd cc
       by false h = refl
 
--- texts before the first one that JSON cannot contain
+-- texts before the first text that JSON cannot contain
 module _ (entries : List ReadStatement) (rules : List (List ℕ)) (expand : Bool) where
   abbrev reported : ℕ → Compilation
   reported edge = compilation_of entries expand edge
@@ -163,7 +163,7 @@ module _ (entries : List ReadStatement) (rules : List (List ℕ)) (expand : Bool
       else [])
       else list_left first edges
 
-  -- the first of these edges that JSON cannot contain
+  -- the first of the given edges that JSON cannot contain
   unfoldable pub unheld_left : List GraphEdge → Option GraphEdge
   unheld_left [] = None
   unheld_left (edge ∷ edges) =

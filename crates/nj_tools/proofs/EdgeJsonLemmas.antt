@@ -143,7 +143,7 @@ shown-decimal n fits =
 
 -- ---- printed values
 
--- each number is the decimal of one of 64 bits
+-- each number is the decimal of a number of 64 bits
 abbrev IsDecimal : List ℕ → Type 0
 IsDecimal s = (n : ℕ) × (n < 2 ^ 64) × (s ≡ decimal n)
 
@@ -256,7 +256,7 @@ members-values (m ∷ ms) h =
     let rest = members-values ms h.1 in
     ((h.0.0, rest.0), omega (arith, h.0.1, rest.1))
 
--- such an object on a line
+-- the object on a line
 line-object : (ms : List (List ℕ × Json)) (rest : List ℕ) → HaveValues ms
     → map document (lines_of (json_line (object (members_of ms)) ++ rest))
     ≡ Some (object (members_of ms)) ∷ map document (lines_of rest)

@@ -75,7 +75,7 @@ pub are-paths : (files : List GraphFile) (g : GraphModel) (paths : List (List �
     → map (λ file. file.path) files ≡ paths
 are-paths files g paths is = ap (map (λ (file : GraphFile). file.path)) is ∙ paths-in g paths
 
--- how many there are
+-- the number of files
 pub counts-in : (files : List GraphFile) (g : GraphModel) (paths : List (List ℕ)) → files ≡ files_in g paths
     → length files ≡ length paths
 counts-in files g paths is = ap length is ∙ length-map paths (file_in g)
@@ -151,7 +151,7 @@ each-edge f h g es same =
     ∙ each-number (λ n. f (edge_in g n)) h 0 es (λ i e at.
     let on : 0 + i ≡ i = omega arith in ap (λ n. f (edge_in g n)) on ∙ same i e at)
 
--- those that pass a test
+-- the edges that pass a test
 pub edges-pass : {E : Type 0} (test : E → Bool) (passes : ℕ → Bool) (start : ℕ) (es : List E)
     → ((i : ℕ) (e : E) → slice_get es i ≡ Some e → passes (start + i) ≡ test e)
     → edges_from start test es ≡ filter passes (range_with_len start (length es))

@@ -79,7 +79,7 @@ head-added entries edge o a b c d file rule spot is_phony file_is spot_is rule_i
       place_object (detail_stated entries edge).file (detail_stated entries edge).spot,
     )) a_is))
 
--- the files by kind, and whether those that builds discovered are known
+-- the files by kind, and whether the inputs that builds discovered are known
 pub files-added : (e : EdgePaths) (discovery : Option EdgeDiscovery) (n : ℕ)
     (o a b c d f g h i : Option (List Token))
     (p q r s x t u : List (List ℕ)) (word : List ℕ) → n ≡ stated_count discovery (length e.implicit_inputs)
@@ -170,7 +170,7 @@ module _ (entries : List ReadStatement) (discoveries : List EdgeDiscovery) where
   abbrev pub writable : GraphEdge → Bool
   writable edge = strings_are_utf8 (object_at entries discoveries edge.number)
 
-  -- the lines that are left of these edges
+  -- the lines that are left of the given edges
   unfoldable pub lines_left : List GraphEdge → List ℕ
   lines_left edges = flat_map (λ edge. json_line (object_at entries discoveries edge.number))
       (take_while writable edges)
@@ -191,7 +191,7 @@ module _ (entries : List ReadStatement) (discoveries : List EdgeDiscovery) where
   lines-none = refl
 
   module _ (edge : GraphEdge) (edges : List GraphEdge) where
-    -- JSON cannot contain the next one
+    -- JSON cannot contain the next object
     module _ (none : None ≡ option_map print (held_text (object_at entries discoveries edge.number))) where
       pub lines-end : lines_left (edge ∷ edges) ≡ []
       unfolding lines_left

@@ -1,4 +1,4 @@
--- The items of a list before the first one that fails a test.
+-- The items of a list before the first item that fails a test.
 use Rattle.std.proofs.Common.{◌≡◌, Bool, true, false, not, cond, Some, List, [], ◌∷◌, map, refl, sym, ap, ◌∙◌}
 use Rattle.std.specs.Prelude.{find, take_while}
 use Rattle.std.proofs.lemmas.List.Sums.{take_while-cons}

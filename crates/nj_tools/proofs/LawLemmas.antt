@@ -128,7 +128,7 @@ quoted-some a x h = by (ap shell_word (sym h) ∙ takes_the_path (a ∷ x) (has-
     by : None ≡ Some (a ∷ x) → [] ≡ a ∷ x
     by e = absurd cc
 
--- a shell takes a quote for its path, so no two paths have the same one
+-- a shell reads a quote as its path, so no two paths have the same quote
 quoted-apart : (x y : List ℕ) → quoted x ≡ quoted y → x ≡ y
 unfolding quoted
 quoted-apart [] [] h = refl

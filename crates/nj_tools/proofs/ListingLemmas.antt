@@ -47,7 +47,7 @@ pub inputs-are : (style : InputsStyle) (edges : List EdgePaths) (targets : List 
 unfolding inputs_text
 inputs-are style edges targets = refl
 
--- the new ones of two lists of paths, one after the other
+-- the new paths of two lists, one after the other
 pub printed-split : (style : InputsStyle) (earlier first more : List (List ℕ))
     → printed_text style (new_paths earlier (first ++ more))
     ≡ printed_text style (new_paths earlier first)

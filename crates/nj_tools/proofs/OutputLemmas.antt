@@ -51,7 +51,7 @@ module _ (old new : SinkState) (text more : List ℕ) where
   )
   stops-later between left (TextNotUtf8 refused) so_far stops = stops
 
-  -- a stop within a text is one within any that it begins
+  -- a stop within a text is a stop within any text that it begins
   stops-sooner : (fault : ToolFault) → StopsWithin old new text fault
       → StopsWithin old new (text ++ more) fault
   stops-sooner Write (front, (rest, joined, some), failed) = (
@@ -108,7 +108,7 @@ module _ {S : Type 0} {state : S → SinkState} where
       ∙ sym (append_assoc front sent new.pending.now.items) in
       record { underway = (front ++ sent, joined, Takes-trans _ _ _ _ _ taken sent_taken) }
 
-  -- a stop within a text is one within any that it begins
+  -- a stop within a text is a stop within any text that it begins
   pub stops-before : {old new : Output S} {text : List ℕ} {fault : ToolFault} (whole : List ℕ)
       → IsPrefix text whole → Stops state old new text fault → Stops state old new whole fault
   stops-before {old} {text = text} {fault = fault} whole (more, is) stops =
@@ -279,15 +279,15 @@ module _ {S X : Type 0} {state : S → SinkState} {text_of : X → List ℕ} {P 
 
   module _ {old now : Output S} {whole : List ℕ} {before : List X}
       (so_far : LeavesEach state text_of P old now whole before) where
-    -- there was no memory for one
+    -- out of memory for an item
     pub each_memory : (new : Output S) → new.sink.now ≡ now.sink.now → Stops state old new whole OutOfMemory
     each_memory new same = stops_memory so_far.left new same
 
-    -- there are no more
+    -- there are no more items
     pub each_done : before ≡ [] → Adds state old now whole
     each_done none = leaves_none so_far.left (ap (flat_map text_of) none)
 
-    -- the text of the next one became pending, and then a block was written if it was full
+    -- the text of the next item became pending, and then a block was written if it was full
     module _ {item : X} {after : List X} (is : before ≡ item ∷ after) where
       all_of : P item × AllByRecursion P after
       all_of = rw is at so_far.all
@@ -306,7 +306,7 @@ module _ {S X : Type 0} {state : S → SinkState} {text_of : X → List ℕ} {P 
         each_stops stops = stops_next _ _ so_far.left (ap (flat_map text_of) is)
             (stops_block (text_of item) same (more all_of.0) stops)
 
-      -- the text of the next one was added
+      -- the text of the next item was added
       pub each_put : {new : Output S} → (P item → Adds state now new (text_of item))
           → LeavesEach state text_of P old new whole after
       each_put added = record {

@@ -18,7 +18,7 @@ use Rattle.nj_graph.specs.Handles.{GraphFile, files_in}
 use Rattle.nj_tools.specs.CommandStrings.{own_commands_in}
 use Rattle.nj_tools.specs.Inside.Seen.{makers_of_file, new_command, new_of, single}
 
--- the commands that are left of these targets
+-- the commands that are left of the given targets
 abbrev pub own_left : (earlier : List ℕ) → List GraphFile → List ℕ
 own_left earlier [] = []
 own_left earlier (file ∷ files) =
@@ -28,7 +28,7 @@ module _ (g : GraphModel) where
   has_command : ℕ → Bool
   has_command e = not (is_phony_in (edges_of g) e)
 
-  -- those among edges that have a command and were not met earlier
+  -- the given edges that have a command and were not met earlier
   new_among : (earlier edges : List ℕ) → List ℕ
   new_among earlier edges = filter has_command (without earlier (each_once nat_eq edges))
 
@@ -38,7 +38,7 @@ module _ (g : GraphModel) where
   not_more false true = refl
   not_more false false = refl
 
-  -- one of them comes first
+  -- with one more edge in front
   first-new : (earlier : List ℕ) (e : ℕ) (edges : List ℕ)
       → new_among earlier (e ∷ edges)
       ≡ made_by single (new_of g earlier (Some e)) ++ new_among (earlier ++ single e) edges

@@ -42,7 +42,7 @@ no_inputs : inputs_by_kind without_inputs ≡ []
 unfolding inputs_by_kind
 no_inputs = refl
 
--- the title is there even where nothing follows it
+-- the title is written even if nothing follows it
 empty_section : section (codes "  outputs:") [] ≡ text (codes "  outputs:" ∷ [])
 unfolding section
 empty_section = refl

@@ -11,7 +11,7 @@ use Rattle.nj_tools.specs.Sinks.{SinkState, Takes, FailsAfter, Puts}
 pub Takes-nil : (s : SinkState) → Takes s s []
 Takes-nil s = record { taken = Appends-nil s.taken; failures = refl; took_since_failure = refl }
 
--- there are bytes in two parts, where there are in one of them
+-- two parts together have bytes if one of them has bytes
 some_bytes-append : (xs ys : List ℕ) (b : Bool)
     → (not (is_empty ys) || (not (is_empty xs) || b)) ≡ (not (is_empty (xs ++ ys)) || b)
 some_bytes-append [] ys b = refl

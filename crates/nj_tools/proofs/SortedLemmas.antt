@@ -23,7 +23,7 @@ module _ {X : Type 0} (text : X → List ℕ) where
   sorted-strings xs ys up stable = ap (map text) (stable_sort-is comes_before by_text xs ys up stable)
       ∙ sorted_by-map text is_before xs
 
--- ---- those that pass a test come before the others
+-- ---- elements that pass a test come before the others
 
 module _ {X : Type 0} (p : X → Bool) where
   passing-all : (xs : List X) → AllByRecursion (λ x. p x ≡ true) (filter p xs)

@@ -9,7 +9,7 @@ use Rattle.nj_needs.proofs.Bridges.{AreWithin-paths}
 use Rattle.nj_tools.specs.Laws.{DepthZeroShowsAll}
 use Rattle.nj_tools.specs.Listings.{file_line, indent, inputs_of_maker, tree_text}
 
--- a property of the makers in a row is one of the maker of each file
+-- a property of the makers in a row is a property of the maker of each file
 each-made : {X : Type 0} (maker : X → Option ℕ) (P : ℕ → Type 0) (xs : List X)
     → ((e : ℕ) → Contains (map maker xs) (Some e) → P e)
     → AllByRecursion (λ x. (e : ℕ) → maker x ≡ Some e → P e) xs

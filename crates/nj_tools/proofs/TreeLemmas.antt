@@ -27,7 +27,7 @@ abbrev pub line_at : List ReadStatement → (depth : ℕ) → (path : List ℕ) 
 line_at entries depth path = indent depth
     ++ file_line entries (maker_of (paths_of_edges (edges_read entries)) path) path
 
--- the inputs of a file's maker among these statements
+-- the inputs of a file's maker among the given statements
 abbrev pub made_of : List ReadStatement → (path : List ℕ) → List (List ℕ)
 made_of entries path = inputs_of_maker (paths_of_edges (edges_read entries))
     (maker_of (paths_of_edges (edges_read entries)) path)
@@ -60,7 +60,7 @@ rows-top entries levels rows row =
     rows-last entries levels 0 rows row ∙ ap
     (λ k. flat_map (tree_text entries (levels - k) k) row ++ rows_text entries levels 0 rows) same
 
--- an empty row gives nothing
+-- an empty row adds nothing
 pub rows-empty : (entries : List ReadStatement) (levels : ℕ) (rows : List (List (List ℕ)))
     → rows_text entries levels 0 (rows ++ [] ∷ []) ≡ rows_text entries levels 0 rows
 rows-empty entries levels rows = rows-top entries levels rows []

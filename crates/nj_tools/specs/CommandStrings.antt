@@ -19,8 +19,7 @@ command_lines entries numbers = flat_map (λ number. line (late_text_of entries 
 
 -- ---- the targets' own makers
 
--- the makers of the targets, without duplicates, each where it comes first, except the phony ones, which have no
--- command
+-- the makers of the targets, without duplicates, each at its first occurrence, except phony edges, which have no command
 abbrev pub own_commands_in : List EdgePaths → (targets : List (List ℕ)) → List ℕ
 own_commands_in edges targets =
     filter (λ e. not (is_phony_in edges e)) (each_once nat_eq (flat_map (made_by (λ e. e ∷ [])) (row_of_paths edges targets)))

@@ -22,7 +22,7 @@ use Rattle.nj_tools.specs.declared.tool_fault.ToolFault.TheVariants.{TextNotUtf8
 
 -- ---- which edges
 
--- no rule is named, or this one is; a name that is given twice counts once
+-- no rule is named, or the given rule is; a repeated name makes no difference
 abbrev pub is_chosen : (rules : List (List ℕ)) → (rule : List ℕ) → Bool
 is_chosen rules rule = is_empty rules || is_among rules rule
 
@@ -30,7 +30,7 @@ is_chosen rules rule = is_empty rules || is_among rules rule
 abbrev pub has_object : List ReadStatement → (rules : List (List ℕ)) → EdgeModel → Bool
 has_object entries rules e = not e.paths.is_phony && not (is_empty (inputs_of e.paths)) && is_chosen rules (rule_name_of entries e)
 
--- the edges that have one, by number
+-- the edges that have an object, by number
 unfoldable pub listed_edges : List ReadStatement → (rules : List (List ℕ)) → List ℕ
 listed_edges entries rules = edges_from 0 (has_object entries rules) (edges_read entries)
 
@@ -52,7 +52,7 @@ compilation_of entries expand edge =
       output = unwrap_or (first_output e) [];
     }
 
--- JSON can contain it
+-- JSON can contain the strings
 abbrev pub is_text : Compilation → Bool
 is_text c = is_utf8 c.command && is_utf8 c.file && is_utf8 c.output
 
@@ -78,7 +78,7 @@ objects_text directory [] = []
 objects_text directory (c ∷ others) =
     10 ∷ (object_text directory c ++ flat_map (λ other. 44 ∷ 10 ∷ object_text directory other) others)
 
--- the written strings of the edges before the first one that JSON cannot contain
+-- the written strings of the edges before the first edge that JSON cannot contain
 abbrev pub held_before : List ReadStatement → (rules : List (List ℕ)) → (expand : Bool) → List Compilation
 held_before entries rules expand = take_while is_text (map (compilation_of entries expand) (listed_edges entries rules))
 
@@ -86,7 +86,7 @@ held_before entries rules expand = take_while is_text (map (compilation_of entri
 abbrev pub unheld_edge : List ReadStatement → (rules : List (List ℕ)) → (expand : Bool) → Option ℕ
 unheld_edge entries rules expand = find (λ edge. not (is_text (compilation_of entries expand edge))) (listed_edges entries rules)
 
--- the end of the list is not written if there is such an edge
+-- the end of the list is not written if JSON cannot contain one of the edges
 unfoldable pub compdb_text : List ReadStatement → (directory : List ℕ) → (rules : List (List ℕ)) → (expand : Bool) → List ℕ
 compdb_text entries directory rules expand =
     codes "[" ++ objects_text (json_string directory) (held_before entries rules expand)
@@ -99,8 +99,8 @@ abbrev pub text_fault : List ReadStatement → (edge : ℕ) → GraphFault
 text_fault entries edge =
     option_map_or (λ e. fault_at e.file e.spot cause.TextNotUtf8) (slice_get (edges_read entries) edge) (unplaced cause.TextNotUtf8)
 
--- The sink took the whole text; or JSON cannot contain a string of an edge, and the sink took all before that edge; or it failed within the
--- text; or memory ran out after a prefix of it.
+-- The sink took the whole text; or JSON cannot contain a string of an edge, and the sink took all objects before that
+-- edge; or the sink failed within the text; or memory ran out after a prefix of it.
 abbrev pub WritesCompdb : (old new : SinkState) → (text : List ℕ) → (refused : Option GraphFault) → Result Unit ToolFault → Type 0
 WritesCompdb old new text refused (Ok done) = (refused ≡ None) × Takes old new text
 WritesCompdb old new text refused (Err (TextNotUtf8 fault)) = (refused ≡ Some fault) × Takes old new text

@@ -4,7 +4,7 @@ use Rattle.json.specs.Json.{Json, string, array, object, Items, no_items, item, 
 use Rattle.nj_scope.specs.ReadingList.{ReadStatement}
 use Rattle.nj_tools.specs.Compdb.{Compilation, listed_edges, compilation_of, unheld_edge, compdb_text}
 
--- the object of an edge: these keys, in this order, and no others
+-- the object of an edge: exactly the keys below, in this order
 abbrev pub object_of : (directory : List ℕ) → Compilation → Json
 object_of directory c =
     object (member (codes "directory") (string directory)
@@ -17,7 +17,8 @@ abbrev pub objects_of : (directory : List ℕ) → List Compilation → Items
 objects_of directory [] = no_items
 objects_of directory (c ∷ others) = item (object_of directory c) (objects_of directory others)
 
--- Where JSON can contain the strings of all listed edges, the output reads as one array: the objects of these edges, in their order.
+-- Where JSON can contain the strings of all listed edges, the output reads as one array: the objects of the listed
+-- edges, in their order.
 abbrev pub CompdbIsJson : Type 0
 CompdbIsJson =
     (entries : List ReadStatement) (directory : List ℕ) (rules : List (List ℕ)) (expand : Bool) → unheld_edge entries rules expand ≡ None

@@ -14,8 +14,8 @@ NumbersFit entries edge =
     let spot = (detail_stated entries edge).spot in
     (edge < 2 ^ 64) × (spot.line < 2 ^ 64) × (spot.column < 2 ^ 64)
 
--- Where JSON can contain the strings of all edges, each line of the output reads as the object of its edge: one for each edge, by
--- number. Lines are what `str::lines` gives, so no object contains a line end.
+-- Where JSON can contain the strings of all edges, each line of the output reads as the object of its edge: one line
+-- for each edge, by number. Lines are those of `str::lines`, so no object contains a line end.
 abbrev pub EdgeLinesAreJson : Type 0
 EdgeLinesAreJson =
     (entries : List ReadStatement) (discoveries : List EdgeDiscovery)

@@ -31,7 +31,7 @@ head_members entries edge =
     ∷ (codes "phony", boolean (edge_at (paths_of_edges (edges_read entries)) edge).is_phony)
     ∷ []
 
--- how many of so many implicit inputs are stated: all of them, unless those that builds discovered were joined
+-- how many of the given number of implicit inputs are stated: all of them, unless discovered inputs were joined
 abbrev pub stated_count : Option EdgeDiscovery → (count : ℕ) → ℕ
 stated_count None count = count
 stated_count (Some discovery) count = discovery.stated_inputs
@@ -47,12 +47,12 @@ state_word (Unknown EmptyDepfile) = codes "empty-depfile"
 state_word (Unknown OtherTarget) = codes "other-target"
 state_word Faulty = codes "depfile-fault"
 
--- the same where they may not have been joined
+-- the same, where the inputs may not have been joined
 abbrev pub discovery_word : Option EdgeDiscovery → List ℕ
 discovery_word None = codes "not-requested"
 discovery_word (Some discovery) = state_word discovery.state
 
--- its files by kind, and whether those that builds discovered are known
+-- its files by kind, and whether the inputs that builds discovered are known
 abbrev pub file_members : Option EdgeDiscovery → EdgePaths → List (List ℕ × Json)
 file_members discovery e =
     let stated = stated_count discovery (length e.implicit_inputs) in
@@ -85,7 +85,7 @@ value_members entries edge =
     ∷ value_member entries edge (codes "restat")
     ∷ []
 
--- the object of an edge: these keys, always and in this order
+-- the object of an edge: always with the keys below, in this order
 abbrev pub edge_object : List ReadStatement → Option EdgeDiscovery → (edge : ℕ) → Json
 edge_object entries discovery edge =
     object (members_of (
@@ -99,11 +99,11 @@ edge_object entries discovery edge =
 abbrev pub edge_numbers : List ReadStatement → List ℕ
 edge_numbers entries = range_with_len 0 (length (edges_read entries))
 
--- the object of an edge where this is what builds discovered, by the numbers of edges
+-- the object of an edge, for the given discoveries of builds by the numbers of edges
 abbrev pub object_at : List ReadStatement → List EdgeDiscovery → (edge : ℕ) → Json
 object_at entries discoveries edge = edge_object entries (slice_get discoveries edge) edge
 
--- the edges before the first one whose object JSON cannot contain, a line each
+-- the edges before the first edge whose object JSON cannot contain, a line each
 abbrev pub edge_lines : List ReadStatement → List EdgeDiscovery → List ℕ
 edge_lines entries discoveries =
     flat_map (λ edge. json_line (object_at entries discoveries edge))

@@ -25,11 +25,11 @@ error_of_graph (graph_error.Graph fault) = Graph fault
 error_of_graph graph_error.EmptyPath = EmptyPath
 error_of_graph graph_error.OutOfMemory = OutOfMemory
 
--- so does a fault that `nj_graph` takes
+-- so does a fault that `nj_graph` converts
 abbrev pub TakesGraphFault : GraphFault → Error → Type 0
 TakesGraphFault fault error = (taken : graph.Error) × TakesFault fault taken × (error ≡ error_of_graph taken)
 
--- and one of a mark or of a tool
+-- a mark's fault as an error
 abbrev pub error_of_mark : MarkFault → Error
 error_of_mark mark.BadMark = BadMark
 error_of_mark mark.MarkOutOfRange = MarkOutOfRange

@@ -1,4 +1,4 @@
--- How the code meets the definitions beside this directory. No contract of a public call needs these.
+-- How the code meets the definitions beside this directory. The contracts of public calls do not need these modules.
 pub mod Blocks
 pub mod Outputs
 pub mod Collections

@@ -1,4 +1,4 @@
--- Objects of JSON whose strings are bytes, and the line of one.
+-- Objects of JSON whose strings are bytes, and their lines.
 use Rattle.std.specs.Prelude.{ℕ, Bool, true, ◌&&◌, List, [], ◌∷◌}
 use Rattle.std.specs.Str.{is_utf8}
 use Rattle.json.specs.Json.{Json, null, boolean, number, string, array, object, Items, no_items, item, Members, no_members, member}
@@ -6,7 +6,7 @@ use Rattle.json.specs.Print.{print}
 use Rattle.json.specs.Tree.{json_tokens}
 use Rattle.nj_tools.specs.Lines.{line}
 
--- all strings of a value are UTF-8, so that JSON can contain it; no key has to be
+-- all strings of a value are UTF-8, so that JSON can contain it; keys need not be
 abbrev mutual
   pub strings_are_utf8 : Json → Bool
   strings_are_utf8 null = true
@@ -29,7 +29,7 @@ abbrev pub strings : List (List ℕ) → Items
 strings [] = no_items
 strings (s ∷ ss) = item (string s) (strings ss)
 
--- the members with these keys and values, in their order
+-- the members with the given keys and values, in their order
 abbrev pub members_of : List (List ℕ × Json) → Members
 members_of [] = no_members
 members_of (m ∷ ms) = member m.0 m.1 (members_of ms)

@@ -47,7 +47,7 @@ printed style path = if style.shell_escape then quoted path else path
 abbrev pub arranged : InputsStyle → (strings : List (List ℕ)) → List (List ℕ)
 arranged style strings = if style.dependency_order then strings else sorted strings
 
--- the printed form of a list of paths, of each path once
+-- the printed form of a list of paths, without duplicates
 abbrev pub printed_strings : InputsStyle → (paths : List (List ℕ)) → List (List ℕ)
 printed_strings style paths = arranged style (map (printed style) (each_once bytes_eq paths))
 
@@ -61,7 +61,7 @@ inputs_text style edges targets = flat_map (terminated style) (printed_strings s
 
 -- ---- `targets`: lists
 
--- the outputs of the edges whose rule has this name
+-- the outputs of the edges whose rule has the given name
 abbrev pub outputs_of_rule : List ReadStatement → (rule : List ℕ) → List (List ℕ)
 outputs_of_rule entries rule =
     flat_map (λ e. outputs_of e.paths) (filter (λ e. bytes_eq (rule_name_of entries e) rule) (edges_read entries))
@@ -92,7 +92,7 @@ inputs_of_maker edges maker = made_by (λ edge. inputs_of (edge_at edges edge)) 
 abbrev pub indent : (depth : ℕ) → List ℕ
 indent depth = repeat depth (codes "  ")
 
--- A file at a depth, then the inputs of its maker, one level deeper, and so on, for this many levels.
+-- A file at a depth, then the inputs of its maker, one level deeper, and so on, for the given number of levels.
 unfoldable pub tree_text : List ReadStatement → (levels depth : ℕ) → (path : List ℕ) → List ℕ
 tree_text entries zero depth path = []
 tree_text entries (suc levels) depth path =
@@ -100,8 +100,8 @@ tree_text entries (suc levels) depth path =
     indent depth ++ file_line entries (maker_of edges path) path
     ++ flat_map (tree_text entries levels (depth + 1)) (inputs_of_maker edges (maker_of edges path))
 
--- The number of requested levels; 0 is all levels. Where no edge needs itself by a chain, a chain of files, each made of the next, has
--- at most one file for each edge and a source.
+-- The number of requested levels; 0 means all levels. Where no edge needs itself by a chain, a chain of files, each
+-- made of the next, has at most one file for each edge and a source.
 abbrev pub levels_of : List EdgePaths → (depth : ℕ) → ℕ
 levels_of edges depth = if depth == 0 then length edges + 1 else depth
 
@@ -122,7 +122,7 @@ targets_text entries All = outputs_text entries
 
 -- ---- laws
 
--- The lines of a list are in strictly ascending byte order, so that each occurs once.
+-- The lines of a list are in strictly ascending byte order, without duplicates.
 abbrev pub LinesRise : Type 0
 LinesRise = (paths : List (List ℕ)) → IsStrictlySortedBy (slice_cmp nat_cmp) (sorted (each_once bytes_eq paths))
 
@@ -139,7 +139,7 @@ SortedInputsRise = (style : InputsStyle) (paths : List (List ℕ)) → style.dep
 abbrev pub PrintedStringsDiffer : Type 0
 PrintedStringsDiffer = (style : InputsStyle) (paths : List (List ℕ)) → IsDistinct bytes_eq (printed_strings style paths)
 
--- A text is one of them exactly when a path that is listed is printed as that text.
+-- A text is among the lines exactly when a listed path is printed as that text.
 abbrev pub ListedArePrinted : Type 0
 ListedArePrinted = (style : InputsStyle) (paths : List (List ℕ)) (text : List ℕ)
     → Contains (printed_strings style paths) text ↔ ((path : List ℕ) × Contains paths path × (printed style path ≡ text))

@@ -18,7 +18,7 @@ inputs_by_kind e =
     ++ lines_after (codes "    | ") e.implicit_inputs
     ++ lines_after (codes "    || ") e.order_only_inputs
 
--- the edge that makes the file, with a section of its validations where there are any; a source has no such lines
+-- the edge that makes the file, with a section of its validations, if any; a source has no lines for an edge
 unfoldable pub maker_text : List ReadStatement → List EdgePaths → (maker : Option ℕ) → List ℕ
 maker_text entries edges None = []
 maker_text entries edges (Some edge) =
@@ -30,7 +30,7 @@ maker_text entries edges (Some edge) =
 abbrev pub outputs_of_all : List EdgePaths → (numbers : List ℕ) → List (List ℕ)
 outputs_of_all edges numbers = flat_map (λ edge. outputs_of (edge_at edges edge)) numbers
 
--- the text of one file; a section of validations only where an edge names the file as one
+-- the text of one file; a section of validations only if an edge names the file as a validation
 unfoldable pub query_in : List ReadStatement → List EdgePaths → (path : List ℕ) → List ℕ
 query_in entries edges path =
     let users = validation_users_of edges path in
@@ -39,6 +39,6 @@ query_in entries edges path =
     ++ section (codes "  outputs:") (outputs_of_all edges (users_of edges path))
     ++ (if is_empty users then [] else section (codes "  validation for:") (outputs_of_all edges users))
 
--- the texts of the files in their order; a file that is named twice is listed twice
+-- the texts of the files in their order; a file that is named again is listed again
 abbrev pub query_text : List ReadStatement → (paths : List (List ℕ)) → List ℕ
 query_text entries paths = flat_map (query_in entries (paths_of_edges (edges_read entries))) paths

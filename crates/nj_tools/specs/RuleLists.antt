@@ -5,7 +5,7 @@ use Rattle.nj_scope.specs.ReadingList.{ReadStatement, rules_read}
 use Rattle.nj_graph.specs.Graph.{main_rules_of, has_description, description_text}
 use Rattle.nj_tools.specs.Lines.{line}
 
--- `NAME`, or `NAME: TEXT` where descriptions are requested and the rule has one; the text is not expanded
+-- `NAME`, or `NAME: TEXT` if descriptions are requested and the rule has a description; the text is not expanded
 abbrev pub rule_line : (descriptions : Bool) → RuleModel → List ℕ
 rule_line descriptions rule =
     line (rule.name ++ (if descriptions && has_description rule then codes ": " ++ description_text rule else []))

@@ -13,13 +13,13 @@ pub record SinkState : Type 0 where
   -- whether it took a byte since it was made, or since it last failed
   pub took_since_failure : Bool
 
--- the sink took these bytes after all that it took before, and did not fail
+-- the sink took the given bytes after all that it took before, and did not fail
 pub record Takes (old new : SinkState) (bytes : List ℕ) : Type 0 where
   pub taken : Appends old.taken new.taken bytes
   pub failures : new.failures ≡ old.failures
   pub took_since_failure : new.took_since_failure ≡ (not (is_empty bytes) || old.took_since_failure)
 
--- the sink took these bytes, then failed once, and took nothing after that
+-- the sink took the given bytes, then failed once, and took nothing after that
 pub record FailsAfter (old new : SinkState) (bytes : List ℕ) : Type 0 where
   pub taken : Appends old.taken new.taken bytes
   pub failures : new.failures ≡ min (old.failures + 1) (2 ^ 64 - 1)

@@ -10,15 +10,15 @@ use nj_graph::{Edge, File, FileNo, Graph};
 use nj_needs::{Mark, Needs};
 use std::alloc::{AllocError, Global};
 
-/// Writes the commands of the edges that are left to a walk over this graph, a line each; at most
-/// `take` of them if that is given. Returns the mark at which the walk can be resumed if more are
-/// left, and `None` if not ("Extra tools" in the Ninja manual, `commands`). The walk itself must
-/// not be used again after this call.
+/// Writes the commands of the remaining edges of a walk over the given graph, a line each; at most
+/// `take` of them if `take` is given. Returns the mark at which the walk can be resumed if edges
+/// remain, and otherwise `None` ("Extra tools" in the Ninja manual, `commands`). The walk itself
+/// must not be used again after this call.
 ///
 /// # Errors
 ///
-/// `Write` if the sink failed, and `OutOfMemory` if an allocation failed. The sink has then taken a
-/// prefix of the text.
+/// `Write` if the sink failed, and `OutOfMemory` if an allocation failed. The sink has then
+/// accepted a prefix of the text.
 pub fn write_commands<S: Sink>(
     alloc: Global,
     graph: &Graph,
@@ -43,12 +43,12 @@ pub fn write_commands<S: Sink>(
     Ok(needs.mark_after_page(alloc, room)?)
 }
 
-/// Writes the commands of the edges that make these targets, a line each, without duplicates.
+/// Writes the commands of the edges that make the given targets, a line each, without duplicates.
 ///
 /// # Errors
 ///
-/// `Write` if the sink failed, and `OutOfMemory` if an allocation failed. The sink has then taken a
-/// prefix of the text.
+/// `Write` if the sink failed, and `OutOfMemory` if an allocation failed. The sink has then
+/// accepted a prefix of the text.
 pub fn write_single_commands<S: Sink>(
     alloc: Global,
     graph: &Graph,
@@ -90,7 +90,8 @@ fn append_new_command(
     }
 }
 
-// The edge that makes a file, if it is not phony and was not seen before. It is marked as seen.
+// The edge that makes a file, if it is not phony and was not seen before. The edge is marked as
+// seen.
 fn new_maker<'g>(file: File<'g>, seen: &mut [bool]) -> Option<Edge<'g>>
     requires { length seen.old ≡ length (edges_of (file_of file).graph) }
     ensures seen { (earlier : List ℕ) → AreSeen (file_of file.entry).graph seen.old earlier

@@ -13,15 +13,15 @@ use std::alloc::{AllocError, Global};
 use std::marker::Model;
 
 /// Writes a compilation database: a list in JSON with an object for each edge that has a command
-/// and an input and whose rule is named, or for all of them where no rule is named. With `expand` a
-/// command has the contents of its response file in place of the file's name ("Extra tools" in the
-/// Ninja manual, `compdb`).
+/// and an input and whose rule is named, or, if no rule is named, for each edge with a command and
+/// an input. With `expand`, a command has the contents of its response file in place of the file's
+/// name ("Extra tools" in the Ninja manual, `compdb`).
 ///
 /// # Errors
 ///
 /// `TextNotUtf8` if the command, the first input or the first output of an edge is not UTF-8: the
-/// sink took the objects before it, without the end of the list. `Write` if the sink failed, and
-/// `OutOfMemory` if an allocation failed; the sink has then taken a prefix of the text.
+/// sink accepted the objects before it, without the end of the list. `Write` if the sink failed,
+/// and `OutOfMemory` if an allocation failed; the sink has then accepted a prefix of the text.
 #[tactic(auto, using(crate::proofs::CompdbLemmas::list_no_memory))]
 pub fn write_compdb<S: Sink>(
     alloc: Global,
@@ -63,7 +63,7 @@ pub(crate) fn refuse(alloc: Global, unheld: Option<Edge<'_>>) -> Result<(), Tool
 }
 
 // Writes the list. Returns the first edge that JSON cannot contain, before which it stops; `None`
-// if there is none.
+// if JSON can contain all of them.
 fn write_list<'g, S: Sink>(
     alloc: Global,
     graph: &'g Graph,
@@ -159,7 +159,7 @@ fn command_text(alloc: Global, edge: Edge<'_>, expand: bool) -> Result<Vec<u8>, 
     }
 }
 
-// The path of the first of these files; empty if there is none.
+// The path of the first of the given files; empty without files.
 fn first_path<'g>(files: Files<'g>) -> &'g [u8]
     ensures { (graph : GraphModel) (paths : List (List ℕ)) → files.entry ≡ files_in graph paths
         → result.now ≡ first_path paths }
@@ -170,7 +170,7 @@ fn first_path<'g>(files: Files<'g>) -> &'g [u8]
     }
 }
 
-// Appends an object after the one before.
+// Appends an object after the previous object.
 fn append_object(
     text: &mut Vec<u8>,
     separator: &[u8],

@@ -15,35 +15,35 @@ use std::alloc::{AllocError, Global};
 /// Whether the inputs that builds discovered for an edge are known.
 #[derive(Clone, Copy, Debug, PartialEq, Eq)]
 pub enum DiscoveryState {
-    /// They are known. An edge without `deps` and `depfile` has none.
+    /// They are known. An edge without `deps` and `depfile` has no such inputs.
     Known,
-    /// They are not, for this reason.
+    /// They are not known, for the given reason.
     Unknown(Unknown),
     /// The depfile has a fault.
     Faulty,
 }
 
-/// What builds discovered for an edge of a graph to which it was joined.
+/// The discoveries of builds for an edge, in a graph to which they were joined.
 #[derive(Clone, Copy, Debug, PartialEq, Eq)]
 pub struct EdgeDiscovery {
-    /// How many implicit inputs the edge had before. Those after them were discovered.
+    /// How many implicit inputs the edge had before. The inputs after them were discovered.
     pub stated_inputs: usize,
     pub state: DiscoveryState,
 }
 
-/// Writes each edge as an object of JSON, a line each, by number. The keys are always the same and
-/// in one order: the number, the place of the build statement, the rule, whether it is phony, the
+/// Writes each edge as an object of JSON, a line each, by number. The keys are always the same, in
+/// the same order: the number, the place of the build statement, the rule, whether it is phony, the
 /// files by kind, whether the inputs that builds discovered are known, and the values of the
 /// variables of rules, empty where an edge has none ("Rule variables" in the Ninja manual).
 ///
-/// `discoveries` says by the number of an edge what builds discovered for it. It is empty if
-/// nothing was joined to the graph.
+/// `discoveries` has the discoveries of builds for each edge, by number. It is empty if nothing was
+/// joined to the graph.
 ///
 /// # Errors
 ///
-/// `TextNotUtf8` if a string of an edge is not UTF-8: the sink took the objects before it. `Write`
-/// if the sink failed, and `OutOfMemory` if an allocation failed; the sink has then taken a prefix
-/// of the text.
+/// `TextNotUtf8` if a string of an edge is not UTF-8: the sink accepted the objects before it.
+/// `Write` if the sink failed, and `OutOfMemory` if an allocation failed; the sink has then
+/// accepted a prefix of the text.
 pub fn write_edge_objects<S: Sink>(
     alloc: Global,
     graph: &Graph,
@@ -62,7 +62,7 @@ pub fn write_edge_objects<S: Sink>(
 }
 
 // Writes the lines of edges. Returns the first edge that JSON cannot contain, before which it
-// stops; `None` if there is none.
+// stops; `None` if JSON can contain all edges.
 fn write_lines<'g, S: Sink>(
     alloc: Global,
     graph: &'g Graph,
@@ -87,14 +87,14 @@ fn write_lines<'g, S: Sink>(
     Ok(None)
 }
 
-// What builds discovered for an edge; `None` if nothing was joined.
+// The discoveries of builds for an edge; `None` if nothing was joined.
 fn discovery_of(discoveries: &[EdgeDiscovery], edge: Edge<'_>) -> Option<EdgeDiscovery>
     ensures { result ≡ slice_get discoveries.now (edge_of edge.entry).number }
 {
     discoveries.get(edge.number().0).copied()
 }
 
-// The text of the object of an edge; `None` if a string of it is not UTF-8.
+// The text of the object of an edge; `None` if one of its strings is not UTF-8.
 fn object_of(
     alloc: Global,
     edge: Edge<'_>,
@@ -143,7 +143,7 @@ fn add_files(
     object.add_string("discovered", discovery_word(discovery))
 }
 
-// How many of so many implicit inputs are stated.
+// How many of the given number of implicit inputs are stated.
 fn stated_count(discovery: Option<EdgeDiscovery>, count: usize) -> usize
     ensures { result ≡ stated_count discovery count }
 {

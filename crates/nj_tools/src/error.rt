@@ -12,13 +12,13 @@ use nj_text::OUT_OF_MEMORY_TEXT;
 use std::alloc::{AllocError, AllocFailed};
 use std::{error, fmt};
 
-/// Why a client's work went no further. The errors of this crate's calls and of those of `nj_graph`
-/// convert into it by `?`; lack of memory is `OutOfMemory`, whichever call met it.
+/// Why a client's work went no further. The errors of the calls of this crate and of `nj_graph`
+/// convert into it by `?`; lack of memory is `OutOfMemory`, whichever call ran out of it.
 #[derive(Debug, PartialEq, Eq, Drop)]
 pub enum Error {
     /// The files are not a graph, or a request about their graph has no answer.
     Graph(GraphFault),
-    /// A path is empty, so that it has no clean form.
+    /// A path is empty, and so has no clean form.
     EmptyPath,
     /// A text is not a mark.
     BadMark,
@@ -30,8 +30,8 @@ pub enum Error {
     OutOfMemory,
 }
 
-/// `FILE:LINE:COLUMN: TEXT`, or `TEXT` where the fault has no place. In names U+FFFD replaces
-/// invalid UTF-8.
+/// `FILE:LINE:COLUMN: TEXT`, or `TEXT` if the fault has no place. In names U+FFFD replaces invalid
+/// UTF-8.
 impl fmt::Display for Error {
     ghost output = { λ error. Some (error_text error) };
 

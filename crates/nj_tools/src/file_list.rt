@@ -8,7 +8,7 @@ use nj_graph::{File, FileNo, Files, Graph};
 use std::alloc::{AllocError, Global};
 use std::marker::Model;
 
-/// Files of a graph without duplicates, in the order in which they were added first.
+/// Files of a graph without duplicates, in the order of their first additions.
 #[derive(Drop)]
 pub(crate) struct Collected<'g> {
     added: FileSet<'g>,
@@ -42,7 +42,7 @@ impl<'g> Collected<'g> {
         })
     }
 
-    /// Appends a file, unless it is there already.
+    /// Appends a file, unless the list has it already.
     pub(crate) fn add(&mut self, file: File<'_>) -> Result<(), AllocError>
         requires { (file_of file).graph ≡ self.old.graph }
         ensures graph { self.new.graph ≡ self.old.graph }
@@ -56,7 +56,7 @@ impl<'g> Collected<'g> {
         Ok(())
     }
 
-    /// Appends files, except those that are there already.
+    /// Appends files, except those that the list has already.
     pub(crate) fn add_all(&mut self, files: Files<'_>) -> Result<(), AllocError>
         requires { All (λ file. file.graph ≡ self.old.graph) files }
         ensures graph { self.new.graph ≡ self.old.graph }

@@ -30,7 +30,7 @@ impl<'g> Model for FileSet<'g> {
 }
 
 impl<'g> FileSet<'g> {
-    /// The set that has no file of the graph.
+    /// Returns the empty set of files of the graph.
     pub(crate) fn new(alloc: Global, graph: &'g Graph) -> Result<FileSet<'g>, AllocError>
         ensures graph { IfOk result (λ set. set.graph ≡ graph.entry.now) }
         ensures none { IfOk result (λ set. HasExactly set []) }

@@ -15,14 +15,14 @@ use nj_requests::InputsStyle;
 use nj_text::quote_into;
 use std::alloc::{AllocError, Global};
 
-/// Writes the inputs of the edges whose commands these targets need, without duplicates, in this
-/// style ("Extra tools" in the Ninja manual, `inputs`). In the order of dependencies it keeps no
-/// list of them.
+/// Writes the inputs of the edges whose commands the given targets need, without duplicates, in the
+/// given style ("Extra tools" in the Ninja manual, `inputs`). In the order of dependencies, the
+/// inputs are not collected in a list.
 ///
 /// # Errors
 ///
-/// `Write` if the sink failed, and `OutOfMemory` if an allocation failed. The sink has then taken a
-/// prefix of the text.
+/// `Write` if the sink failed, and `OutOfMemory` if an allocation failed. The sink has then
+/// accepted a prefix of the text.
 pub fn write_inputs<S: Sink>(
     alloc: Global,
     graph: &Graph,
@@ -42,7 +42,7 @@ pub fn write_inputs<S: Sink>(
     output.flush()
 }
 
-// Writes the inputs of the edges that are left to a walk, in the order of the style.
+// Writes the inputs of the remaining edges of a walk, in the order of the style.
 fn write_arranged<S: Sink>(
     alloc: Global,
     graph: &Graph,
@@ -93,7 +93,7 @@ fn write_as_needed<S: Sink>(
     Ok(())
 }
 
-// Appends those files that the set does not have, without duplicates, and adds them to it.
+// Appends the files that the set does not have, without duplicates, and adds them to the set.
 fn append_new_files(
     text: &mut Vec<u8>,
     files: Files<'_>,
@@ -114,7 +114,7 @@ fn append_new_files(
     Ok(())
 }
 
-// Appends a file that the set does not have, and adds it.
+// Appends a file that the set does not have, and adds it to the set.
 fn append_new_file(
     text: &mut Vec<u8>,
     file: File<'_>,
@@ -153,7 +153,7 @@ fn append_path(text: &mut Vec<u8>, path: &[u8], style: InputsStyle) -> Result<()
 
 // ---- in byte order
 
-// The inputs of the edges that are left to a walk.
+// The inputs of the remaining edges of a walk.
 fn needed_inputs<'g>(
     alloc: Global,
     graph: &'g Graph,

@@ -13,7 +13,7 @@ pub(crate) fn json_string(alloc: Global, text: &str) -> Result<Vec<u8>, AllocErr
     Value::try_from_str(alloc, text)?.to_vec(alloc)
 }
 
-/// The same; `None` if the text is not UTF-8.
+/// The text as a string in JSON; `None` if the text is not UTF-8.
 pub(crate) fn held_string(alloc: Global, text: &[u8]) -> Result<Option<Vec<u8>>, AllocError>
     ensures { IfOk result (λ json. option_map (λ json. json.items) json ≡ held_string text.now) }
 {

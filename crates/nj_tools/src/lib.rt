@@ -1,4 +1,4 @@
-//! The output of the tools, and the sinks that take it.
+//! The output of the tools, and the sinks that accept it.
 #![tactic(auto)]
 
 mod chosen_rules;

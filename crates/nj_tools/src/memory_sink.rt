@@ -1,4 +1,4 @@
-//! A sink that keeps the bytes that it takes.
+//! A sink that keeps the bytes that it accepts.
 
 ghost use Rattle.std.specs.Prelude.{◌≡◌, ◌≢◌, ◌<◌, ◌≤◌, ◌+◌, ◌⊎◌, [], length, IsErr, IsOk, IfOk, OnErr, None, false};
 ghost use Rattle.nj_tools.specs.Cited.{ForSome};
@@ -7,7 +7,7 @@ use crate::sinks::{Sink, SinkFault};
 use std::alloc::Global;
 use std::marker::Model;
 
-/// Keeps the bytes that it takes in memory, up to a limit. A failed allocation is a failure like
+/// Keeps in memory the bytes that it accepts, up to a limit. A failed allocation is a failure like
 /// any other.
 #[derive(Drop)]
 pub struct MemorySink {
@@ -38,7 +38,8 @@ impl Model for MemorySink {
 impl MemorySink {
     ghost use Rattle.nj_tools.specs.Inside.MemorySinksHeld.{fitting};
 
-    /// A sink that has taken nothing yet, and takes at most `limit` bytes. It allocates nothing.
+    /// Returns a sink that has accepted nothing yet, and accepts at most `limit` bytes. Does not
+    /// allocate.
     pub fn new(alloc: Global, limit: Option<usize>) -> MemorySink
         ensures { result ≡ record {
           bytes = [];
@@ -56,7 +57,7 @@ impl MemorySink {
         }
     }
 
-    /// The bytes that the sink took so far.
+    /// The bytes that the sink has accepted so far.
     pub fn bytes(&self) -> &[u8]
         ensures taken { result.now ≡ self.now.bytes }
         ensures within_limit { ForSome self.now.limit (λ limit. length result.now ≤ limit) }
@@ -64,7 +65,7 @@ impl MemorySink {
         self.bytes.as_slice()
     }
 
-    /// How often the sink failed to take bytes, a count that stays at its greatest value.
+    /// How often the sink failed to accept bytes; the count saturates.
     pub fn failures(&self) -> u64
         ensures { result ≡ self.now.failures }
     {
@@ -94,7 +95,8 @@ impl Sink for MemorySink {
         ensures limit { self.new.limit ≡ self.old.limit }
         ensures count { IfOk result (λ count. count ≡ length (fitting self.old bytes.now)) }
 
-        // At the limit it always fails, and below it only if its memory would have to grow.
+        // At the limit a call with bytes always fails; below the limit, only if the memory would
+        // have to grow.
         ensures empty { bytes.now ≡ [] → IsOk result }
         ensures full { bytes.now ≢ [] → fitting self.old bytes.now ≡ [] → IsErr result }
         ensures memory { OnErr result ((fitting self.old bytes.now ≡ [])

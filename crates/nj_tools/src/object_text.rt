@@ -8,7 +8,7 @@ use nj_graph::{Files, PlaceRef};
 use std::alloc::{AllocError, Global};
 use std::marker::Model;
 
-// So much is reserved for an object at first.
+// The bytes reserved for an object at first.
 const ROOM: usize = 1024;
 
 /// An object of JSON that is being written.

@@ -8,10 +8,10 @@ use crate::tool_fault::ToolFault;
 use crate::whole_text::write_whole;
 use std::alloc::AllocError;
 
-// Text is written once there are this many bytes of it.
+// Text is written once it has this many bytes.
 const BLOCK: usize = 65536;
 
-/// A sink, and the text that it is to take next.
+/// A sink, and the text that is to be passed to it next.
 #[derive(Drop)]
 pub(crate) struct Output<'s, S: Sink> {
     sink: &'s mut S,
@@ -52,7 +52,7 @@ impl<'s, S: Sink> Output<'s, S> {
         Ok(())
     }
 
-    // Adds a text to what is pending.
+    // Adds a text to the pending text.
     #[inline]
     fn append(&mut self, bytes: &[u8]) -> Result<(), AllocError>
         ensures same { IsSame self.old self.new }
@@ -63,7 +63,7 @@ impl<'s, S: Sink> Output<'s, S> {
         self.pending.extend_from_slice(bytes)
     }
 
-    /// Writes what is pending if it fills a block; else keeps it for later.
+    /// Writes the pending text if it fills a block; else keeps it for later.
     #[inline]
     pub(crate) fn write_block(&mut self) -> Result<(), ToolFault>
         ensures same { IsSame self.old self.new }
@@ -75,7 +75,7 @@ impl<'s, S: Sink> Output<'s, S> {
         Ok(())
     }
 
-    /// Writes what is pending.
+    /// Writes the pending text.
     pub(crate) fn flush(&mut self) -> Result<(), ToolFault>
         ensures same { IsSame self.old self.new }
         ensures writes { WritesText (S.state self.old.sink.now) (S.state self.new.sink.now)

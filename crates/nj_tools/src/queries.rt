@@ -1,4 +1,4 @@
-//! The files from which files are made, and those made from them.
+//! The files from which files are made, and the files made from them.
 
 ghost use Rattle.std.specs.Prelude.{◌≡◌, ◌<◌, ◌++◌, All, Some, OnOk, length, map};
 ghost use Rattle.nj_tools.specs.Cited.{OfStatements, OfEdge, path_at, edge_of, edges_of, file_of, files_of, inputs_by_kind, line, maker_of, maker_text, output_lines, paths_of, query_text, query_of_file, validated_lines, validation_lines, WritesText};
@@ -10,13 +10,13 @@ use crate::tool_fault::ToolFault;
 use nj_graph::{Edge, Edges, File, FileNo, Files, Graph};
 use std::alloc::{AllocError, Global};
 
-/// Writes for each of these files the edge that makes it, with its inputs, and the outputs made
+/// Writes for each of the given files the edge that makes it, with its inputs, and the outputs made
 /// from the file ("Extra tools" in the Ninja manual, `query`).
 ///
 /// # Errors
 ///
-/// `Write` if the sink failed, and `OutOfMemory` if an allocation failed. The sink has then taken a
-/// prefix of the text.
+/// `Write` if the sink failed, and `OutOfMemory` if an allocation failed. The sink has then
+/// accepted a prefix of the text.
 pub fn write_query<S: Sink>(
     alloc: Global,
     graph: &Graph,
@@ -93,8 +93,7 @@ fn append_validations(text: &mut Vec<u8>, files: Files<'_>) -> Result<(), AllocE
     append_paths(text, b"    ", files)
 }
 
-// Appends the outputs of the edges that name a file as a validation under their title, if there are
-// such edges.
+// Appends the outputs of the edges that name a file as a validation, if any, under their title.
 fn append_validated(text: &mut Vec<u8>, users: Edges<'_>) -> Result<(), AllocError>
     ensures { OnOk result (text.new.items ≡ text.old.items ++ validated_lines users.entry) }
 {

@@ -15,8 +15,8 @@ use std::alloc::Global;
 ///
 /// # Errors
 ///
-/// `Write` if the sink failed, and `OutOfMemory` if an allocation failed. The sink has then taken a
-/// prefix of the text.
+/// `Write` if the sink failed, and `OutOfMemory` if an allocation failed. The sink has then
+/// accepted a prefix of the text.
 pub fn write_rules<S: Sink>(
     alloc: Global,
     graph: &Graph,

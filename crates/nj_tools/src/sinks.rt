@@ -5,7 +5,7 @@ ghost use Rattle.std.specs.Prelude.{Some, codes};
 use std::error::Error;
 use std::fmt;
 
-/// The sink could not take bytes.
+/// The sink could not accept bytes.
 #[derive(Clone, Copy, Debug, PartialEq, Eq)]
 pub struct SinkFault;
 
@@ -19,15 +19,15 @@ impl fmt::Display for SinkFault {
 
 impl Error for SinkFault {}
 
-/// Takes bytes, and counts how often it could not.
+/// Accepts bytes, and counts how often it could not.
 pub trait Sink {
     ghost use Rattle.nj_tools.specs.Sinks.{SinkState, Puts};
 
     // The known state of the sink.
     ghost state: { Self → SinkState };
 
-    /// Takes bytes from the front, and returns how many. An error, or 0 if there are bytes, is a
-    /// failure: nothing was taken, and the count of failures rises by one.
+    /// Accepts bytes from the front, and returns their number. An error, or 0 for a text that is
+    /// not empty, is a failure: nothing was accepted, and the count of failures rises by one.
     fn put(&mut self, bytes: &[u8]) -> Result<usize, SinkFault>
         ensures { Puts (state self.old) (state self.new) bytes.now result };
 }

@@ -20,13 +20,14 @@ pub(crate) fn sorted_paths<'g>(alloc: Global, files: Files<'g>) -> Result<Vec<&'
     Ok(paths)
 }
 
-/// The paths of files as a shell takes them. All in quotes come before all others, since a quote is
-/// less than every byte that needs none, so each kind is sorted apart, and only the first is copied.
+/// The paths of files quoted for a shell where necessary. Quoted paths come before all others,
+/// since the quote is less than every byte that needs no quoting; so each kind is sorted
+/// separately, and only the quoted paths are copied.
 #[derive(Drop)]
 pub(crate) struct Quotes<'g> {
-    /// In quotes.
+    /// The paths in quotes.
     pub(crate) quoted: Vec<Vec<u8>>,
-    /// Those that need no quotes.
+    /// The paths that need no quotes.
     pub(crate) plain: Vec<&'g [u8]>,
 }
 
@@ -65,7 +66,7 @@ fn quotes_of<'g>(alloc: Global, files: Files<'g>) -> Result<Quotes<'g>, AllocErr
     Ok(Quotes { quoted, plain })
 }
 
-// Whether the quote of a path comes before all that need no quotes, in byte order.
+// Whether the quote of a path comes before all paths that need no quotes, in byte order.
 fn precedes_plain(quote: &[u8]) -> bool
     ensures { result ≡ precedes_plain quote.now }
 {

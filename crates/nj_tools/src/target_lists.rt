@@ -18,8 +18,8 @@ use std::alloc::{AllocError, Global};
 ///
 /// # Errors
 ///
-/// `Write` if the sink failed, and `OutOfMemory` if an allocation failed. The sink has then taken a
-/// prefix of the text.
+/// `Write` if the sink failed, and `OutOfMemory` if an allocation failed. The sink has then
+/// accepted a prefix of the text.
 pub fn write_targets<S: Sink>(
     alloc: Global,
     graph: &Graph,
@@ -60,7 +60,7 @@ fn write_view<S: Sink>(
     }
 }
 
-// The outputs of the edges whose rule has this name.
+// The outputs of the edges whose rule has the given name.
 fn outputs_of_rule<'g>(
     alloc: Global,
     graph: &'g Graph,
@@ -92,7 +92,7 @@ fn sources<'g>(alloc: Global, graph: &'g Graph) -> Result<Collected<'g>, AllocEr
     Ok(sources)
 }
 
-// Adds those files that no edge makes.
+// Adds the files that no edge makes.
 fn add_sources(files: Files<'_>, sources: &mut Collected<'_>) -> Result<(), AllocError>
     requires { All (λ file. file.graph ≡ sources.old.graph) files }
     ensures graph { sources.new.graph ≡ sources.old.graph }

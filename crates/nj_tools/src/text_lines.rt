@@ -17,7 +17,7 @@ pub(crate) fn append_line(text: &mut Vec<u8>, before: &[u8], after: &[u8]) -> Re
     Ok(())
 }
 
-/// Appends the paths of files, a line each, after this beginning.
+/// Appends the paths of files, a line each, after the given beginning.
 pub(crate) fn append_paths(
     text: &mut Vec<u8>,
     beginning: &[u8],

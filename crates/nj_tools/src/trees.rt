@@ -11,7 +11,7 @@ use nj_graph::{File, Files, Graph};
 use std::alloc::{AllocError, Global};
 
 /// Writes the trees of the roots: each file, then the inputs of its maker, one level deeper, and so
-/// on, for this many levels; 0 is all levels.
+/// on, for the given number of levels; 0 means all levels.
 pub(crate) fn write_trees<S: Sink>(
     alloc: Global,
     graph: &Graph,
@@ -92,7 +92,7 @@ fn append_at_depth(text: &mut Vec<u8>, depth: usize, file: File<'_>) -> Result<(
     }
 }
 
-// Appends two spaces for each level above.
+// Appends two spaces for each level above the file.
 fn append_indent(text: &mut Vec<u8>, depth: usize) -> Result<(), AllocError>
     ensures { OnOk result (text.new.items ≡ text.old.items ++ indent depth) }
 {

@@ -4,8 +4,8 @@ ghost use Rattle.nj_tools.specs.Cited.{Writes};
 
 use crate::sinks::{Sink, SinkFault};
 
-/// Writes the whole text to the sink. Stops at the first `put` that takes nothing; an empty text
-/// makes no `put`.
+/// Writes the whole text to the sink. Stops at the first `put` that accepts nothing; for an empty
+/// text `put` is not called.
 pub fn write_whole<S: Sink>(sink: &mut S, text: &[u8]) -> Result<(), SinkFault>
     ensures { Writes (S.state sink.old) (S.state sink.new) text.now result }
 {

@@ -27,7 +27,7 @@ impl<W: Write> Model for WriteSink<W> {
 }
 
 impl<W: Write> WriteSink<W> {
-    /// A sink over the writer, which has not failed yet.
+    /// Returns a sink over the writer that has not failed yet.
     pub fn new(writer: W) -> WriteSink<W>
         ensures { result ≡ record {
           taken = W.contents writer;

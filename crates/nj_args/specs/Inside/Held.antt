@@ -35,14 +35,14 @@ word_strings words = unwrap_or (option_map (λ strings. map (λ text. text.now) 
 abbrev pub rows_in : ArgMatches → List Row
 rows_in matches = rows_of (found_of matches)
 
--- an option that is kept under this text: `-L VALUE`, and `--NAME VALUE`
+-- an option that is stored under the given text: `-L VALUE`, and `--NAME VALUE`
 abbrev pub with_letter : (text : List ℕ) (letter : ℕ) → Rule
 with_letter text letter = record (new_rule text) { short = Some letter }
 
 abbrev pub with_name : (text name : List ℕ) → Rule
 with_name text name = record (new_rule text) { long = Some name }
 
--- an option in this form, and one of a table
+-- an option in the given form, and an option of a table
 abbrev pub option_in : (text : List ℕ) → Form → Rule
 option_in text (Short letter) = with_letter text letter
 option_in text (Long name) = with_name text name.now
@@ -60,7 +60,7 @@ all_words = record (new_rule (codes "words")) { action = Some Append }
 abbrev pub is_refused : (words : List (List ℕ)) → Bool
 is_refused words = not (clap.is_empty (fault_of command words))
 
--- a sign that the standard library's reading of numbers takes
+-- a sign that the standard library accepts when it reads numbers
 abbrev pub begins_with_plus : List ℕ → Bool
 begins_with_plus [] = false
 begins_with_plus (first ∷ text) = first == 43
@@ -81,7 +81,7 @@ goes_with tool is_single option = list_any (λ one. bytes_eq (option_text one) (
 abbrev pub first_foreign : Tool → List Row → Option ToolOption
 first_foreign tool rows = find (is_foreign tool rows) all_options
 
--- the list of `targets` with this many levels
+-- the list of `targets` with the given number of levels
 abbrev pub depth_of : (text : List ℕ) → Result TargetsView UsageFault
 depth_of text = ok_or (option_map Depth (given_depth text)) (BadNumber text)
 
@@ -101,7 +101,7 @@ rules_of name descriptions words = if is_empty words then Ok (rules descriptions
 abbrev pub compdb_of : List Row → Result ActionModel UsageFault
 compdb_of rows = Ok (compdb (words_in rows) (unwrap_or (first_of (codes "--directory") rows) (codes ".")) (is_on (codes "-x") rows))
 
--- the request of arguments, and the one without any
+-- the request of arguments, and the request without arguments
 abbrev pub given_request : (words : List (List ℕ)) → Result RequestModel UsageFault
 given_request words = ok_or (given_rows words) Unparsed >>= request_in
 

@@ -27,6 +27,6 @@ findings_of g entries missing serving undeclared DepfileWithoutDeps = depfiles_w
 findings_of g entries missing serving undeclared RepeatedInput = repeated_inputs g
 findings_of g entries missing serving undeclared UndeclaredInput = undeclared
 
--- the requested ones of the findings of a kind
+-- the findings of a kind, if it is requested
 abbrev pub asked_of : Kinds → (Kind → List FindingModel) → Kind → List FindingModel
 asked_of kinds of kind = if contains kinds kind then of kind else []

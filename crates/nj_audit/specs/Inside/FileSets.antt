@@ -11,7 +11,7 @@ pub record FileSetModel : Type 0 where
   pub graph : GraphModel
   pub paths : List (List ℕ)
 
--- the numbers are those of files, of which no two have the same path
+-- the numbers are those of files, and no two of the files have the same path
 pub record HasFileNumbers (files : List (List ℕ)) (set : NumberSetModel) : Type 0 where
   pub limit : set.limit ≡ length files
   pub known : All (λ number. number < length files) set.numbers

@@ -7,6 +7,6 @@ use Rattle.nj_audit.specs.NamedPaths.{SeenName}
 use Rattle.nj_audit.specs.UnorderedFiles.{file_named}
 use Rattle.nj_audit.specs.Inside.Handles.{files_numbered}
 
--- the files that these names mean come after those that were there
+-- the files that the given names mean come after the files found before
 abbrev pub AddsFiles : GraphModel → (folder : List ℕ) → (names : List SeenName) → (old new : List GraphFile) → Type 0
 AddsFiles g folder names old new = new ≡ old ++ files_numbered g (filter_map (file_named g folder) names)

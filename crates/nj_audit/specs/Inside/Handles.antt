@@ -14,19 +14,19 @@ use Rattle.nj_audit.specs.declared.kinds.Kind.TheVariants.{RepeatedCommand}
 abbrev pub finding_at : GraphEdge → Kind → (name : List ℕ) → FindingModel
 finding_at edge kind name = edge_finding edge.graph edge.number kind name
 
--- the file as an input of the edge of a number
+-- the file as an input of the edge with the given number
 abbrev pub input_of : (edge : ℕ) → GraphFile → InputOfEdge
 input_of edge file = record { edge = edge; path = file.path }
 
--- the files are all of this graph
+-- all files are in the graph
 abbrev pub AreIn : GraphModel → List GraphFile → Type 0
 AreIn g files = files ≡ files_in g (map (λ file. file.path) files)
 
--- the files of these numbers
+-- the files with the given numbers
 abbrev pub files_numbered : GraphModel → (numbers : List ℕ) → List GraphFile
 files_numbered g numbers = map (λ number. file_in g (path_of g number)) numbers
 
--- the files are those of these numbers
+-- the files have the given numbers
 abbrev pub HaveNumbers : GraphModel → List GraphFile → (numbers : List ℕ) → Type 0
 HaveNumbers g files numbers = files ≡ files_numbered g numbers
 
@@ -34,7 +34,7 @@ HaveNumbers g files numbers = files ≡ files_numbered g numbers
 abbrev pub missing_file : (missing serving : List Bool) → GraphFile → Option FindingModel
 missing_file missing serving file = missing_source file.graph missing serving (number_of file)
 
--- the finding about an edge, if its command is among these
+-- the finding about an edge, if its command is among the given commands
 abbrev pub repeated_among : GraphEdge → List ReadStatement → (commands : List (List ℕ)) → List FindingModel
 repeated_among edge entries commands =
     if has_command edge.graph edge.number && is_among commands (command_of entries edge.number)

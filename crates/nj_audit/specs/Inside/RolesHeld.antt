@@ -5,7 +5,7 @@ use Rattle.nj_graph.specs.Graph.{GraphModel, edges_of}
 use Rattle.nj_audit.specs.Roles.{built_by_default, makers_of_opened}
 use Rattle.nj_audit.specs.declared.roles.Roles.{Roles}
 
--- the set has these numbers, which are below its limit
+-- the set has the given numbers, which are below its limit
 pub record HasNumbers (count : ℕ) (all : List ℕ) (set : NumberSetModel) : Type 0 where
   pub limit : set.limit ≡ count
   pub numbers : (number : ℕ) → has set.numbers number ≡ has all number

@@ -10,12 +10,12 @@ use Rattle.nj_audit.specs.Serving.{ServesCommand}
 abbrev pub HasCommand : List EdgePaths → (edge : ℕ) → Type 0
 HasCommand edges e = (e < length edges) × ((edge_at edges e).is_phony ≡ false)
 
--- the edge makes one of these files
+-- the edge makes one of the given files
 abbrev pub MakesOneOf : List EdgePaths → (files : List (List ℕ)) → (edge : ℕ) → Type 0
 MakesOneOf edges files e = Contains (map (maker_of edges) files) (Some e)
 
--- between two turns: the edges found serve commands; and found are the edges with commands, and the makers of the inputs of each edge
--- before a place in the list
+-- between two turns: the edges found serve commands; they include the edges with commands, and the makers of the inputs of each edge before
+-- a place in the list
 pub record FindsServing (edges : List EdgePaths) (found : NumberSetModel) (place : ℕ) : Type 0 where
   pub limit : found.limit ≡ length edges
   pub within : place ≤ length found.numbers

@@ -6,7 +6,7 @@ use Rattle.nj_build_log.specs.Logs.{LineModel, entry_of, outputs_of}
 use Rattle.nj_build_log.specs.declared.entry.Entry.{Entry}
 use Rattle.nj_build_log.specs.declared.line_table.HeldLine.{HeldLine}
 
--- before the first byte that passes, and after it
+-- the text before the first byte that passes, and the text after it
 abbrev pub split_at_first : (ℕ → Bool) → List ℕ → Option (List ℕ × List ℕ)
 split_at_first test text = if list_any test text then Some (before_first test text, after_first test text) else None
 
@@ -27,14 +27,14 @@ found_entry (other ∷ outputs) [] output = None
 found_entry (other ∷ outputs) (entry ∷ entries) output =
     if bytes_eq output other then Some entry else found_entry outputs entries output
 
--- each output once, and for each of them the entry of its last line
+-- each output once, and for each output the entry of its last line
 pub record AreLinesHeld (outputs : List (List ℕ)) (lines : List HeldLine) (entries : List Entry) : Type 0 where
   pub outputs_named : outputs ≡ outputs_of (all_named outputs lines)
   pub known : AllByRecursion (λ line. line.output < length outputs) lines
   pub count : length entries ≡ length outputs
   pub last : (output : List ℕ) → entry_of (all_named outputs lines) output ≡ found_entry outputs entries output
 
--- the entry of an output is set, and the others stay
+-- the entry of an output is set, and the other entries stay
 pub record SetsEntry (output : List ℕ) (entry : Entry) (old_outputs new_outputs : List (List ℕ)) (old new : List Entry) : Type 0 where
   pub count : length new ≡ length new_outputs
   pub same : found_entry new_outputs new output ≡ Some entry

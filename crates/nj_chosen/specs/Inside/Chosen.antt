@@ -6,12 +6,12 @@ use Rattle.nj_chosen.specs.Reasons.{PathKinds, reason_by}
 use Rattle.nj_chosen.specs.Chosen.{IsChosen, IsTestAffected}
 use Rattle.nj_chosen.specs.Choices.{ChosenModel, HasReason}
 
--- sets of the numbers of so many tests
+-- sets of the numbers of `count` tests
 pub record AreOfAll (count : ℕ) (affected chosen : NumberSetModel) : Type 0 where
   pub affected_limit : affected.limit ≡ count
   pub chosen_limit : chosen.limit ≡ count
 
--- these of some tests are chosen, by what paths are
+-- the chosen tests of a list, by the kinds of paths
 pub record AreChosenBy (kinds : PathKinds) (build : List ℕ) (skips_unnamed : Bool) (tests : List TestModel) (m : ChosenModel) :
     Type 0 where
   pub reasons : m.reasons ≡ map (reason_by kinds build skips_unnamed) tests

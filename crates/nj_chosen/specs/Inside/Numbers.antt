@@ -11,7 +11,7 @@ pub record NumbersModel : Type 0 where
 abbrev pub row_at : (rows : List (List ℕ)) → (place : ℕ) → List ℕ
 row_at rows place = slice_index_or rows place []
 
--- the rows with another one at a place
+-- the rows with another row at a place
 abbrev pub set_row : (rows : List (List ℕ)) → (place : ℕ) → (row : List ℕ) → List (List ℕ)
 set_row rows place row = slice_set rows place row
 
@@ -33,7 +33,7 @@ HasNumber m name number = Contains (numbers_at m name) number
 abbrev pub AreBelow : (limit : ℕ) → NumbersModel → Type 0
 AreBelow limit m = (name : List ℕ) (number : ℕ) → HasNumber m name number → number < limit
 
--- a number came under these names
+-- a number came under each of the given names
 pub record AddsNumber (names : List (List ℕ)) (number : ℕ) (old new : NumbersModel) : Type 0 where
   pub kept : (name : List ℕ) (n : ℕ) → HasNumber old name n → HasNumber new name n
   pub added : (name : List ℕ) → is_among names name ≡ true → HasNumber new name number

@@ -5,7 +5,7 @@ use Rattle.nj_chosen.specs.declared.tables.PathTables.{PathTables}
 use Rattle.nj_chosen.specs.Directories.{is_telling}
 use Rattle.nj_chosen.specs.Reasons.{PathKinds}
 
--- a directory that tells something is in a table
+-- a path is a telling directory, and is in a table
 abbrev pub has_folder : (roots folders : List (List ℕ)) → (path : List ℕ) → Bool
 has_folder roots folders path = is_telling roots path && is_among folders path
 

@@ -36,11 +36,11 @@ GraphOr request before after files (Ok loaded) =
     × (loaded.files ≡ files)
 GraphOr request before after files (Err fault) = HaveFault request.file request.dyndep before after files fault
 
--- these files were read, each path once
+-- the given files were read, each path once
 abbrev pub ReadsGraph : RequestModel → (before after : SourceState) → Result LoadedModel GraphFault → Type 0
 ReadsGraph request before after result = (files : List Reading) × IsRead before after [] files × GraphOr request before after files result
 
--- with `--validations` the validations of the edges that the targets need come after them
+-- with `--validations` the validations of the edges that the targets need come after the targets
 abbrev pub with_validations : (validations : Bool) → List EdgePaths → (targets : List (List ℕ)) → List (List ℕ)
 with_validations validations edges targets = if validations then grown_targets edges targets else targets
 
@@ -82,7 +82,7 @@ ReturnsFor entries action old new (Err error.Write) = FailsWithin old new (outpu
 ReturnsFor entries action old new (Err error.OutOfMemory) = TakesFront old new (output_of entries action)
 ReturnsFor entries action old new (Err other) = ⊥
 
--- the text was reported, or out of memory if there was no memory to make it
+-- the text was reported, or out of memory if it could not be allocated
 abbrev pub ReportsLine : (old new : SinkState) → (text : List ℕ) → Type 0
 ReportsLine old new text = Reported old new text ⊎ Reported old new (line out_of_memory)
 

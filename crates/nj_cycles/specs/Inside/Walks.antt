@@ -1,5 +1,5 @@
--- The depth-first walk over the edges, inside the check: its state between two turns. No reader of the public contracts
--- needs this file.
+-- The depth-first walk over the edges, inside the check: its state between two turns. Readers of the public contracts
+-- do not need this file.
 use Rattle.std.specs.Prelude.{◌≡◌, ◌≢◌, ◌⊎◌, ℕ, ◌+◌, ◌*◌, ◌<◌, ◌≤◌, Bool, false, List, [], ◌∷◌, ◌++◌, Option, None, Some, length, take, slice_get, slice_index, slice_index_or, sum_by, Contains}
 use Rattle.nj_cycles.specs.declared.finishing_order.Stage.{Stage}
 use Rattle.nj_cycles.specs.declared.finishing_order.Stage.TheVariants.{Unseen, Open, Done}

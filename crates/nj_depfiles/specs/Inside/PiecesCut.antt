@@ -9,7 +9,7 @@ piece_of (held.NameBytes bytes) = pieces.Piece.NameBytes bytes.now
 piece_of held.NameEnd = pieces.Piece.NameEnd
 piece_of held.LineEnd = pieces.Piece.LineEnd
 
--- a piece and its size are those, and it has bytes, all of them of the text
+-- a piece and its size are the given ones, and the piece has bytes, all of them in the text
 pub record IsCutAs (text : List ℕ) (cut : pieces.Cut) (found : Piece × ℕ) : Type 0 where
   pub piece : piece_of found.0 ≡ cut.0
   pub size : found.1 ≡ cut.1

@@ -7,7 +7,7 @@ use Rattle.nj_depfiles.specs.Depfiles.{DepfileModel, nothing_named, ends_in_colo
 use Rattle.nj_depfiles.specs.declared.depfile_fault.DepfileFault.{DepfileFault}
 use Rattle.nj_depfiles.specs.declared.depfile_fault.DepfileFault.TheVariants.{InputHasInputs, NoColon, OutOfMemory}
 
--- what is named up to a word of a line; the words after one with a colon are inputs
+-- what is named up to a word of a line; the words after a word with a colon are inputs
 pub record LineModel : Type 0 where
   pub named : DepfileModel
   pub is_right : Bool
@@ -82,12 +82,12 @@ pieces_read r (piece ∷ more) = then_read (piece_read r piece) (λ after. piece
 
 -- ---- of calls
 
--- a call goes on so, or it ends with this fault, or there was no memory
+-- a call continues with the new value, or it ends with the given fault, or memory ran out
 abbrev pub GoesOn : {A : Type 0} → Result A DepfileFault → (new : A) → Result (Unit {0}) DepfileFault → Type 0
 GoesOn expected new (Ok done) = expected ≡ Ok new
 GoesOn expected new (Err fault) = (fault ≡ OutOfMemory) ⊎ (expected ≡ Err fault)
 
--- the answer of a call, or there was no memory
+-- the result of a call, or memory ran out
 abbrev pub Answers : Result DepfileModel DepfileFault → Result DepfileModel DepfileFault → Type 0
 Answers expected (Ok named) = expected ≡ Ok named
 Answers expected (Err fault) = (fault ≡ OutOfMemory) ⊎ (expected ≡ Err fault)

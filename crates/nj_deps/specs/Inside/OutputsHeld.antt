@@ -29,7 +29,7 @@ abbrev pub later_place : ℕ → ℕ
 later_place zero = 0
 later_place (suc place) = suc (suc place)
 
--- the place of the output with the given number, counted from 1; 0 if there is none
+-- the place of the output with the given number, counted from 1, or 0
 abbrev pub place_of : List HeldOutput → (number : ℕ) → ℕ
 place_of [] number = 0
 place_of (held ∷ outputs) number =
@@ -40,7 +40,7 @@ abbrev pub ArePlaces : List HeldOutput → (places : List ℕ) → Type 0
 ArePlaces outputs places = (number : ℕ) → number < length places
     → slice_index_or places number 0 ≡ place_of outputs number
 
--- in place of the one of the same number, or at the end
+-- in place of the output of the same number, or at the end
 abbrev pub with_held : List HeldOutput → HeldOutput → List HeldOutput
 with_held [] held = held ∷ []
 with_held (other ∷ outputs) held =
@@ -59,7 +59,7 @@ pub record AreOutputsHeld (inputs : List ℕ) (outputs : List HeldOutput) (place
   pub are_places : ArePlaces outputs places
   pub of_paths : AllByRecursion (IsOfPaths (length places)) (all_logged inputs outputs)
 
--- The dependencies of an output are kept, if the numbers are of paths. The bytes are those of the inputs.
+-- The dependencies of an output are kept, if the numbers are numbers of paths. The bytes are those of the inputs.
 abbrev pub Keeps : (output time : ℕ) → (bytes : List ℕ) → (old new : OutputsModel) → Bool → Type 0
 Keeps output time bytes old new true = (inputs : List ℕ) × (bytes ≡ words inputs)
     × (output < old.count) × AllByRecursion (λ n. n < old.count) inputs

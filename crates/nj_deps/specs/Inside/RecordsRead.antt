@@ -8,7 +8,7 @@ use Rattle.nj_deps.specs.Logs.{OutputModel, with_path, with_dependencies, paths_
 abbrev pub BeginsWith : List ℕ → List ℕ → Type 0
 BeginsWith front whole = (rest : List ℕ) × (whole ≡ front ++ rest)
 
--- by the numbers that bytes are, which are all below the count; or they are not
+-- the numbers that the bytes are, all below the count, are appended; or a number is not below it
 abbrev pub AppendsNumbers : (count : ℕ) → (bytes old new : List ℕ) → Bool → Type 0
 AppendsNumbers count bytes old new true = (numbers : List ℕ) × (new ≡ old ++ numbers)
     × (bytes ≡ words numbers) × AllByRecursion (λ n. n < count) numbers
@@ -58,7 +58,7 @@ pub record IsKind (head bit : ℕ) : Type 0 where
   pub kind : (r : LogRecord) → length (content_of r) ≤ 524287
       → head ≡ kind_bit r + length (content_of r) → kind_bit r ≡ bit
 
--- The record counts, and its content is added; or there is none that counts.
+-- The record counts, and its content is added; or the record does not count.
 abbrev pub Adds : (bit : ℕ) → (content : List ℕ) → (old new : TableModel) → Bool → Type 0
 Adds bit content old new true = (r : LogRecord) × IsContent bit content r × Counts old.paths r
     × (new ≡ with_record old r)

@@ -25,7 +25,7 @@ pub record IsWithin (size : ℕ) (edge : FoundEdge) : Type 0 where
   pub rises : edge.start ≤ edge.end
   pub ends : edge.end ≤ size
 
--- each edge has a part of the numbers, which are those of names
+-- each edge has a part of the numbers, all of which are numbers of names
 pub record AreHeld (names : List (List ℕ)) (numbers : List ℕ) (edges : List FoundEdge) : Type 0 where
   pub within : AllByRecursion (IsWithin (length numbers)) edges
   pub below : AreBelow (length names) numbers

@@ -8,7 +8,7 @@ use Rattle.nj_scope.specs.Readings.{IsPrefix}
 abbrev pub AreBelow : (count : ℕ) → List ℕ → Type 0
 AreBelow count numbers = AllByRecursion (λ number. number < count) numbers
 
--- Names were added, if any, and at the end of the list the numbers of these paths.
+-- Names were added, if any, and at the end of the list the numbers of the given paths.
 pub record Appends (paths : List (List ℕ)) (old_names new_names : List (List ℕ)) (old new : List ℕ) : Type 0 where
   pub names : IsPrefix old_names new_names
   pub added : List ℕ
@@ -16,7 +16,7 @@ pub record Appends (paths : List (List ℕ)) (old_names new_names : List (List �
   pub below : AreBelow (length new_names) added
   pub paths_are : map (name_at new_names) added ≡ paths
 
--- the numbers, in these names, of the clean paths of a list, one for each
+-- the numbers, in the given names, of the clean paths of a list, one for each
 pub record AreCleanNumbers (paths names : List (List ℕ)) (numbers : List ℕ) : Type 0 where
   pub below : AreBelow (length names) numbers
   pub paths_are : map (name_at names) numbers ≡ map clean_path_of paths

@@ -11,7 +11,7 @@ use Rattle.nj_edge_env.specs.Blocks.{BlocksModel, bound_in}
 abbrev pub list_at : List (List ℕ) → (edge : ℕ) → List ℕ
 list_at lists edge = slice_index_or lists edge []
 
--- lists that follow one another in one list, by where each starts
+-- lists stored one after another in a single list, by where each starts
 abbrev pub lists_of : (numbers starts : List ℕ) → List (List ℕ)
 lists_of numbers [] = []
 lists_of numbers (start ∷ []) = drop start numbers ∷ []
@@ -28,7 +28,7 @@ AreStarts len (start ∷ next ∷ starts) = (start ≤ next) × AreStarts len (n
 abbrev pub values_of : (text : List ℕ) → List Bound → List (ℕ × List ℕ)
 values_of text bounds = map (λ b. (b.edge, slice_range text b.start b.end)) bounds
 
--- the values of these names, which are held in their order
+-- the values of the given names, which are held in their order
 abbrev pub values_by_name : (text : List ℕ) → (names : List (List ℕ)) → List (List Bound) → List (List ℕ × List (ℕ × List ℕ))
 values_by_name text [] bounds = []
 values_by_name text (name ∷ names) [] = []
@@ -48,12 +48,12 @@ blocks_of text names bounds lists last = record {
   last = last;
 }
 
--- each edge comes after those before it
+-- the numbers of the edges rise strictly
 abbrev pub AreRising : List Bound → Type 0
 AreRising [] = Unit {0}
 AreRising (b ∷ bounds) = AllByRecursion (λ c. b.edge < c.edge) bounds × AreRising bounds
 
--- a part of a text of this length, of no edge after the last
+-- a part of a text of the given length, whose edge is not after the last
 pub record IsPart (len last : ℕ) (b : Bound) : Type 0 where
   pub edge : b.edge ≤ last
   pub rises : b.start ≤ b.end
@@ -63,31 +63,32 @@ pub record BoundsAreHeld (len last : ℕ) (bounds : List Bound) : Type 0 where
   pub parts : AllByRecursion (IsPart len last) bounds
   pub rising : AreRising bounds
 
--- Each name has its values, in a text of this length, and names that are listed are there; no list is of an edge after the last.
+-- Each name has its values, in a text of the given length, and the listed names exist; edges after the last do not have lists.
 pub record BlocksAreHeld (len last : ℕ) (names : List (List ℕ)) (bounds : List (List Bound)) (lists : List (List ℕ)) : Type 0 where
   pub as_many : length bounds ≡ length names
   pub values : AllByRecursion (BoundsAreHeld len last) bounds
   pub listed : (edge : ℕ) → AllByRecursion (λ number. number < length names) (list_at lists edge)
   pub lists_end : length lists ≤ last + 1
 
--- no block of an edge after this one binds one of them, and it is no edge after the last
+-- blocks of edges after the given edge bind neither `pool` nor `dyndep`, and the given edge is not after the
+-- last
 pub record BindNeitherAfter (assigning : ℕ) (blocks : BlocksModel) : Type 0 where
   pub within : assigning ≤ blocks.last
   pub none : (edge : ℕ) (name : List ℕ) → is_pool_or_dyndep name ≡ true → assigning < edge → bound_in blocks edge name ≡ None
 
--- the index of the first one that is this name
+-- the index of the first occurrence of the name
 abbrev pub IsFirstAt : (name : List ℕ) → (names : List (List ℕ)) → (number : ℕ) → Type 0
 IsFirstAt name [] number = ⊥
 IsFirstAt name (other ∷ names) zero = bytes_eq name other ≡ true
 IsFirstAt name (other ∷ names) (suc number) = (bytes_eq name other ≡ false) × IsFirstAt name names number
 
--- This is the number of a name: it is there already, or it is new, and has no values.
+-- The number of a name: the name exists already, or it is new and has no values.
 pub record IsNumberOf (name : List ℕ) (names : List (List ℕ)) (bounds : List (List Bound)) (new : List (List ℕ)) (after : List (List Bound))
     (number : ℕ) : Type 0 where
   pub at : IsFirstAt name new number
   pub grows : ((new ≡ names) × (after ≡ bounds)) ⊎ ((new ≡ names ++ name ∷ []) × (after ≡ bounds ++ [] ∷ []))
 
--- the part of a text that is this value of the edge
+-- the part of a text that is the given value of the edge
 pub record IsBoundTo (text : List ℕ) (of : ℕ) (value : List ℕ) (b : Bound) : Type 0 where
   pub edge : b.edge ≡ of
   pub rises : b.start ≤ b.end
@@ -98,19 +99,19 @@ pub record IsBoundTo (text : List ℕ) (of : ℕ) (value : List ℕ) (b : Bound)
 abbrev pub BeginsWith : List ℕ → List ℕ → Type 0
 BeginsWith front whole = (rest : List ℕ) × (whole ≡ front ++ rest)
 
--- in place of the last one, if it is of the same edge; else after it
+-- in place of the last bound, if that belongs to the same edge; otherwise after it
 abbrev pub with_bound : List Bound → Bound → List Bound
 with_bound [] b = b ∷ []
 with_bound (c ∷ []) b = if c.edge == b.edge then b ∷ [] else c ∷ b ∷ []
 with_bound (c ∷ d ∷ bounds) b = c ∷ with_bound (d ∷ bounds) b
 
--- whether the last one is of this edge
+-- whether the last bound belongs to the given edge
 abbrev pub ends_at : List Bound → (edge : ℕ) → Bool
 ends_at [] edge = false
 ends_at (b ∷ []) edge = b.edge == edge
 ends_at (b ∷ c ∷ bounds) edge = ends_at (c ∷ bounds) edge
 
--- the one of this edge
+-- the bound of the given edge
 abbrev pub bound_of : List Bound → (edge : ℕ) → Option Bound
 bound_of [] edge = None
 bound_of (b ∷ bounds) edge = if edge == b.edge then Some b else bound_of bounds edge

@@ -1,4 +1,5 @@
--- How the check for cycles sees the keys of a rule: as a graph in which a key needs those to which its value refers.
+-- How the check for cycles sees the keys of a rule: as a graph in which a key needs the keys to which its value
+-- refers.
 use Rattle.std.specs.Prelude.{◌≡◌, ℕ, ◌<◌, Bool, false, not, ◌&&◌, if◌then◌else◌, Option, Some, None, is_some, List, map, length, slice_index_or, Contains}
 use Rattle.std.specs.Borrow.{Bor}
 use Rattle.std.specs.List.{range_with_len}
@@ -15,7 +16,7 @@ key_held k = record { name = k.name.items; refers = k.refers.items }
 
 -- ---- how references are found
 
--- the keys of the rule that has these lines, in byte order
+-- the keys of the rule with the given lines, in byte order
 pub record AreSortedKeys (lines : List RuleLineModel) (names : List (Bor (List ℕ))) : Type 0 where
   pub rise : IsSortedBy (λ name other. is_lt (slice_cmp nat_cmp name.now other.now)) names
   pub all : (key : List ℕ) (value : List PartModel) → given lines key ≡ Some value → Contains (map (λ name. name.now) names) key
@@ -26,7 +27,7 @@ referring_key lines names name = record { name = name; refers = map (λ other. r
 
 -- ---- the graph of the keys
 
--- the keys that count are those that the block does not bind
+-- the keys that count are the keys that the block does not bind
 abbrev pub AreCounted : (block : List ℕ → Option (List ℕ)) → List ReferringKeyModel → (counts : List Bool) → Type 0
 AreCounted block keys counts =
     (number : ℕ) → number < length keys → slice_index_or counts number false ≡ not (is_some (block (name_at keys number)))
@@ -35,7 +36,7 @@ AreCounted block keys counts =
 abbrev pub refers_counted : List ReferringKeyModel → (counts : List Bool) → (key other : ℕ) → Bool
 refers_counted keys counts key other = slice_index_or counts key false && slice_index_or (row_at keys key) other false
 
--- for each key whether this one needs it
+-- for each key, whether the given key needs it
 abbrev pub makers_counted : List ReferringKeyModel → (counts : List Bool) → (key : ℕ) → List (Option ℕ)
 makers_counted keys counts key =
     map (λ other. if refers_counted keys counts key other then Some other else None) (range_with_len 0 (length keys))

@@ -26,13 +26,14 @@ ForEdge e P = (entries : List ReadStatement) (around : List ℕ) → DeclaredBy 
     → IsScope (parent_at e.declarations.now.scopes) e.scope.0 (e.scope.0 ∷ around)
     → P (late_names e (value_after entries (e.scope.0 ∷ around)))
 
--- the same by the block and the rule of an edge
+-- references from the name end within `depth` lines, for the block and the rule of an edge
 abbrev pub SettlesIn : LateEdge → (depth : ℕ) → (name : List ℕ) → Type 0
 SettlesIn e depth name = Settles (bound_in e.blocks.now e.edge) e.rule.now.lines depth name
 
 -- ---- the strings of keys
 
--- this part of the bytes is the text of the key, which is the same through each number of lines from its height on
+-- the given part of the bytes is the text of the key, which is the same through any number of lines from its
+-- height on
 pub record IsKeyText (quoting : Bool) (e : LateEdge) (number : ℕ) (t : KeyText) (bytes : List ℕ) : Type 0 where
   pub from : t.start ≤ t.end
   pub to : t.end ≤ length bytes
@@ -43,7 +44,7 @@ abbrev pub AreKeyStrings : (quoting : Bool) → LateEdge → (known : List (Opti
 AreKeyStrings quoting e known bytes =
     (number : ℕ) (t : KeyText) → slice_get known number ≡ Some (Some t) → IsKeyText quoting e number t bytes
 
--- the string of the key, if it is no higher than this
+-- the string of the key, if its height is at most `depth`
 abbrev pub no_higher : Option (Option KeyText) → (depth : ℕ) → Option KeyText
 no_higher (Some (Some t)) depth = if nat_le t.height depth then Some t else None
 no_higher (Some None) depth = None
@@ -52,7 +53,7 @@ no_higher None depth = None
 abbrev pub text_known : (known : List (Option KeyText)) → (number depth : ℕ) → Option KeyText
 text_known known number depth = no_higher (slice_get known number) depth
 
--- the height of a line with one more reference; `None` if one was cut off
+-- the height of a line with one more reference; `None` if a reference was cut off
 abbrev pub taller : (height below : Option ℕ) → Option ℕ
 taller (Some height) (Some below) = Some (max height (below + 1))
 taller (Some height) None = None
@@ -65,7 +66,8 @@ with_text known number start end (Some height) = slice_set known number (Some (r
 
 -- ---- steps
 
--- the value of the name is appended, where no line of the rule binds it; else nothing is, and this is the number of its key
+-- the value of the name is appended if no line of the rule binds it; otherwise nothing is appended, and the result is the
+-- number of its key
 abbrev pub AppendsPlain : (quoting : Bool) → LateEdge → (name old new : List ℕ) → (number : Option ℕ) → Type 0
 AppendsPlain quoting e name old new None =
     (rule_value (bound_in e.blocks.now e.edge) e.rule.now.lines name ≡ None) × IsPrefix old new
@@ -74,8 +76,8 @@ AppendsPlain quoting e name old new (Some number) =
     (new ≡ old) × IsNumber e.rule.now.lines name number
     × (is_some (rule_value (bound_in e.blocks.now e.edge) e.rule.now.lines name) ≡ true)
 
--- the value of the name is appended, through at most `depth` lines of the rule, its own among them; no more than its height are
--- nested below that
+-- the value of the name is appended, through at most `depth` lines of the rule, including its own; at most as many lines as its
+-- height are nested below its own
 pub record AppendsLate (quoting : Bool) (e : LateEdge) (depth : ℕ) (name old : List ℕ) (known : List (Option KeyText))
     (new : List ℕ) (height : Option ℕ) : Type 0 where
   pub grows : IsPrefix old new
@@ -83,7 +85,8 @@ pub record AppendsLate (quoting : Bool) (e : LateEdge) (depth : ℕ) (name old :
   pub strings : AreKeyStrings quoting e known new
   pub settles : IfSome height (λ d. (d < depth) × SettlesIn e (suc d) name)
 
--- these parts of a value are appended, through at most `depth` lines of the rule; no more than the height are nested
+-- the given parts of a value are appended, through at most `depth` lines of the rule; at most as many lines as the
+-- height are nested
 pub record AppendsParts (quoting : Bool) (e : LateEdge) (depth : ℕ) (parts : List PartModel) (old : List ℕ)
     (known : List (Option KeyText)) (new : List ℕ) (height : Option ℕ) : Type 0 where
   pub grows : IsPrefix old new

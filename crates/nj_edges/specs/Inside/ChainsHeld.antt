@@ -27,25 +27,25 @@ pub record IsStepAt (g : EdgeGraph) (kinds : ChainKinds) (edge : EdgeNo) (index 
   pub only : (file : FileNo) → file.0 < length g.files → path_at g.files step.file ≡ path_at g.files file → step.file ≡ file
   pub fits : index + 1 < 2 ^ 64
 
--- the first step from an edge to a file; none where it has no input there
+-- the first step from an edge to a file; `None` if the file is not one of its inputs
 abbrev pub StepToIs : EdgeGraph → (kinds : ChainKinds) → EdgeNo → (to : List ℕ) → Option Step → Type 0
 StepToIs g kinds edge to None = ¬ HasInput g kinds to edge.0
 StepToIs g kinds edge to (Some step) = (step.edge ≡ edge) × IsStep g kinds step × (path_at g.files step.file ≡ to)
     × ((i : ℕ) → slice_get (inputs_with kinds (edge_at g.edges edge.0)) i ≡ Some to → step.index ≤ i)
 
--- past the last input there is none
+-- the step by the input at an index; `None` past the last input
 abbrev pub StepIs : EdgeGraph → (kinds : ChainKinds) → EdgeNo → (index : ℕ) → Option Step → Type 0
 StepIs g kinds edge index None = length (inputs_with kinds (edge_at g.edges edge.0)) ≤ index
 StepIs g kinds edge index (Some step) = IsStepAt g kinds edge index step
 
 -- ---- from edge to edge
 
--- an edge makes one of the first inputs of another
+-- an edge makes an input of another before an index
 abbrev pub MakesInputBefore : EdgeGraph → (kinds : ChainKinds) → (index user edge : ℕ) → Type 0
 MakesInputBefore g kinds index user edge =
     Contains (map (maker_of g.edges) (take index (inputs_with kinds (edge_at g.edges user)))) (Some edge)
 
--- it makes one of them
+-- an edge makes an input of another
 abbrev pub MakesInput : EdgeGraph → (kinds : ChainKinds) → (user edge : ℕ) → Type 0
 MakesInput g kinds user edge =
     Contains (map (maker_of g.edges) (inputs_with kinds (edge_at g.edges user))) (Some edge)
@@ -57,12 +57,12 @@ IsReachedFrom g kinds first steps edge = IsReachedIn (λ e. e ≡ first) (MakesI
 abbrev pub LeadFrom : EdgeGraph → (kinds : ChainKinds) → (first : ℕ) → List Step → (to : List ℕ) → Type 0
 LeadFrom g kinds first steps to = (from : List ℕ) → maker_of g.edges from ≡ Some first → IsChain g kinds from steps to
 
--- no edge that is reached in fewer steps has the file as an input
+-- edges that are reached in fewer steps do not have the file as an input
 pub record IsShortestFrom (g : EdgeGraph) (kinds : ChainKinds) (first : ℕ) (to : List ℕ) (steps : List Step) : Type 0 where
   pub leads : LeadFrom g kinds first steps to
   pub shortest : (n e : ℕ) → IsReachedFrom g kinds first n e → HasInput g kinds to e → length steps ≤ suc n
 
--- no chain from a file that the first edge makes is before the steps if it has as many
+-- the steps come first among the chains of the same length from files that the first edge makes
 abbrev pub IsLeftmostFrom : EdgeGraph → (kinds : ChainKinds) → (first : ℕ) → (to : List ℕ) → List Step → Type 0
 IsLeftmostFrom g kinds first to steps =
     (from : List ℕ) (others : List Step) → maker_of g.edges from ≡ Some first → IsChain g kinds from others to
@@ -75,14 +75,14 @@ ChainIs g kinds first to (Some steps) = IsShortestFrom g kinds first to steps ×
 
 -- ---- how the search came to edges
 
--- the arrival at the edge at a place is a step from an edge at an earlier one
+-- the arrival at the edge at a place is a step from an edge at an earlier place
 pub record IsArrival (g : EdgeGraph) (kinds : ChainKinds) (numbers : List ℕ) (place : ℕ) (arrival : Arrival) : Type 0 where
   pub earlier : arrival.place < place
   pub from : arrival.step.edge.0 ≡ slice_index numbers arrival.place
   pub is_step : IsStep g kinds arrival.step
   pub made : maker_of g.edges (path_at g.files arrival.step.file) ≡ Some (slice_index numbers place)
 
--- its distance is one more; nothing came to the first edge
+-- its distance is one more than that of the edge before it; the first edge has no arrival
 abbrev pub Arrives : EdgeGraph → (kinds : ChainKinds) → (first : ℕ) → (distance : ℕ → ℕ) → (numbers : List ℕ)
     → (place : ℕ) → Option Arrival → Type 0
 Arrives g kinds first distance numbers place None =
@@ -91,7 +91,7 @@ Arrives g kinds first distance numbers place (Some arrival) =
     IsArrival g kinds numbers place arrival
     × (distance (slice_index numbers place) ≡ suc (distance (slice_index numbers arrival.place)))
 
--- each one comes from an earlier place
+-- each arrival comes from an earlier place
 abbrev pub ComeFromEarlier : List (Option Arrival) → Type 0
 ComeFromEarlier arrivals = (place : ℕ) (arrival : Arrival) → slice_index_or arrivals place None ≡ Some arrival → arrival.place < place
 
@@ -105,7 +105,7 @@ pub data Traces (arrivals : List (Option Arrival)) : (place : ℕ) → (steps wh
 abbrev pub with_arrival : List (Option Arrival) → (known : Bool) → Option Arrival → List (Option Arrival)
 with_arrival arrivals known arrival = if known then arrivals else arrivals ++ arrival ∷ []
 
--- some makers of inputs of the edge at a place were found, and how the search came to these is known
+-- some makers of inputs of the edge at a place were found, and how the search arrived at them is known
 pub record AddsMakers (g : EdgeGraph) (kinds : ChainKinds) (P : ℕ → Type 0) (place : ℕ) (old new : NumberSetModel)
     (before after : List (Option Arrival)) : Type 0 where
   pub finds : FindsMore P old new
@@ -137,7 +137,8 @@ abbrev pub arrival_index : Option Arrival → ℕ
 arrival_index None = 0
 arrival_index (Some arrival) = arrival.step.index
 
--- the edges that were added came in the order of the inputs before an index, each by the first one that it makes
+-- the edges that were added came in the order of the inputs before an index, each by the first input that it
+-- makes
 pub record AddsInOrder (g : EdgeGraph) (kinds : ChainKinds) (user index : ℕ) (old new : NumberSetModel)
     (after : List (Option Arrival)) : Type 0 where
   pub before : (i : ℕ) → length old.numbers ≤ i → i < length new.numbers → arrival_index (slice_index_or after i None) < index
@@ -146,7 +147,7 @@ pub record AddsInOrder (g : EdgeGraph) (kinds : ChainKinds) (user index : ℕ) (
   pub earliest : (i k : ℕ) → length old.numbers ≤ i → i < length new.numbers → k < index
       → MakesInputAt g kinds user k (slice_index new.numbers i) → arrival_index (slice_index_or after i None) ≤ k
 
--- an arrival was before a step by the input at an index of the edge at a place; nothing came to the first edge
+-- an arrival came before a step by the input at an index of the edge at a place; the first edge has no arrival
 abbrev pub ComesSooner : Option Arrival → (place index : ℕ) → Type 0
 ComesSooner None place index = ⊤
 ComesSooner (Some arrival) place index = (arrival.place < place) ⊎ ((arrival.place ≡ place) × (arrival.step.index < index))

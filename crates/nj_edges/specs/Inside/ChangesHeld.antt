@@ -8,13 +8,13 @@ use Rattle.nj_edges.specs.Changes.{IsAffected, has_input_of}
 abbrev pub IsFlagged : List Bool → (edge : ℕ) → Type 0
 IsFlagged flags edge = slice_index_or flags edge false ≡ true
 
--- the numbers are those of the edges with a flag, without duplicates
+-- the numbers are the numbers of the edges with a flag, without duplicates
 pub record AreListed (flags : List Bool) (numbers : List ℕ) : Type 0 where
   pub listed : (e : ℕ) → IsFlagged flags e → Contains numbers e
   pub flagged : (i : ℕ) → i < length numbers → IsFlagged flags (slice_index numbers i)
   pub once : sum_by unflagged flags + length numbers ≡ length flags
 
--- besides those that were found before, exactly the edges with P were found
+-- besides the edges found before, exactly the edges with P were found
 pub record FindsMore (P : ℕ → Type 0) (old new : NumberSetModel) : Type 0 where
   pub limit : new.limit ≡ old.limit
   pub kept : (e : ℕ) → Contains old.numbers e → Contains new.numbers e
@@ -25,12 +25,12 @@ pub record FindsMore (P : ℕ → Type 0) (old new : NumberSetModel) : Type 0 wh
       → (Contains old.numbers (slice_index new.numbers i) → ⊥) × P (slice_index new.numbers i)
   pub stays : (i : ℕ) → i < length old.numbers → slice_index new.numbers i ≡ slice_index old.numbers i
 
--- these edges have one of the files as an input
+-- the edge has one of the files as an input
 abbrev pub HasInputOf : List EdgePaths → (files : List (List ℕ)) → (edge : ℕ) → Type 0
 HasInputOf edges files e = has_input_of files (edge_at edges e) ≡ true
 
--- between two turns: the edges found are affected; and found are the users of the files, and the users of the outputs of each edge before
--- a place in the list
+-- between two turns: the edges found are affected; and they include the users of the files, and the users of the outputs of each edge
+-- before a place in the list
 pub record FindsAffected (edges : List EdgePaths) (files : List (List ℕ)) (found : NumberSetModel) (place : ℕ) : Type 0 where
   pub limit : found.limit ≡ length edges
   pub within : place ≤ length found.numbers

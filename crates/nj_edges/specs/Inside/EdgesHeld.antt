@@ -21,8 +21,8 @@ paths_at files numbers = map (path_at files) numbers
 abbrev pub within : {A : Type 0} → List A → Span → List A
 within items span = slice_range items span.start span.end
 
--- the lists of the edges: the maker of each file, the files of all edges one after the other, and the row of each edge. The files from
--- the starts on are those of the edge that is being read.
+-- the lists of the edges: the maker of each file, the concatenated files of all edges, and the row of each edge. The files from the
+-- starts on belong to the edge that is being read.
 pub record Lists : Type 0 where
   pub makers : List (Option ℕ)
   pub outputs : List FileNo
@@ -41,7 +41,7 @@ lists_of l = record {
   starts = l.starts;
 }
 
--- no edges, and these makers of files
+-- no edges, and the given makers of files
 abbrev pub no_lists : (makers : List (Option ℕ)) → Lists
 no_lists makers = record {
   makers = makers;
@@ -76,7 +76,7 @@ row_between starts ends kinds is_phony = record {
 abbrev pub ends_of : Lists → OpenStarts
 ends_of l = record { outputs = length l.outputs; inputs = length l.inputs; validations = length l.validations }
 
--- the edge that is being read has ended, with these ends of its kinds
+-- the edge that is being read has ended, with the given ends of its kinds
 abbrev pub with_row : Lists → KindEnds → Bool → Lists
 with_row l kinds is_phony = record l { rows = l.rows ++ row_between l.starts (ends_of l) kinds is_phony ∷ []; starts = ends_of l }
 
@@ -92,7 +92,7 @@ table_of files l = record {
   };
 }
 
--- whether the file with the given number is among these
+-- whether the file with the given number is among the given files
 abbrev pub has_number : ℕ → List FileNo → Bool
 has_number n numbers = list_any (λ f. n == f.0) numbers
 
@@ -104,7 +104,7 @@ pub record IsWithin (span : Span) (end : ℕ) : Type 0 where
   pub rises : span.start ≤ span.end
   pub ends : span.end ≤ end
 
--- these parts one after the other are the list up to an index
+-- the parts joined in order are the list up to an index
 abbrev pub AreJoined : List Span → (end : ℕ) → List FileNo → Type 0
 AreJoined spans end files = flat_map (within files) spans ≡ take end files
 
@@ -127,11 +127,11 @@ output_rows l = read_outputs l ++ drop l.starts.outputs l.outputs ∷ []
 abbrev pub HaveMakers : (output_rows : List (List FileNo)) → (makers : List (Option ℕ)) → Type 0
 HaveMakers rows makers = (n : ℕ) → n < length makers → slice_get makers n ≡ Some (first_edge (has_number n) rows)
 
--- the makers of the files with one that is named: a new file has none
+-- the makers of the files after a path is named: a new file has no maker
 abbrev pub with_maker : (files : List (List ℕ)) → (path : List ℕ) → (makers : List (Option ℕ)) → List (Option ℕ)
 with_maker files path makers = if list_any (bytes_eq path) files then makers else makers ++ None ∷ []
 
--- a path has a number from now on: its file is this one
+-- a path has a number from now on: the number of the given file
 pub record IsNamed (files : List (List ℕ)) (makers : List (Option ℕ)) (path : List ℕ) (new_files : List (List ℕ))
     (new_makers : List (Option ℕ)) (file : FileNo) : Type 0 where
   pub files_are : new_files ≡ with_name files path
@@ -152,7 +152,8 @@ abbrev pub makers_in_rows : Lists → (edge : ℕ) → List (Option ℕ)
 makers_in_rows l edge =
     slice_index_or (map (λ (row : EdgeRow). map (λ f. slice_index_or l.makers f.0 None) (within l.inputs row.inputs)) l.rows) edge []
 
--- the outputs, the inputs or the validations of all edges: those of the edges that were read lie there one after the other
+-- the outputs, the inputs or the validations of all edges: the files of the edges that were read are stored one after
+-- another
 pub record PartsAreHeld (count : ℕ) (spans : List Span) (start : ℕ) (numbers : List FileNo) : Type 0 where
   pub are : AreNumbers count numbers
   pub joined : AreJoined spans start numbers
@@ -167,7 +168,7 @@ pub record EdgesAreHeld (files : List (List ℕ)) (l : Lists) : Type 0 where
   pub inputs : PartsAreHeld (length files) (map (λ row. row.inputs) l.rows) l.starts.inputs l.inputs
   pub validations : PartsAreHeld (length files) (map (λ row. row.validations) l.rows) l.starts.validations l.validations
 
--- an edge has the files with the given numbers, of which these kinds
+-- an edge has the files with the given numbers, divided into the given kinds
 pub record HasFiles (files : List (List ℕ)) (e : EdgePaths) (outputs inputs validations : List FileNo) (kinds : KindEnds)
     (is_phony : Bool) : Type 0 where
   pub is : e ≡ edge_read (record {
@@ -185,7 +186,7 @@ abbrev pub OpenAreNew : Lists → Type 0
 OpenAreNew l =
     (n : ℕ) → has_number n (drop l.starts.outputs l.outputs) ≡ true → first_edge (has_number n) (read_outputs l) ≡ None
 
--- an edge names each file
+-- each file is named by some edge
 abbrev pub AreNamed : (count : ℕ) → Lists → Type 0
 AreNamed count l =
     (n : ℕ) → n < count → (has_number n l.outputs || has_number n l.inputs || has_number n l.validations) ≡ true

@@ -10,7 +10,7 @@ use Rattle.nj_edges.specs.Joining.{AddedFiles, JoinTable, with_added}
 
 -- ---- the additions: parts of the files of the edge that is being read
 
--- where the additions to an edge are; nowhere if it was not joined
+-- where the additions to an edge are; an empty span if the edge was not joined
 abbrev pub spans_of : Option AddedSpans → AddedSpans
 spans_of None = record { outputs = record { start = 0; end = 0 }; inputs = record { start = 0; end = 0 } }
 spans_of (Some spans) = spans
@@ -44,7 +44,7 @@ join_held t added open_outputs open_inputs = record {
   «open» = record { outputs = drop open_outputs t.«open».outputs; inputs = drop open_inputs t.«open».inputs };
 }
 
--- these parts of a list have what it has up to an index
+-- the parts of a list together have the same paths as the list up to an index
 pub record ArePartsOf (paths : List (List ℕ)) (end : ℕ) (spans : List Span) : Type 0 where
   pub ends : end ≤ length paths
   pub spans_within : AllByRecursion (λ span. IsWithin span end) spans
@@ -66,7 +66,7 @@ joined_up_to t added count = record { files = t.files; edges = take count (joine
 abbrev pub all_joined : EdgeTable → List (Option AddedSpans) → EdgeTable
 all_joined t added = record { files = t.files; edges = joined_by t.«open» t.edges added; «open» = no_files }
 
--- the table with one more edge, after which another is read
+-- the table with one more edge, after which another edge is read
 abbrev pub with_edge : EdgeTable → EdgePaths → EdgeTable
 with_edge t e = record { files = t.files; edges = t.edges ++ e ∷ []; «open» = no_files }
 

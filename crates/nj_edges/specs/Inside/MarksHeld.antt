@@ -1,4 +1,4 @@
--- How inputs that are added to edges are told from those that are there. Nothing here has to be believed.
+-- How inputs that are added to edges are distinguished from existing inputs. Nothing here has to be believed.
 use Rattle.std.specs.Prelude.{◌≡◌, ℕ, ◌<◌, ◌≤◌, Bool, true, false, if◌then◌else◌, Option, Some, None, List, length, slice_index_or, bytes_eq}
 use Rattle.std.specs.List.{IsDistinct}
 use Rattle.nj_names.specs.declared.files.FileNo.{FileNo}
@@ -12,8 +12,8 @@ use Rattle.nj_edges.specs.MoreInputs.{InputTable, inputs_so_far}
 abbrev pub is_marked : (marks : List (Option ℕ)) → (file edge : ℕ) → Bool
 is_marked marks file edge = is_edge (slice_index_or marks file None) edge
 
--- Files are marked with the edges that have them as explicit or implicit inputs. With the edge to which inputs are added those are marked which it has so far,
--- and none is marked with a later one. To it and to later ones nothing was added.
+-- Files are marked with the edges that have them as explicit or implicit inputs. The edge to which inputs are added marks the inputs that it has so far, and
+-- no file is marked with a later edge. No inputs were added to that edge or to later edges.
 pub record AreMarked (t : InputTable) (marks : List (Option ℕ)) : Type 0 where
   pub distinct : IsDistinct bytes_eq t.table.files
   pub count : length marks ≡ length t.table.files
@@ -22,7 +22,7 @@ pub record AreMarked (t : InputTable) (marks : List (Option ℕ)) : Type 0 where
   pub later : (n edge : ℕ) → t.edge < edge → is_marked marks n edge ≡ false
   pub not_joined : (edge : ℕ) → t.edge ≤ edge → is_joined t.table edge ≡ false
 
--- these files are marked with the edge, and the others as before
+-- the files are marked with the edge, and the other files as before
 abbrev pub MarksFiles : List FileNo → (edge : ℕ) → (old new : List (Option ℕ)) → Type 0
 MarksFiles files edge old new =
     (length new ≡ length old)

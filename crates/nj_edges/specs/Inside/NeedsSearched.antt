@@ -12,16 +12,16 @@ use Rattle.nj_edges.specs.Edges.{EdgePaths}
 use Rattle.nj_edges.specs.Needs.{makers_of_inputs}
 use Rattle.nj_edges.specs.declared.search_state.SearchState.{SearchState}
 
--- these are the edges that make the inputs of an edge
+-- the starts are the edges that make the inputs of an edge
 abbrev pub AreStarts : List EdgePaths → (edge : ℕ) → (starts : List ℕ) → Type 0
 AreStarts edges edge starts = (e : ℕ) → Contains starts e ↔ Needs (makers_of_inputs edges) edge e
 
--- an edge is one of these, or one of them needs it
+-- an edge is one of the starts, or one of the starts needs it
 abbrev pub IsReached : List EdgePaths → (starts : List ℕ) → (edge : ℕ) → Type 0
 IsReached edges starts edge = (s : ℕ) × Contains starts s × IsOrNeeds edges s edge
 
--- between two turns: found are the edges with which the search starts, and some that these need; among them are those that the ones
--- before a place need directly
+-- between two turns: the edges found are the starts of the search and some edges that the starts need, including every edge that an
+-- edge before a place needs directly
 pub record IsSearched (edges : List EdgePaths) (starts : List ℕ) (found : NumberSetModel) (place : ℕ) : Type 0 where
   pub limit : found.limit ≡ length edges
   pub within : place ≤ length found.numbers
@@ -39,7 +39,7 @@ pub record IsSearchAt (edges : List EdgePaths) (edge : ℕ) (s : SearchState) : 
   pub starts_are : AreStarts edges edge s.starts.items
   pub search : IsSearch edges s
 
--- the search starts with these edges
+-- the search starts with the given edges
 pub record StartsWith (edges : List EdgePaths) (starts : List ℕ) (s : SearchState) : Type 0 where
   pub starts_are : s.starts.items ≡ starts
   pub searched : IsSearched edges starts s.found s.place
@@ -54,7 +54,7 @@ pub record Finds (edges : List EdgePaths) (edge : ℕ) (old new : SearchState) (
   pub tells : Tells answer (IsReached edges old.starts.items edge)
   pub search : IsSearch edges new
 
--- these are the edges that make files
+-- the numbers are the edges that make the files
 pub record AreMakers (g : EdgeGraph) (files : List FileNo) (makers : List ℕ) : Type 0 where
   pub are : (e : ℕ) → Contains makers e ↔ MakesOneOf g.edges (map (path_at g.files) files) e
   pub known : All (λ e. e < length g.edges) makers

@@ -6,8 +6,8 @@ use Rattle.nj_edges.specs.Distances.{IsReachedIn, MakesOneOf}
 use Rattle.nj_edges.specs.Edges.{EdgePaths}
 use Rattle.nj_edges.specs.Needs.{makers_of_inputs}
 
--- between two turns: the edges found are reached, in as many steps as `distance` says; these never fall; and the steps from each
--- edge before a place in the list lead to edges that were found, in at most one more step
+-- between two turns: the edges found are reached, in as many steps as `distance` says; distances never fall along the list; and
+-- the steps from each edge before a place in the list lead to edges that were found, in at most one more step
 pub record IsSearched (begins : ℕ → Type 0) (step : ℕ → ℕ → Type 0) (distance : ℕ → ℕ) (numbers : List ℕ) (place : ℕ) : Type 0 where
   pub within : place ≤ length numbers
   pub sound : (e : ℕ) → Contains numbers e → IsReachedIn begins step (distance e) e

@@ -17,7 +17,7 @@ span_of CountedInputs row = record { start = row.inputs.start; end = row.inputs.
 span_of Outputs row = row.outputs
 span_of Validations row = row.validations
 
--- the edges that have the file in this part of theirs, where the rows are those from this edge on
+-- the edges that have the file in the given part, where the rows begin with the given edge
 abbrev pub using_edges : (files : List FileNo) → RowPart → (edge : ℕ) → List EdgeRow → (file : ℕ) → List ℕ
 using_edges files part edge rows file = edges_from edge (λ row. has_number file (within files (span_of part row))) rows
 
@@ -32,7 +32,7 @@ pub record IsPart (numbers : List ℕ) (start end : ℕ) (users : List ℕ) : Ty
   pub ends : end ≤ length numbers
   pub users_are : slice_range numbers start end ≡ users
 
--- the users of each file are between its start and the start of the next one
+-- the users of each file are between its start and the start of the next file
 abbrev pub AreParts : (starts numbers : List ℕ) → (users : ℕ → List ℕ) → Type 0
 AreParts starts numbers users =
     (n : ℕ) → n + 1 < length starts → IsPart numbers (slice_index_or starts n 0) (slice_index_or starts (n + 1) 0) (users n)
@@ -41,18 +41,18 @@ pub record HaveUsers (count : ℕ) (starts numbers : List ℕ) (users : ℕ → 
   pub count_is : length starts ≡ count + 1
   pub parts_are : AreParts starts numbers users
 
--- no list is held where no file has users
+-- no list is held if no file has users
 abbrev pub HaveUsersIfAny : (count : ℕ) → Option Users → (users : ℕ → List ℕ) → Type 0
 HaveUsersIfAny count None users = (n : ℕ) → users n ≡ []
 HaveUsersIfAny count (Some held) users = HaveUsers count held.starts.items (numbers_of held.edges.items) users
 
--- ---- the uses that were seen, while edges are taken from the last one on
+-- ---- the uses seen so far, while edges are visited from last to first
 
 abbrev pub starts_with : (edge : ℕ) → List ℕ → Bool
 starts_with edge [] = false
 starts_with edge (e ∷ es) = e == edge
 
--- the edges with one in front, unless it is the first already
+-- the edges with a given edge in front, unless it is the first already
 abbrev pub with_front : (edge : ℕ) → List ℕ → List ℕ
 with_front edge edges = if starts_with edge edges then edges else edge ∷ edges
 
@@ -64,7 +64,7 @@ plus_uses files edge uses n = if has_number n files then with_front edge (uses n
 
 -- ---- counted
 
--- the mark of a file that these edges use: one more than the first of them
+-- the mark of a file that the edges use: one more than the first edge
 abbrev pub mark_of : List ℕ → ℕ
 mark_of [] = 0
 mark_of (e ∷ es) = e + 1
@@ -79,7 +79,7 @@ pub record AreCounted (counts marks : List ℕ) (uses : ℕ → List ℕ) : Type
   pub counts_are : AreCounts counts uses
   pub marks_are : AreMarks marks uses
 
--- how many users the files before one have
+-- how many users the files before the given file have
 abbrev pub users_before : (uses : ℕ → List ℕ) → (file : ℕ) → ℕ
 users_before uses zero = 0
 users_before uses (suc n) = users_before uses n + length (uses n)
@@ -101,6 +101,6 @@ pub record ArePlaced (all uses : ℕ → List ℕ) (places marks : List ℕ) (ed
       → number_at edges (slice_index_or places n 0 + i) ≡ slice_index_or (uses n) i 0
   pub marks_are : AreMarks marks uses
 
--- no file has more of these uses than of all
+-- no file has more of the uses seen so far than of all uses
 abbrev pub HaveCapacity : (all uses : ℕ → List ℕ) → Type 0
 HaveCapacity all uses = (n : ℕ) → length (uses n) ≤ length (all n)

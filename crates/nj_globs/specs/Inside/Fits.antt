@@ -49,7 +49,7 @@ pub record IsFit (parts : List GlobPart) (path : List ℕ) (fit : Fit) : Type 0 
 abbrev pub after_slash_with : (byte : ℕ) → (old : Fit) → Bool
 after_slash_with byte old = old.after_slash || (is_slash byte && old.whole)
 
--- The same of the whole path. `old` is the fit before, `old_next` and `next` are the fits of the parts after this one.
+-- The same of the whole path. `old` is the fit before, `old_next` and `next` are the fits of the parts after this part.
 abbrev pub whole_with : GlobPart → (byte : ℕ) → (old old_next next : Fit) → Bool
 whole_with (one_byte other) byte old old_next next = takes (one_byte other) byte && old_next.whole
 whole_with any_byte byte old old_next next = takes any_byte byte && old_next.whole
@@ -66,7 +66,7 @@ fit_with part byte old old_next next =
 abbrev pub no_fit : Fit
 no_fit = record { whole = false; after_slash = false }
 
--- the fits of the parts from each place on, but only those from this one on
+-- the fits of the parts from each place on, but only from the given place on
 abbrev pub AreFitsFrom : (from : ℕ) → List GlobPart → (path : List ℕ) → List Fit → Type 0
 AreFitsFrom from parts path fits = (place : ℕ) → from ≤ place → place ≤ length parts
     → IsFit (drop place parts) path (slice_index_or fits place no_fit)

@@ -14,17 +14,17 @@ use Rattle.nj_globs.specs.Patterns.{is_sign, has_mark, ranges_of, is_reversed, b
 abbrev pub without_mark : List Letter → List Letter
 without_mark letters = if has_mark letters then drop 1 letters else letters
 
--- the letters of a set whose `]` is at this index after the first, and those after it
+-- the letters of a set whose `]` is at the given index after the first letter, and the letters after it
 abbrev pub split_at_end : (first : Letter) → (others : List Letter) → Option ℕ → Option (List Letter × List Letter)
 split_at_end first others None = None
 split_at_end first others (Some count) = Some (first ∷ take count others, drop (count + 1) others)
 
--- the letters of a set and those after it; `None` without a `]`
+-- the letters of a set and the letters after it, or `None` without a `]`
 abbrev pub split_set : List Letter → Option (List Letter × List Letter)
 split_set [] = None
 split_set (first ∷ others) = split_at_end first others (position (is_sign 93) others)
 
--- the last letter of the range that begins with one, and the letters after it
+-- the last letter of the range that begins with the given letter, and the letters after it
 abbrev pub range_end : (first : Letter) → List Letter → Letter × List Letter
 range_end first [] = (first, [])
 range_end first (second ∷ []) = (first, second ∷ [])
@@ -55,17 +55,17 @@ abbrev pub set_unless : (reversed : Option (Letter × Letter)) → GlobPart → 
 set_unless (Some range) part after = Err (ReversedRange range.0.at)
 set_unless None part after = Ok (part, after)
 
--- a set whose letters were split from those after it, if its `]` was found
+-- a set whose letters were split from the letters after it, if its `]` was found
 abbrev pub set_of : (at : ℕ) → (is_negated : Bool) → Option (List Letter × List Letter) → Read
 set_of at is_negated None = Err (UnclosedSet at)
 set_of at is_negated (Some split) = set_unless (find is_reversed (ranges_of split.0))
     (byte_set is_negated (map byte_range (ranges_of split.0))) split.1
 
--- a set whose `[` is at this offset, before these letters
+-- a set whose `[` is at the given offset, before the given letters
 abbrev pub read_set : (at : ℕ) → List Letter → Read
 read_set at letters = set_of at (has_mark letters) (split_set (without_mark letters))
 
--- `*`, `**` or, where a directory begins, `**/`: a `*` before these letters
+-- `*`, `**` or, where a directory begins, `**/`: a `*` before the given letters
 abbrev pub read_stars : (begins : Bool) → List Letter → GlobPart × List Letter
 read_stars begins [] = (star, [])
 read_stars begins (second ∷ []) = if is_sign 42 second then (double_star, []) else (star, second ∷ [])
@@ -94,7 +94,7 @@ Gives read fault = (fault ≡ OutOfMemory) ⊎ (read ≡ Err fault)
 abbrev pub AreAllParts : List Letter → List GlobPart → Type 0
 AreAllParts letters parts = (begins : Bool) × AreParts true parts letters [] begins
 
--- after some parts letters begin with none, or memory ran out
+-- after some parts the letters do not begin with a part, or memory ran out
 abbrev pub FailsBy : List Letter → GlobFault → Type 0
 FailsBy letters fault = (fault ≡ OutOfMemory)
     ⊎ ((parts : List GlobPart) × (rest : List Letter) × (begins : Bool) × AreParts true parts letters rest begins

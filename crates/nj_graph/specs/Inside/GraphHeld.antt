@@ -11,7 +11,7 @@ use Rattle.nj_graph.specs.Graph.{main_rules_of}
 abbrev pub HasMainRules : List RuleModel → (numbers : List ℕ) → Type 0
 HasMainRules rules numbers = map (slice_get rules) numbers ≡ map (λ r. Some r) (main_rules_of rules)
 
--- the scope and the rule of an edge are there
+-- the scope and the rule of an edge exist
 abbrev pub IsKnown : DeclarationsModel → EdgeDetail → Type 0
 IsKnown declarations d = (d.scope < length declarations.scopes) × (d.rule < length declarations.rules)
 

@@ -14,7 +14,7 @@ use Rattle.nj_edges.specs.declared.graph.Finished.{Finished}
 abbrev pub AreNamed : (named : (edge : ℕ) → List (List ℕ)) → (inputs : List (List (List ℕ))) → Type 0
 AreNamed named inputs = (n : ℕ) → n < length inputs → slice_get inputs n ≡ Some (named n)
 
--- the edges with these inputs, from the next edge on
+-- the edges with the given inputs, from the next edge on
 abbrev pub joined_edges : (inputs : List (List (List ℕ))) → InputTable → InputTable
 joined_edges [] t = t
 joined_edges (paths ∷ inputs) t = joined_edges inputs (at_next_edge (fold with_new_input t paths))
@@ -25,7 +25,7 @@ edges_with (paths ∷ inputs) [] = []
 edges_with (paths ∷ inputs) (e ∷ edges) =
     with_added (record { outputs = []; inputs = new_inputs e paths }) e ∷ edges_with inputs edges
 
--- the result of a graph's edges with these inputs; files keep their numbers
+-- the result of a graph's edges with the given inputs; files keep their numbers
 pub record FinishesWith (inputs : List (List (List ℕ))) (graph : EdgeGraph) (finished : Finished) : Type 0 where
   pub files : List (List ℕ)
   pub longer : IsPrefix graph.files files
@@ -39,7 +39,7 @@ paths_found d found = map (name_at d.names) found.inputs
 abbrev pub inputs_found : DiscoveriesModel → List (List (List ℕ))
 inputs_found d = map (paths_found d) d.edges
 
--- the numbers of the files at these paths, where they are known
+-- the numbers of the files at the given paths, where they are known
 pub record AreFilesOf (paths files : List (List ℕ)) (numbers : List (Option ℕ)) : Type 0 where
   pub count : length numbers ≡ length paths
   pub each : (n file : ℕ) → slice_index_or numbers n None ≡ Some file → slice_get files file ≡ Some (name_at paths n)

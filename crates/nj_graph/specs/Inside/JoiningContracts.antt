@@ -40,7 +40,7 @@ NamesFile place path (Err fault) =
 
 -- ---- the next entry
 
--- the result of a parser if this is read from the rest; its faults are reported in the file
+-- the result of a parser if the given item is read from the rest; its faults are reported in the file
 abbrev pub NextEntryOf : (file : List ℕ) → Parse (Option EntryModel) → (after : DyndepLeft) → Result (Option text.Entry) GraphFault
     → Type 0
 NextEntryOf file expected after (Ok (Some entry)) =
@@ -113,11 +113,11 @@ JoinsFile stated joined p before after old table held (Err fault) = FileStops st
 
 -- ---- some files
 
--- the files at these indices
+-- the files at the given indices
 abbrev pub chosen_files : (files : List Pending) → (indices : List ℕ) → List Pending
 chosen_files files indices = filter_map (slice_get files) indices
 
--- whether a file is there, where it cannot be told it is not
+-- whether a file exists; if that is unknown, it does not
 abbrev pub is_present : TimeFound → Bool
 is_present (Time time) = is_some time
 is_present NoAnswer = false
@@ -149,7 +149,7 @@ JoinsFiles chosen stated before after old table held (Err fault) = FilesStop cho
 
 -- ---- the edges of a run
 
--- The files that are chosen are joined; or there are none to choose from; or memory ran out before they were chosen.
+-- The chosen files are joined; or there are no files to choose from; or memory ran out before they were chosen.
 pub data JoinsChosen (Chooses : (files chosen : List Pending) → Type 0) (stated : List ReadStatement) (old : List Reading)
     (before after : SourceState) (result : Result LoadedModel GraphFault) : Type 0 where
   joined : {chosen : List Pending} → Chooses (dyndep_files (pending_read stated)) chosen
@@ -159,7 +159,7 @@ pub data JoinsChosen (Chooses : (files chosen : List Pending) → Type 0) (state
   unchosen : ((chosen : List Pending) → LoadsAfter old before after (some_joined_after old stated chosen) result)
       → JoinsChosen Chooses stated old before after result
 
--- the edges with the additions of these files, or why there are none
+-- the edges with the additions of the given files, or the fault
 abbrev pub JoinsBuilt : (Chooses : (files chosen : List Pending) → Type 0) → (stated : List ReadStatement) → (before after : SourceState)
     → (old table : List Reading) → Result BuiltModel GraphFault → Type 0
 JoinsBuilt Chooses stated before after old table (Ok built) =

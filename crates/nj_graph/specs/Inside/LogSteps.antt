@@ -5,7 +5,7 @@ use Rattle.nj_deps.specs.Logs.{LogModel}
 use Rattle.nj_deps.specs.declared.path_no.PathNo.{PathNo}
 use Rattle.nj_graph.specs.DepsLogs.{inputs_logged, number_logged}
 
--- numbers of paths, where there are any, as plain numbers
+-- optional numbers of paths, as plain numbers
 abbrev pub numbers_if_any : List (Option PathNo) → List (Option ℕ)
 numbers_if_any numbers = map (option_map (λ n. n.0)) numbers
 

@@ -11,7 +11,7 @@ use Rattle.nj_graph.specs.Origins.{PoolDetail, OpeningModel, OriginsModel, rule_
 use Rattle.std.specs.List.{push}
 use Rattle.std.specs.Option.{option_map_or}
 
--- by these names of files
+-- by the given names of files
 
 abbrev pub place_held : (names : List (List ℕ)) → HeldPlace → Place
 place_held names p = record { file = name_at names p.file; spot = p.spot }
@@ -32,7 +32,7 @@ origins_held names rules pools openings = record {
 abbrev pub IsNamed : (names : List (List ℕ)) → HeldPlace → Type 0
 IsNamed names p = p.file < length names
 
--- all names are there
+-- all names exist
 pub record AreNamed (names : List (List ℕ)) (rules : List HeldPlace) (pools : List HeldPool) (openings : List HeldOpening)
     : Type 0 where
   pub rules_named : AllByRecursion (IsNamed names) rules

@@ -9,11 +9,11 @@ use Rattle.nj_graph.specs.Reading.{ReadingModel, main_read, path_at_end}
 use Rattle.nj_graph.specs.Runs.{ReachedModel}
 use Rattle.nj_graph.specs.Joining.{files_joined}
 
--- the paths with one more at the end, unless it is there already
+-- the paths with one more path at the end, unless it is among them already
 abbrev pub with_new : (before : List (List ℕ)) → (path : List ℕ) → List (List ℕ)
 with_new before path = if list_any (bytes_eq path) before then before else before ++ path ∷ []
 
--- the same of each of these, from left to right
+-- the same for each of the given paths, from left to right
 abbrev pub with_news : (before paths : List (List ℕ)) → List (List ℕ)
 with_news before [] = before
 with_news before (path ∷ paths) = with_news (with_new before path) paths

@@ -52,7 +52,7 @@ pub record IsNew (main : List ℕ) (held : Reader) : Type 0 where
   pub files : held.files ≡ []
   pub origins : held.origins ≡ origins_read main []
 
--- It has the declarations and edges of these statements, the last read first.
+-- It has the declarations and edges of the given statements, the last read first.
 pub record Has (main : List ℕ) (held : Reader) (entries : List ReadStatement) : Type 0 where
   pub declares : DeclaredBy held.declarations entries
   pub edges : HasEdges held.building entries
@@ -61,7 +61,7 @@ pub record Has (main : List ℕ) (held : Reader) (entries : List ReadStatement) 
   pub paths_are : paths_of held.files ≡ paths_read main entries
   pub once : EachPathOnce held.files
 
--- Scopes are opened, and the earlier ones keep their numbers and parents.
+-- Scopes are opened, and earlier scopes keep their numbers and parents.
 pub record Grows (before after : List ScopeModel) : Type 0 where
   pub count : length before ≤ length after
   pub parents : (n : ℕ) → n < length before → parent_at after n ≡ parent_at before n
@@ -107,8 +107,8 @@ pub record ReadsAll (before after : SourceState) (old files held : List Reading)
 abbrev pub place_in : OpenFile → Spot → Place
 place_in file spot = record { file = file.name.now; spot = spot }
 
--- The result for the file at a path that a word at this place names, by that of the table when it opened the file: the text, or the fault.
--- Out of memory may also come before the table is read.
+-- The result for the file at a path that a word at the given place names, by the result of the table when it opened the
+-- file: the text, or the fault. Out of memory may also come before the table is read.
 abbrev pub ReturnsText : (before after : SourceState) → (old new : List Reading) → Place → (path : List ℕ)
     → Result (RcSlice ℕ Global) GraphFault → Type 0
 ReturnsText before after old new place path (Ok text) = table.OpensFile before after old new path (Ok (Some text))
@@ -124,7 +124,7 @@ pub record StopsAt (main : List ℕ) (before after : SourceState) (old : List Re
   pub reads : IsRead before after old files
   pub stops : Stops before after files (λ all. reached_by main (reading all)) fault
 
--- the path that a word gives, or its fault
+-- the path that a word expands to, or its fault
 abbrev pub GivesPath : {Z : Type 0} → Option GraphFault → (gives : List ℕ) → Result (String Z) GraphFault → Type 0
 GivesPath expected gives (Ok path) = (expected ≡ None) × (string_bytes path ≡ gives)
 GivesPath expected gives (Err fault) = IsFault expected fault
@@ -140,7 +140,7 @@ pub record OpensText (main : List ℕ) (before after : SourceState) (old held : 
   pub read : (inner : Site) (e : ReadStatement) (all : List Reading) → inner.file ≡ path → IsPrefix files all
       → opened_in all left inner place e entries ≡ text_read (opened_in all within) inner text (e ∷ entries)
 
--- a path names a file that is opened, or one at which the run stops
+-- a path names a file that is opened, or is a path at which the run stops
 abbrev pub OpensPath : (main : List ℕ) → (before after : SourceState) → (old held : Reader) → (left : ℕ) → Place
     → (path : List ℕ) → (entries : List ReadStatement) → Result (RcSlice ℕ Global) GraphFault → Type 0
 OpensPath main before after old held left place path entries (Ok text) =
@@ -166,7 +166,7 @@ pub record EntersScope (held : Reader) (number : ℕ) (inner : Site) (e : ReadSt
   pub scope : IsOpenScope held.declarations.scopes number inner.around
   pub declares : DeclaredBy held.declarations (e ∷ entries)
 
--- a statement was read that names no file
+-- a statement that does not name a file was read
 pub record ReadsOne (main : List ℕ) (before after : SourceState) (old held : Reader) (e : ReadStatement) (entries : List ReadStatement)
     : Type 0 where
   pub reads : ReadsAll before after old.files old.files held.files
@@ -190,7 +190,7 @@ pub record IsOpened (held : Reader) (opened : Opened) (inner : Site) : Type 0 wh
   pub number : inner.scope ≡ opened.scope.0
   pub scope : IsOpenScope held.declarations.scopes opened.scope.0 inner.around
 
--- a file is opened that the statement names, or the run stops there
+-- the file that the statement names is opened, or the run stops there
 abbrev pub OpensOrStops : (main : List ℕ) → (before after : SourceState) → (old held : Reader) → (left : ℕ)
     → ReadStatement → List ReadStatement
     → Result Opened GraphFault → Type 0
@@ -200,7 +200,7 @@ OpensOrStops main before after old held left e entries (Ok opened) =
 OpensOrStops main before after old held left e entries (Err fault) =
     StopsAt main before after old.files (λ all. statement_read (opened_in all left) e entries) fault
 
--- a statement is read, or the file is opened that it names, or the run stops there
+-- a statement is read, or the file that it names is opened, or the run stops there
 abbrev pub ReadsItem : (main : List ℕ) → (before after : SourceState) → (old held : Reader) → (left : ℕ)
     → ReadStatement → List ReadStatement
     → Result (Option Opened) GraphFault → Type 0
@@ -228,7 +228,7 @@ ReadsOrStops main before after old held reading (Err fault) = StopsAt main befor
 
 -- ---- after all reading
 
--- The files that were read, and the graph of the statements; or no memory, or a cycle among their edges.
+-- The files that were read, and the graph of the statements; or out of memory, or a cycle among their edges.
 abbrev pub FinishesReading : (main : List ℕ) → Reader → List ReadStatement → Result LoadedModel GraphFault → Type 0
 FinishesReading main held entries (Ok loaded) =
     (loaded.files ≡ held.files) × IsGraphOf loaded.graph entries × (main_of loaded.graph.origins ≡ main)

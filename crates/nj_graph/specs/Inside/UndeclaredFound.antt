@@ -15,7 +15,7 @@ use Rattle.nj_graph.specs.declared.undeclared.UndeclaredInput.{UndeclaredInput}
 
 -- ---- the outputs of edges
 
--- the number of the file at a path, and of the edge that makes it; none if no edge does
+-- the number of the file at a path, and of the edge that makes it; `None` if no edge makes it
 abbrev pub MadeIs : EdgeGraph → (path : List ℕ) → Option MadeFile → Type 0
 MadeIs g path None = maker_of g.edges path ≡ None
 MadeIs g path (Some made) = (position (bytes_eq path) g.files ≡ Some made.file.0) × (maker_of g.edges path ≡ Some made.maker.0)
@@ -39,20 +39,20 @@ pub record IsFound (g : EdgeGraph) (f : FoundInputs) : Type 0 where
   pub search : f.search ≡ g.edges
   pub known : All (IsKnownInput g) f.inputs.items
 
--- a file is an undeclared input of an edge, at one of these paths
+-- a file is an undeclared input of an edge, at one of the given paths
 pub record IsListed (g : EdgeGraph) (edge : ℕ) (paths : List (List ℕ)) (file : ℕ) : Type 0 where
   pub path : List ℕ
   pub file_is : position (bytes_eq path) g.files ≡ Some file
   pub among : is_among paths path ≡ true
   pub undeclared : IsUndeclared g.edges (record { edge = edge; path = path })
 
--- found are those of some inputs that are undeclared, and after them those of an edge among these paths
+-- the found inputs are the undeclared inputs among some inputs, then those of an edge among the given paths
 pub record FindsAt (g : EdgeGraph) (edge : ℕ) (before : List InputOfEdge) (paths : List (List ℕ)) (f : FoundInputs) : Type 0 where
   pub those : AreThose (IsUndeclared g.edges) (before ++ inputs_of_edge edge (each_once bytes_eq paths))
       (map (input_of_edge g.files) f.inputs.items)
   pub listed : (n : ℕ) → Contains f.files.numbers n ↔ IsListed g edge paths n
 
--- a file is added, unless it is there, and then the input
+-- a file is added, unless it is there already, and then the input
 pub record AddsFile (input : UndeclaredInput) (old new : FoundInputs) : Type 0 where
   pub files : new.files.numbers ≡ with_number old.files.numbers input.file.0
   pub inputs : new.inputs.items ≡ (if has old.files.numbers input.file.0 then old.inputs.items else old.inputs.items ++ input ∷ [])

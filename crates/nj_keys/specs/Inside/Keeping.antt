@@ -8,7 +8,7 @@ use Rattle.nj_graph.specs.Handles.{GraphEdge, GraphFile, edge_in, edge_of, files
 use Rattle.nj_keys.specs.Keys.{IsKey, Needs}
 use Rattle.nj_keys.specs.declared.keys.Frame.{Frame}
 
--- the key that is kept of an edge; empty if none is
+-- the kept key of an edge; empty if no key is kept
 abbrev pub kept_key : List (Option (List ℕ)) → (edge : ℕ) → List ℕ
 kept_key keys edge = unwrap_or (unwrap_or (slice_get keys edge) None) []
 
@@ -19,7 +19,7 @@ IsKept keys edge = (key : List ℕ) × (slice_get keys edge ≡ Some (Some key))
 abbrev pub KeepsKeys : (folders : List (List ℕ)) → List EdgePaths → List ReadStatement → (keys : List (Option (List ℕ))) → Type 0
 KeepsKeys folders edges entries keys = (e : ℕ) (key : List ℕ) → slice_get keys e ≡ Some (Some key) → IsKey folders edges entries e key
 
--- no key is kept of an edge, for which there is a place
+-- an edge has a place, and its key is not kept
 abbrev pub IsMissing : List (Option (List ℕ)) → (edge : ℕ) → Type 0
 IsMissing keys edge = slice_get keys edge ≡ Some None
 
@@ -29,7 +29,7 @@ IsMissing keys edge = slice_get keys edge ≡ Some None
 abbrev pub made_by : GraphFile → Option GraphEdge
 made_by file = option_map (edge_in file.graph) (maker_of (edges_of file.graph) file.path)
 
--- an edge makes one of these files
+-- an edge makes one of the given files
 abbrev pub MakesOne : List GraphFile → GraphEdge → Type 0
 MakesOne [] edge = ⊥
 MakesOne (file ∷ files) edge = (made_by file ≡ Some edge) ⊎ MakesOne files edge
@@ -40,7 +40,7 @@ inputs_in edge = files_in edge.graph (inputs_of (paths_of edge))
 
 -- ---- open edges
 
--- a rank falls from each edge to those that it needs, which are edges too, and is below the number of edges
+-- a rank falls from each edge to the edges that it needs, which are in the list too, and is below the number of edges
 pub record IsRank (edges : List EdgePaths) (rank : ℕ → ℕ) : Type 0 where
   pub falls : (e f : ℕ) → Needs edges e f → rank f < rank e
   pub bounded : (e : ℕ) → e < length edges → rank e < length edges
@@ -50,7 +50,7 @@ pub record IsRank (edges : List EdgePaths) (rank : ℕ → ℕ) : Type 0 where
 abbrev pub IsAcyclic : List EdgePaths → Type 0
 IsAcyclic edges = (rank : ℕ → ℕ) × IsRank edges rank
 
--- an edge of the graph without a key, and those of its inputs whose makers may have none
+-- an edge of the graph without a key, and the inputs whose makers may lack a key
 pub record IsOpen (g : GraphModel) (keys : List (Option (List ℕ))) (rank : ℕ → ℕ) (least : ℕ) (edge : GraphEdge)
     (inputs : List GraphFile) : Type 0 where
   pub graph : edge.graph ≡ g
@@ -59,13 +59,13 @@ pub record IsOpen (g : GraphModel) (keys : List (Option (List ℕ))) (rank : ℕ
   pub needed : (maker : GraphEdge) → MakesOne inputs maker → (maker.graph ≡ g) × Needs (edges_of g) edge.number maker.number
   pub left : (maker : ℕ) → Needs (edges_of g) edge.number maker → IsMissing keys maker → MakesOne inputs (edge_in g maker)
 
--- edges of rising ranks, the last that was opened first
+-- open edges of rising ranks, from the last that was opened
 abbrev pub AreOpen : GraphModel → (keys : List (Option (List ℕ))) → (rank : ℕ → ℕ) → (least : ℕ) → List Frame → Type 0
 AreOpen g keys rank least [] = Unit {0}
 AreOpen g keys rank least (frame ∷ frames) =
     IsOpen g keys rank least (edge_of frame.edge) frame.inputs × AreOpen g keys rank (rank (edge_of frame.edge).number + 1) frames
 
--- this edge was opened before all others; once none is open, its key is kept
+-- the edge was opened before all others; once no edge is open, its key is kept
 abbrev pub BeganWith : (keys : List (Option (List ℕ))) → (edge : ℕ) → List Frame → Type 0
 BeganWith keys edge [] = IsKept keys edge
 BeganWith keys edge (frame ∷ []) = (edge_of frame.edge).number ≡ edge

@@ -88,7 +88,7 @@ abbrev pub opening_at : State → Option lines.Line × List lines.Line
 opening_at (Inside l ls) = (Some l, ls)
 opening_at s = (None, lines_from s)
 
--- It finds where the next statement begins, and leaves the lexer there: whether there is one.
+-- It finds where the next statement begins, if any, and leaves the lexer there.
 abbrev pub FindsOpening : (before after : State) → Result Bool ParseFault → Type 0
 FindsOpening before after (Ok found) =
     (opening (lines_from before) ≡ Ok (opening_at after)) × IsBetweenStatements after × (is_inside after ≡ found)

@@ -6,7 +6,7 @@ use Rattle.indexmap.specs.IndexMap.{IndexMap, get}
 
 -- ---- as one text
 
--- the names that end there, where the first of them starts at `start`
+-- the names with the given ends, where the first name starts at `start`
 abbrev pub names_in : (text : List ℕ) → (start : ℕ) → (ends : List ℕ) → List (List ℕ)
 names_in text start [] = []
 names_in text start (end ∷ ends) = slice_range text start end ∷ names_in text end ends
@@ -14,7 +14,7 @@ names_in text start (end ∷ ends) = slice_range text start end ∷ names_in tex
 abbrev pub held_names : (text ends : List ℕ) → List (List ℕ)
 held_names text ends = names_in text 0 ends
 
--- names that start there rise to the end of a text
+-- the ends of names rise from the start to the end of a text
 abbrev pub EndsRise : (start : ℕ) → (ends : List ℕ) → (length : ℕ) → Type 0
 EndsRise start [] length = start ≡ length
 EndsRise start (end ∷ ends) length = (start ≤ end) × EndsRise end ends length
@@ -33,7 +33,7 @@ Hash = List ℕ → ℕ
 abbrev pub name_of : (names : List (List ℕ)) → (number : ℕ) → List ℕ
 name_of names number = slice_index_or names number []
 
--- of the first `count` names the last one with this hash; its number is counted from 1, and 0 is none
+-- the last of the first `count` names with the given hash, counted from 1; 0 for none
 abbrev pub newest_below : Hash → (names : List (List ℕ)) → (wanted count : ℕ) → ℕ
 newest_below hash names wanted zero = 0
 newest_below hash names wanted (suc number) =
@@ -64,7 +64,7 @@ newest_in newest hash = unwrap_or (get nat_eq newest hash) 0
 abbrev pub AreNewest : {S : Type 0} → Hash → (names : List (List ℕ)) → IndexMap ℕ ℕ S → Type 0
 AreNewest hash names newest = (wanted : ℕ) → newest_in newest wanted ≡ newest_below hash names wanted (length names)
 
--- how all that goes together
+-- how the text, the ends and the links between names go together
 pub record AreHeld {S : Type 0} (hash : Hash) (text ends earlier : List ℕ) (newest : IndexMap ℕ ℕ S) : Type 0 where
   pub rise : EndsRise 0 ends (length text)
   pub distinct : IsDistinct bytes_eq (held_names text ends)

@@ -7,7 +7,7 @@ abbrev pub unflagged : Bool → ℕ
 unflagged true = 0
 unflagged false = 1
 
--- a flag tells whether its number is in the list
+-- a flag is set exactly if its number is in the list
 pub record AreFlagged (flags : List Bool) (numbers : List ℕ) : Type 0 where
   pub tell : (number : ℕ) → slice_index_or flags number false ≡ has numbers number
   pub below : All (λ number. number < length flags) numbers

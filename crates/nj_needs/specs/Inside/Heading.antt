@@ -7,7 +7,7 @@ abbrev pub IsAhead : (more : List Frame) → (goal at : ℕ) → Type 0
 IsAhead [] goal at = at ≤ goal
 IsAhead (f ∷ more) goal at = f.at < goal
 
--- the walk is heading for a place of the row above these open edges
+-- the walk is heading for a place of the row above the given open edges
 pub record IsHeading (base : List Frame) (goal : ℕ) (path : List Frame) (place : ℕ) : Type 0 where
   pub more : List Frame
   pub is : path ≡ base ++ more

@@ -1,5 +1,5 @@
--- Where a walk is: the path of open edges, the first that was opened first, and the next place in the inputs of the last
--- of them, or in the target list where none is open. The edges done then, and the number of turns left, follow from it.
+-- Where a walk is: the path of open edges, the first opened first, and the next place in the inputs of the last open
+-- edge, or in the target list if no edge is open. The edges done then, and the number of turns left, follow from it.
 use Rattle.std.specs.Prelude.{◌≡◌, ℕ, ◌+◌, ◌-◌, ◌<◌, ◌≤◌, Bool, true, false, if◌then◌else◌, Option, Some, List, [], ◌∷◌, ◌++◌, length, map}
 use Rattle.std.specs.Prelude.{take, nat_eq, slice_get, slice_index_or}
 use Rattle.std.specs.List.{list_any}
@@ -7,7 +7,7 @@ use Rattle.nj_needs.specs.Order.{unfolded_row, order, needed_commands}
 use Rattle.nj_needs.specs.Marks.{without}
 use Rattle.nj_needs.specs.declared.frame.Frame.{Frame}
 
--- the row in which the walk is, where `row` is the one below the path
+-- the row in which the walk is, where `row` is the row below the path
 abbrev pub top_row : (makers : ℕ → List (Option ℕ)) → (row : List (Option ℕ)) → List Frame → List (Option ℕ)
 top_row makers row [] = row
 top_row makers row (f ∷ path) = top_row makers (makers f.edge.0) path
@@ -17,7 +17,7 @@ abbrev pub IsLinked : (makers : ℕ → List (Option ℕ)) → (row : List (Opti
 IsLinked makers row [] = Unit {0}
 IsLinked makers row (f ∷ path) = (slice_get row f.at ≡ Some (Some f.edge.0)) × IsLinked makers (makers f.edge.0) path
 
--- the edges done: in each row the unfolded order of the places before the one where the walk is
+-- the edges done: in each row the unfolded order of the places before the place where the walk is
 abbrev pub done_at : (makers : ℕ → List (Option ℕ)) → (count : ℕ) → (row : List (Option ℕ)) → List Frame → (place : ℕ) → List ℕ
 done_at makers count row [] place = unfolded_row makers count (take place row)
 done_at makers count row (f ∷ path) place = unfolded_row makers count (take f.at row) ++ done_at makers count (makers f.edge.0) path place
@@ -30,7 +30,7 @@ opened path = map (λ f. f.edge.0) path
 abbrev pub places : List Frame → List ℕ
 places path = map (λ f. f.at) path
 
--- the turns that are left in the rows of the path, the closing of its edges among them
+-- the turns that are left in the rows of the path, including the closing of its edges
 abbrev pub turns_open : (makers : ℕ → List (Option ℕ)) → (row : List (Option ℕ)) → List Frame → (place : ℕ) → ℕ
 turns_open makers row [] place = length row - place
 turns_open makers row (f ∷ path) place = (length row - (f.at + 1)) + 1 + turns_open makers (makers f.edge.0) path place
@@ -50,7 +50,7 @@ abbrev pub left_at : (makers : ℕ → List (Option ℕ)) → (count : ℕ) → 
     → List Frame → (place : ℕ) → List ℕ
 left_at makers count phony row path place = without (done_at makers count row path place) (needed_commands makers count phony row)
 
--- the state where a walk is: no open edge is done, and the flags tell which edges are
+-- the state where a walk is: no open edge is done, and the flags show which edges are
 pub record IsStanding (makers : ℕ → List (Option ℕ)) (count : ℕ) (row : List (Option ℕ))
     (path : List Frame) (place : ℕ) (flags : List Bool) : Type 0 where
   pub linked : IsLinked makers row path

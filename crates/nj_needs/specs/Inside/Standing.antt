@@ -42,7 +42,7 @@ pub record IsWalkAt (g : EdgeGraph) (targets : List FileNo) (turns : ℕ)
 abbrev pub IsWalk : Walk → Type 0
 IsWalk w = IsWalkAt w.turns.graph.now w.turns.targets.now w.turns.taken w.path w.place w.flags.items w.begun
 
--- a look: the place is passed, whose edge is done or which is a source, or an edge is opened
+-- a look: a place whose edge is done, or which is a source, is passed; or an edge is opened
 pub record HasLooked (g : EdgeGraph) (targets : List FileNo) (path : List Frame) (place : ℕ) (after : List Frame) (next : ℕ) : Type 0 where
   pub left : left_of g targets after next ≡ left_of g targets path place
   pub turn : turns_left_of g targets path place ≡ turns_left_of g targets after next + 1

@@ -1,5 +1,5 @@
-//! How a walk begins. Its counter of turns is made here and nowhere else: no module but this one can
-//! name its constructor.
+//! How a walk begins. Its counter of turns is made only here: no other module can name its
+//! constructor.
 
 ghost use Rattle.std.specs.Prelude.{◌≡◌, ◌<◌, [], length, All, IfOk};
 ghost use Rattle.nj_needs.specs.Cited.{ResumeIs, BeginsAt, commands_of};
@@ -43,7 +43,7 @@ impl<'g> Needs<'g> {
     ///
     /// # Errors
     ///
-    /// `MarkOutOfRange` if the mark leads to no edge at some step, and `OutOfMemory` if an
+    /// `MarkOutOfRange` if a step of the mark does not lead to an edge, and `OutOfMemory` if an
     /// allocation failed; never `BadMark`.
     pub fn resume(
         alloc: Global,

@@ -11,7 +11,7 @@ use Rattle.nj_questions.specs.declared.forms.Form.TheVariants as form
 
 -- ---- the command line
 
--- an option or a word in a form, and one of a table
+-- an option or a word in a form, and an entry of a table
 abbrev pub rule_in : (name : List ℕ) → Form → Rule
 rule_in name (form.Short letter value) = short_option name letter
 rule_in name (form.Letter letter) = short_flag name letter

@@ -10,7 +10,7 @@ use Rattle.nj_graph.specs.Graph.{GraphModel, edges_of}
 use Rattle.nj_graph.specs.ReadingList.{ReadStatement}
 use Rattle.nj_reached.specs.GraphChanges.{full_paths, is_compiled, noticed_outputs, outputs_at, outputs_made, without}
 
--- no path of an output is known yet
+-- paths of outputs are not known yet
 pub record IsUnfilled (roots : Vec (Vec ℕ)) (changed : List (List ℕ)) (paths : ChangedPaths) : Type 0 where
   pub roots_are : paths.roots ≡ roots
   pub changed_are : paths.changed ≡ changed
@@ -20,7 +20,7 @@ pub record IsUnfilled (roots : Vec (Vec ℕ)) (changed : List (List ℕ)) (paths
   pub needing : paths.needing ≡ []
   pub noticed : paths.noticed ≡ []
 
--- those of a change are added
+-- the paths of a change are added
 pub record Fills (g : GraphModel) (entries : List ReadStatement) (folder : List ℕ) (files : List (List ℕ)) (touched : List ℕ)
     (old new : ChangedPaths) : Type 0 where
   pub roots : new.roots ≡ old.roots

@@ -17,11 +17,11 @@ paths_in files = map (λ file. file.path) files
 abbrev pub numbers_of : List GraphEdge → List ℕ
 numbers_of edges = map (λ edge. edge.number) edges
 
--- the files are all of this graph
+-- all files are in the graph
 abbrev pub AreIn : GraphModel → List GraphFile → Type 0
 AreIn g files = files ≡ files_in g (paths_in files)
 
--- the edges are all of this graph
+-- all edges are in the graph
 abbrev pub AreOf : GraphModel → List GraphEdge → Type 0
 AreOf g edges = edges ≡ edges_in g (numbers_of edges)
 
@@ -33,11 +33,11 @@ full_paths_in folder files = map (λ file. full_path folder file.path) files
 abbrev pub full_outputs : (folder : List ℕ) → List GraphEdge → List (List ℕ)
 full_outputs folder edges = flat_map (λ edge. full_paths folder (outputs_of (paths_of edge))) edges
 
--- those that their commands make
+-- the full paths of the outputs that the commands of edges make
 abbrev pub full_outputs_made : (folder : List ℕ) → List GraphEdge → List (List ℕ)
 full_outputs_made folder edges = flat_map (λ edge. full_paths folder (outputs_made (paths_of edge))) edges
 
--- those that count in a directory
+-- the full paths of the outputs of edges that count in a directory
 abbrev pub full_noticed : GraphModel → List ReadStatement → (folder : List ℕ) → List GraphEdge → List (List ℕ)
 full_noticed g entries folder edges = flat_map (λ edge. full_paths folder (noticed_outputs entries (edges_of g) edge.number)) edges
 

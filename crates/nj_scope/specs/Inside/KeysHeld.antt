@@ -6,7 +6,7 @@ use Rattle.nj_scope.specs.Rules.{RuleLineModel}
 abbrev pub line_held : RuleLine → RuleLineModel
 line_held l = record { key = l.key.items; value = l.value }
 
--- these are the indexes of lines
+-- the indexes are those of the given lines
 abbrev pub AreIndexes : List RuleLineModel → (indexes : List ℕ) → (lines : List RuleLineModel) → Type 0
 AreIndexes all indexes lines = map (slice_get all) indexes ≡ map Some lines
 

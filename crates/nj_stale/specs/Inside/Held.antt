@@ -13,7 +13,7 @@ use Rattle.nj_stale.specs.declared.reason.Reason.TheVariants.{StaleInput, Missin
 
 -- ---- files
 
--- the time of a file by that on the disk, and by what its maker lends
+-- the time of a file, by its time on the disk and the times that makers lend
 abbrev pub time_by : (maker : Option ℕ) → (disk : ℕ) → (lent : List ℕ) → ℕ
 time_by None disk lent = disk
 time_by (Some edge) disk lent = if disk == 0 then slice_index lent edge else disk
@@ -30,7 +30,7 @@ abbrev pub is_stale_held : EdgeGraph → (times : List ℕ) → (reasons : List 
 is_stale_held g times reasons file =
     is_stale_held_by (maker_of g.edges (path_at g.files file)) (slice_index times file.0) reasons
 
--- ---- what they are a reason for
+-- ---- files as reasons
 
 abbrev pub input_held : EdgeGraph → (times : List ℕ) → (reasons : List (Option Reason)) → FileNo → (place : ℕ) → Option Reason
 input_held g times reasons file place = if is_stale_held g times reasons file then Some (StaleInput place) else None
@@ -58,7 +58,7 @@ pub record IsFound (known : Evidence) (order : List ℕ) (turn : ℕ) (reasons :
   pub lent_by_each : (s : State) → IsStateOf known s → (k : ℕ) → k < turn
       → slice_index lent (slice_index order k) ≡ lent_time s (edge_at known.edges (slice_index order k)) (slice_index order k)
 
--- the edge is the next one of an order
+-- the edge is the next of an order
 pub record IsNext (edges : List EdgePaths) (order : List ℕ) (turn edge : ℕ) : Type 0 where
   pub order_is : IsMakersFirst edges order
   pub within : turn < length order

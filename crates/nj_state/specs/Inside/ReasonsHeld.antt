@@ -9,13 +9,13 @@ abbrev pub stale_held : List (Option Reason) → (edge : ℕ) → Option StaleEd
 stale_held reasons edge =
     option_map (λ reason. record { edge = record { 0 = edge }; reason = reason }) (slice_index_or reasons edge None)
 
--- these are the edges with a reason of some edges, in their order; and all of these are edges of a graph of so many
+-- the given edges that have a reason, in their order; all of them are edges of a graph with `count` edges
 pub record AreHeld (count : ℕ) (reasons : List (Option Reason)) (edges : List ℕ) (stale : List StaleEdge) : Type 0 where
   pub within : AllByRecursion (λ edge. edge < count) edges
   pub stale_are : stale ≡ filter_map (stale_held reasons) edges
   pub known : AllByRecursion (λ item. item.edge.0 < count) stale
 
--- an edge with its reason, if it has one
+-- an edge with its reason, if any
 abbrev pub stale_by : (edge : ℕ) → Option Reason → List StaleEdge
 stale_by edge None = []
 stale_by edge (Some reason) = record { edge = record { 0 = edge }; reason = reason } ∷ []

@@ -1,4 +1,4 @@
--- What the fields of the edges that were read come to.
+-- The meaning of the fields of the edges that were read.
 use Rattle.nj_statements.specs.declared.building.Building.TheInside.{Inside}
 use Rattle.nj_statements.specs.Answers.{BuildingModel}
 

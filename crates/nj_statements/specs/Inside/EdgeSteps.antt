@@ -31,7 +31,7 @@ use Rattle.nj_statements.specs.BuildFaults.{variable_cycle_fault, unknown_pool, 
 use Rattle.nj_statements.specs.Answers.{KeepsRead}
 use Rattle.nj_statements.specs.Records.{numbered, spot_of}
 
--- the faults of an edge's names in their order, where these pools are declared and the edge has these inputs
+-- the faults of an edge's names in their order, where the given pools are declared and the edge has the given inputs
 abbrev pub names_fault : (file : List ℕ) → Spot → (declared inputs : List (List ℕ)) → LateNames → Option GraphFault
 names_fault file spot declared inputs n =
     option_or (variable_cycle_fault file spot n)
@@ -41,7 +41,7 @@ names_fault file spot declared inputs n =
 abbrev pub lines_of_rule : Option RuleModel → List RuleLineModel
 lines_of_rule r = unwrap_or (option_map (λ r. r.lines) r) []
 
--- Names have these values in a scope, by the declarations of the earlier statements and the bindings of the block.
+-- Names have the given values in a scope, by the declarations of the earlier statements and the bindings of the block.
 pub record Sees (held : DeclarationsModel) (scope : ℕ) (block : Block) (values : Values) : Type 0 where
   pub entries : List ReadStatement
   pub around : List ℕ
@@ -72,16 +72,16 @@ abbrev pub with_validations : EdgeTable → List (List ℕ) → EdgeTable
 with_validations t [] = t
 with_validations t (path ∷ paths) = with_validations (with_validation t path) paths
 
--- each of these paths is its own clean path
+-- each of the given paths is its own clean path
 abbrev pub AreClean : (files : List (List ℕ)) → Type 0
 AreClean files = AllByRecursion (λ path. clean_path_of path ≡ path) files
 
--- the edges that were read stay the same, and where all paths were clean they are still
+-- the edges that were read stay the same, and if all paths were clean, they still are
 pub record KeepsClean (before after : EdgeTable) : Type 0 where
   pub read : KeepsRead before after
   pub clean : AreClean before.files → AreClean after.files
 
--- the edge that is being read has this many more outputs, and no fewer inputs
+-- the edge that is being read has the given number of additional outputs, and no fewer inputs
 pub record Grows (outputs : ℕ) (before after : EdgeTable) : Type 0 where
   pub outputs_are : length after.«open».outputs ≡ length before.«open».outputs + outputs
   pub inputs : length before.«open».inputs ≤ length after.«open».inputs
@@ -104,13 +104,13 @@ pub record AddsEdge (before after : EdgeTable) (edge : EdgePaths) : Type 0 where
   pub none_open : after.«open» ≡ no_files
   pub files : IsPrefix before.files after.files
 
--- the numbers of files with these paths are appended
+-- the numbers of the files with the given paths are appended
 pub record AddsTargets (files : List (List ℕ)) (before after : List FileNo) (paths : List (List ℕ)) : Type 0 where
   pub added : List FileNo
   pub after_is : after ≡ before ++ added
   pub are : AreFiles files added paths
 
--- the names of an edge with these paths and this block, where its file has these values
+-- the names of an edge with the given paths and block, where its file has the given values
 abbrev pub names_read : EdgePaths → Block → RuleModel → (file : Values) → LateNames
 names_read paths block rule file = record {
   inputs = paths.explicit_inputs;
@@ -121,26 +121,26 @@ names_read paths block rule file = record {
   file = file;
 }
 
--- The names of an edge depend on these, by the declarations of the earlier statements.
+-- `n` is what the names of an edge depend on, by the declarations of the earlier statements.
 pub record SeesLate (edge : LateEdge) (entries : List ReadStatement) (n : LateNames) : Type 0 where
   pub around : List ℕ
   pub declared : DeclaredBy edge.declarations.now entries
   pub within : IsScope (parent_at edge.declarations.now.scopes) edge.scope.0 (edge.scope.0 ∷ around)
   pub are : n ≡ late_names edge (value_after entries (edge.scope.0 ∷ around))
 
--- the assignment of an edge whose names depend on these
+-- the assignment of an edge, by what its names depend on
 abbrev pub assigned_by : LateNames → AssignedModel
 assigned_by n = record { pool = name_given (asked_text n (codes "pool")); dyndep = file_given (asked_text n (codes "dyndep")) }
 
--- the number of the file at this path, if any
+-- the number of the file at the given path, if any
 abbrev pub IsFileGiven : (files : List (List ℕ)) → Option FileNo → Option (List ℕ) → Type 0
 IsFileGiven files number path = option_map (λ f. slice_get files f.0) number ≡ option_map Some path
 
--- the same is kept of each rule
+-- the same references are kept for each rule
 abbrev pub SameReferences : (kept others : List (Option (List ReferringKeyModel))) → Type 0
 SameReferences kept others = (number : ℕ) → slice_index_or kept number None ≡ slice_index_or others number None
 
--- the detail of an edge at this place, before anything is assigned to it and a dyndep file is joined to it
+-- the detail of an edge at the given place, before anything is assigned to it and before a dyndep file is joined to it
 pub record IsDetailOf (file : ℕ) (spot : Spot) (scope rule : ℕ) (d : Detail) : Type 0 where
   pub file_is : d.file ≡ file
   pub spot_is : spot_of d ≡ spot
@@ -153,7 +153,7 @@ pub record AreNumbersOf (names : List (List ℕ)) (a : Assigned) (meant : Assign
   pub pool : slice_get (numbered names) a.pool ≡ Some meant.pool
   pub dyndep : slice_get (numbered names) a.dyndep ≡ Some meant.dyndep
 
--- with this edge, if it is bound to a dyndep file
+-- with the given edge, if it is bound to a dyndep file
 abbrev pub with_dyndep : EdgeNo → Option FileNo → List DyndepEdge → List DyndepEdge
 with_dyndep edge None held = held
 with_dyndep edge (Some file) held = held ++ record { edge = edge; file = file } ∷ []

@@ -1,4 +1,4 @@
--- What the fields of the edges to which dyndep files are joined come to.
+-- The meaning of the fields of the edges to which dyndep files are joined.
 use Rattle.std.specs.Prelude.{◌≡◌, ℕ, ◌<◌, ◌≤◌, false, Option, IfSome, List, map, length, slice_get, slice_index_or, bytes_eq}
 use Rattle.std.specs.List.{AllByRecursion, IsDistinct}
 use Rattle.nj_names.specs.declared.files.FileNo.{FileNo}
@@ -10,7 +10,7 @@ use Rattle.nj_statements.specs.Records.{AreOfGraph, RecordsModel, pending_named,
 use Rattle.nj_statements.specs.JoiningHeld.{JoiningModel, still_pending}
 use Rattle.nj_statements.specs.Inside.JoiningSteps.{AreByNumber, count_pending, file_named}
 
--- the fields, without what their lists have room for
+-- the fields, without the spare capacity of their lists
 pub record JoiningFields : Type 0 where
   pub table : JoinTable
   pub records : RecordsModel
@@ -45,8 +45,8 @@ joining_of j =
       restats = built.restats;
     }
 
--- The records are those of the edges as they were read. All numbers are numbers of files and edges. For each file at most as many edges
--- are pending as are counted.
+-- The records are those of the edges as they were read. All numbers are numbers of files and edges. For each file at
+-- most the counted number of edges is pending.
 pub record JoiningIsHeld (j : JoiningFields) : Type 0 where
   pub each_path_once : IsDistinct bytes_eq j.table.files
   pub as_many_joined : length j.table.joined ≡ length j.table.stated

@@ -21,7 +21,7 @@ use Rattle.nj_scope.specs.ReadingList.{Discovered, ReadStatement}
 abbrev pub discover_for : Option ℕ → Discovered → List ReadStatement → List ReadStatement
 discover_for edge found joined = unwrap_or (option_map (λ edge. discover edge found joined) edge) joined
 
--- the edge is bound to this file, where there is one
+-- the edge, if any, is bound to the given file
 abbrev pub is_bound_to : Option DyndepEdge → FileNo → Bool
 is_bound_to (Some bound) file = bound.file.0 == file.0
 is_bound_to None file = false
@@ -30,17 +30,17 @@ abbrev pub one_if : Bool → ℕ
 one_if true = 1
 one_if false = 0
 
--- how many of these are pending on a file
+-- how many of the given edges are pending on a file
 abbrev pub count_pending : FileNo → (unjoined : List (Option DyndepEdge)) → ℕ
 count_pending file [] = 0
 count_pending file (w ∷ unjoined) = one_if (is_bound_to w file) + count_pending file unjoined
 
--- how many of these edges are bound to a file
+-- how many of the given edges are bound to a file
 abbrev pub count_bound : FileNo → List DyndepEdge → ℕ
 count_bound file [] = 0
 count_bound file (d ∷ dyndeps) = one_if (d.file.0 == file.0) + count_bound file dyndeps
 
--- these edges are bound to their files, each at the index of its number
+-- the given edges are bound to their files, each at the index of its number
 abbrev pub bind_all : List DyndepEdge → (bound : List (Option DyndepEdge)) → List (Option DyndepEdge)
 bind_all [] bound = bound
 bind_all (d ∷ dyndeps) bound = bind_all dyndeps (set bound d.edge.0 (Some d))
@@ -49,12 +49,12 @@ bind_all (d ∷ dyndeps) bound = bind_all dyndeps (set bound d.edge.0 (Some d))
 abbrev pub AreByNumber : (bound : List (Option DyndepEdge)) → Type 0
 AreByNumber bound = (number : ℕ) → IfSome (slice_index_or bound number None) (λ d. d.edge.0 ≡ number)
 
--- the first of these edges that are bound to a file, for each file
+-- for each file, the first of the given edges that are bound to it
 abbrev pub first_edges : List DyndepEdge → List DyndepEdge
 first_edges [] = []
 first_edges (d ∷ others) = d ∷ filter (λ other. not (other.file.0 == d.file.0)) (first_edges others)
 
--- the edges, without the places where there is none
+-- the edges, without the empty places
 abbrev pub edge_if : Option DyndepEdge → List DyndepEdge
 edge_if (Some d) = d ∷ []
 edge_if None = []
@@ -77,11 +77,11 @@ maker_fault name word table None = Some (fault_at name word.spot (DyndepExtra (p
 maker_fault name word table (Some edge) =
     then_some (is_joined table edge) (fault_at name word.spot (DyndepTwice (path_given no_values word)))
 
--- the edge that makes the file of a word, if it is bound to this dyndep file
+-- the edge that makes the file of a word, if the edge is bound to the given dyndep file
 abbrev pub edge_bound : JoinTable → (bound : List (Option DyndepEdge)) → FileNo → WordModel → Option ℕ
 edge_bound table bound file word = if_bound bound file (maker_of table.stated (path_given no_values word))
 
--- this edge, to which nothing was joined yet
+-- the given edge, to which nothing was joined yet
 pub record IsMeant (table : JoinTable) (bound : List (Option DyndepEdge)) (file : FileNo) (word : WordModel) (edge : ℕ) : Type 0 where
   pub is : edge_bound table bound file word ≡ Some edge
   pub known : edge < length table.stated
@@ -92,11 +92,11 @@ abbrev pub fault_of_pending : (path : List ℕ) → EdgeDetail → EdgePaths →
 fault_of_pending path detail e =
     fault_at detail.file detail.spot (DyndepNoStatement (unwrap_or (first_output e) []) path)
 
--- the same edge, for which a dyndep file binds `restat` or does not
+-- the same edge, with whether a dyndep file binds `restat` for it
 abbrev pub also_restat : Bool → Detail → Detail
 also_restat restat d = record d { restat = d.restat || restat }
 
--- the records where a dyndep file binds `restat` for this edge or does not
+-- the records, with whether a dyndep file binds `restat` for the given edge
 abbrev pub with_restat : Bool → (edge : ℕ) → RecordsModel → RecordsModel
 with_restat restat edge r = record r { details = changed_at (also_restat restat) edge r.details }
 

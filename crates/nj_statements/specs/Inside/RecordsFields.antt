@@ -1,4 +1,4 @@
--- What the fields of the records of edges come to.
+-- The meaning of the fields of the records of edges.
 use Rattle.nj_statements.specs.declared.records.EdgeRecords.TheInside.{Inside}
 use Rattle.nj_statements.specs.Records.{RecordsModel}
 

@@ -1,4 +1,4 @@
--- The meaning of a build statement with this rule, where names have these values on its line.
+-- The meaning of a build statement with the given rule, where names have the given values on its line.
 use Rattle.std.specs.Prelude.{◌==◌, Option, List, ◌∷◌}
 use Rattle.std.specs.Option.{option_or}
 use Rattle.nj_manifest.specs.declared.statement.Build.{Build}
@@ -22,7 +22,7 @@ abbrev pub names_meant : (context : Context) → Build → UsedRule → (values 
 names_meant context build rule values sees =
     names_read (paths_meant build rule values) (bound_by context) rule.rule.now (value_after sees.entries (context.scope.0 ∷ sees.around))
 
--- the first fault of its paths, and then of its names, after these edges
+-- the first fault of its paths, and then of its names, after the given edges
 abbrev pub edge_fault : (context : Context) → Build → UsedRule → (values : Values) → SeesNames context values → (earlier : List EdgePaths)
     → Option GraphFault
 edge_fault context build rule values sees earlier =

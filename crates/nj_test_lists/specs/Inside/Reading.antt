@@ -13,7 +13,7 @@ use Rattle.nj_test_lists.specs.declared.properties.Property.{Property as Propert
 use Rattle.nj_test_lists.specs.Faults.{IsNoJson}
 use Rattle.nj_test_lists.specs.CTest.{Property, folder_of, property_strings, IsWrongAt, IsFirstWrong}
 
--- a reason is right for a fault that is given, unless memory ran out
+-- the fault that is returned is the expected fault, and the reason for it holds, unless memory ran out
 abbrev pub Refuses : (fault : ListFault) → (reason : Type 0) → (given : ListFault) → Type 0
 Refuses fault reason given = (given ≡ OutOfMemory) ⊎ ((given ≡ fault) × reason)
 
@@ -21,7 +21,7 @@ Refuses fault reason given = (given ≡ OutOfMemory) ⊎ ((given ≡ fault) × r
 abbrev pub property_model : PropertyOfCode → Property
 property_model property = record { name = property.name.now; value = view property.value.now }
 
--- a value is no test, and its number is this one; or memory ran out
+-- the value with the given number is not a test, or memory ran out
 pub record IsWrongTest (number : ℕ) (value : Data) (fault : ListFault) : Type 0 where
   pub key : CTestKey
   pub is_fault : fault ≡ WrongCTest number key
@@ -30,7 +30,7 @@ pub record IsWrongTest (number : ℕ) (value : Data) (fault : ListFault) : Type 
 abbrev pub IsTestFault : (number : ℕ) → Data → (fault : ListFault) → Type 0
 IsTestFault number value fault = (fault ≡ OutOfMemory) ⊎ IsWrongTest number value fault
 
--- the first value that is no test, or memory ran out
+-- the first value that is not a test, or memory ran out
 pub record IsWrongIn (values : List Data) (fault : ListFault) : Type 0 where
   pub number : ℕ
   pub key : CTestKey
@@ -40,7 +40,7 @@ pub record IsWrongIn (values : List Data) (fault : ListFault) : Type 0 where
 abbrev pub AreTestsFault : (values : List Data) → (fault : ListFault) → Type 0
 AreTestsFault values fault = (fault ≡ OutOfMemory) ⊎ IsWrongIn values fault
 
--- properties are not what is expected at this key
+-- properties are wrong at the given key
 abbrev pub IsWrongAmong : CTestKey → List Property → Type 0
 IsWrongAmong Name properties = ⊥
 IsWrongAmong Command properties = ⊥
@@ -56,7 +56,7 @@ pub record IsWrongProperty (number : ℕ) (properties : List Property) (fault : 
 abbrev pub IsPropertyFault : (number : ℕ) → List Property → (fault : ListFault) → Type 0
 IsPropertyFault number properties fault = (fault ≡ OutOfMemory) ⊎ IsWrongProperty number properties fault
 
--- a text is not JSON, for this reason; the place is a hint
+-- a text is not JSON, for the given reason; the place is a hint
 abbrev pub IsNoJsonFault : (text : List ℕ) → ListFault → Type 0
 IsNoJsonFault text (NotJson line column) = IsNoJson text
 IsNoJsonFault text OutOfMemory = Unit {0}
@@ -64,7 +64,7 @@ IsNoJsonFault text _ = ⊥
 
 -- ---- Meson
 
--- a target with this number is wrong, or memory ran out
+-- a target is wrong, or memory ran out
 pub record IsWrongAmongTargets (values : List Data) (fault : ListFault) : Type 0 where
   pub number : ℕ
   pub key : TargetKey
@@ -74,13 +74,13 @@ pub record IsWrongAmongTargets (values : List Data) (fault : ListFault) : Type 0
 abbrev pub AreTargetsFault : (values : List Data) → (fault : ListFault) → Type 0
 AreTargetsFault values fault = (fault ≡ OutOfMemory) ⊎ IsWrongAmongTargets values fault
 
--- an id is not that of a further target
+-- a value does not have the id of a further target
 pub record IsWrongId (number : ℕ) (before : List (List ℕ)) (value : Data) (fault : ListFault) : Type 0 where
   pub key : TargetKey
   pub is_fault : fault ≡ WrongTarget number key
   pub is_wrong : IsNoTarget before key value
 
--- a value is no test of Meson, and its number is this one; or memory ran out
+-- the value with the given number is not a test of Meson, or memory ran out
 pub record IsWrongMesonTest (targets : TargetsModel) (number : ℕ) (value : Data) (fault : ListFault) : Type 0 where
   pub key : MesonKey
   pub is_fault : fault ≡ WrongMesonTest number key
@@ -89,7 +89,7 @@ pub record IsWrongMesonTest (targets : TargetsModel) (number : ℕ) (value : Dat
 abbrev pub IsMesonTestFault : TargetsModel → (number : ℕ) → Data → (fault : ListFault) → Type 0
 IsMesonTestFault targets number value fault = (fault ≡ OutOfMemory) ⊎ IsWrongMesonTest targets number value fault
 
--- the first value that is no test, or memory ran out
+-- the first value that is not a test, or memory ran out
 pub record IsWrongAmongMesonTests (targets : TargetsModel) (values : List Data) (fault : ListFault) : Type 0 where
   pub number : ℕ
   pub key : MesonKey

@@ -1,4 +1,4 @@
--- How the code cleans a path: one component after another, with those that are kept so far. Nothing here has to be
+-- How the code cleans a path: one component after another, with the components kept so far. Nothing here has to be
 -- believed.
 use Rattle.std.specs.Prelude.{◌≡◌, ℕ, suc, ◌+◌, ◌≤◌, ◌⊎◌, nat_lt, Bool, true, false, not, ◌&&◌, ◌||◌, ◌==◌, drop, if◌then◌else◌, Option, Some, None, List, [], ◌∷◌, ◌++◌, length, replicate}
 use Rattle.std.specs.List.{slice_split, join_with_byte, list_any, AllByRecursion}
@@ -118,7 +118,7 @@ ends_with_slash [] = false
 ends_with_slash (b ∷ []) = is_slash b
 ends_with_slash (b ∷ bs) = ends_with_slash bs
 
--- whether the first byte is one that begins a name: neither a slash nor a dot
+-- whether the first byte begins a name: it is neither a slash nor a dot
 abbrev pub begins_name : List ℕ → Bool
 begins_name [] = false
 begins_name (b ∷ bs) = not (is_slash b || b == 46)

@@ -50,11 +50,11 @@ LandsIn dollar.Bad bytes = Unit {0}
 abbrev pub units_within : Spot → List ℕ → List TextUnit
 units_within spot bytes = cut Within 0 spot bytes
 
--- the units at a place are one that means m and has n bytes, and then these
+-- the units at a place are a unit that means m and has n bytes, and then the given units
 abbrev pub Begins : Spot → List ℕ → Meaning → ℕ → List TextUnit → Type 0
 Begins spot bytes m n after = units_within spot bytes ≡ record { spot = spot; bytes = take n bytes; means = m } ∷ after
 
--- the units at a place are one that means m, and then some
+-- the units at a place begin with a unit that means m
 abbrev pub BeginsBadly : Spot → List ℕ → Meaning → Type 0
 BeginsBadly spot bytes m = (n : ℕ) × (after : List TextUnit) × Begins spot bytes m n after
 
@@ -108,6 +108,6 @@ sign_size sign.Pipe2 = 2
 sign_size sign.PipeAt = 2
 sign_size want = 1
 
--- how many bytes the sign takes that the bytes begin with; else 0
+-- the length of the sign if the bytes begin with it; else 0
 abbrev pub sign_length : Sign → List ℕ → ℕ
 sign_length want bytes = if has_sign want bytes then sign_size want else 0

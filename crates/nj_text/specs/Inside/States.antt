@@ -98,7 +98,7 @@ abbrev pub Steps : {X Y : Type 0} → (X → Y) → Reply Y → Result (X × Cur
 Steps view expected (Ok step) = expected ≡ reply (view step.0) (inside (lines_within step.1.spot step.1.rest.now))
 Steps view expected (Err f) = expected ≡ failing f
 
--- the same of a call that takes memory
+-- the same of a call that allocates
 abbrev pub FailsStep : {Y : Type 0} → Reply Y → WordFault → Type 0
 FailsStep expected word_fault.OutOfMemory = Unit {0}
 FailsStep expected (word_fault.Unit f) = expected ≡ failing f
@@ -121,7 +121,7 @@ SignIs expected (taken.InLine after) = expected ≡ reply true (inside (lines_wi
 SignIs expected (taken.LineEnd after) = expected ≡ reply true (Between (lines_from after.spot after.rest.now))
 SignIs expected (taken.Fault f) = expected ≡ failing f
 
--- a fault that reports this bad unit, or none
+-- a fault that reports the given bad unit, if any
 abbrev pub Reports : Result Word LexFault → Option UnitFault → Type 0
 Reports (Ok found) unit = ⊥
 Reports (Err f) unit = unit_of f ≡ unit

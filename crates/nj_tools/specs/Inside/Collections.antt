@@ -27,21 +27,21 @@ pub record AreAdded (set : Flags) (files : List FileNo) : Type 0 where
   pub exactly : HasExactly set (map (path_at (files_of set.graph)) files)
   pub known : All (λ file. file.0 < length (files_of set.graph)) files
 
--- the paths with more of them
+-- the paths, with more paths added
 abbrev pub with_paths : (paths more : List (List ℕ)) → List (List ℕ)
 with_paths paths [] = paths
 with_paths paths (path ∷ more) = with_paths (with_name paths path) more
 
--- a path, unless it is one of these already
+-- a path, unless it is among the given paths already
 abbrev pub new_path : (paths : List (List ℕ)) → (path : List ℕ) → List (List ℕ)
 new_path paths path = if is_among paths path then [] else path ∷ []
 
--- of more paths those that are new, without duplicates
+-- the new paths among more paths, without duplicates
 abbrev pub new_paths : (paths more : List (List ℕ)) → List (List ℕ)
 new_paths paths [] = []
 new_paths paths (path ∷ more) = new_path paths path ++ new_paths (with_name paths path) more
 
--- the paths of those files that no edge makes
+-- the paths of the files that no edge makes
 abbrev pub sources_among : List GraphFile → List (List ℕ)
 sources_among files = map (λ file. file.path) (filter (λ file. is_none (maker_of (edges_of file.graph) file.path)) files)
 

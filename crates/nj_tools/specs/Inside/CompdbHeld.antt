@@ -37,7 +37,7 @@ in_json c = record { command = json_string c.command; file = json_string c.file;
 abbrev pub held_compilation : Compilation → Option Compilation
 held_compilation c = if is_text c then Some (in_json c) else None
 
--- the edge with this fault is refused; or an allocation failed
+-- the edge with the given fault is refused; or an allocation failed
 abbrev pub Refuses : (refused : Option GraphFault) → Result Unit ToolFault → Type 0
 Refuses refused (Ok done) = refused ≡ None
 Refuses refused (Err (TextNotUtf8 fault)) = refused ≡ Some fault

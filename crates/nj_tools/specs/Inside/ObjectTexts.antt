@@ -5,7 +5,7 @@ use Rattle.json.specs.Token.{Token, begin_object, key}
 use Rattle.json.specs.Tree.{json_tokens}
 use Rattle.nj_tools.specs.JsonObjects.{strings_are_utf8}
 
--- the tokens so far; none where a string was not UTF-8
+-- the tokens so far; `None` if a string was not UTF-8
 abbrev pub held_tokens : (is_utf8 : Bool) → List Token → Option (List Token)
 held_tokens is_utf8 tokens = if is_utf8 then Some tokens else None
 

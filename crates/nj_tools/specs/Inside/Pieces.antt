@@ -14,7 +14,7 @@ use Rattle.nj_tools.specs.Queries.{query_in}
 abbrev pub path_lines : (beginning : List ℕ) → List GraphFile → List ℕ
 path_lines beginning files = flat_map (λ file. line (beginning ++ file.path)) files
 
--- validations under their title, where there are any
+-- validations under their title, if any
 abbrev pub validation_lines : List GraphFile → List ℕ
 validation_lines files = if is_empty files then [] else line (codes "  validations:") ++ path_lines (codes "    ") files
 
@@ -22,7 +22,7 @@ validation_lines files = if is_empty files then [] else line (codes "  validatio
 abbrev pub output_lines : List GraphEdge → List ℕ
 output_lines edges = flat_map (λ edge. lines_after (codes "    ") (outputs_of (paths_of edge))) edges
 
--- the outputs of the edges that name a file as a validation, under their title, where there are any
+-- the outputs of the edges, if any, that name a file as a validation, under their title
 abbrev pub validated_lines : (users : List GraphEdge) → List ℕ
 validated_lines users = if is_empty users then [] else line (codes "  validation for:") ++ output_lines users
 

@@ -7,7 +7,7 @@ use Rattle.nj_needs.specs.Order.{made_by}
 use Rattle.nj_graph.specs.Graph.{GraphModel, edges_of}
 use Rattle.nj_graph.specs.Handles.{GraphFile}
 
--- the edges of the graph that were seen are these
+-- the given edges are those of the graph that were seen
 pub record AreSeen (graph : GraphModel) (flags : List Bool) (edges : List ℕ) : Type 0 where
   pub count : length flags ≡ length (edges_of graph)
   pub flagged : (e : ℕ) → e < length (edges_of graph) → slice_index_or flags e false ≡ list_any (nat_eq e) edges
@@ -25,6 +25,6 @@ abbrev pub new_of : GraphModel → (earlier : List ℕ) → (maker : Option ℕ)
 new_of graph earlier None = None
 new_of graph earlier (Some e) = if not (list_any (nat_eq e) earlier) && not (is_phony_in (edges_of graph) e) then Some e else None
 
--- the edge that makes a file, if it is such an edge
+-- the edge that makes a file, if it has a command and was not met earlier
 abbrev pub new_command : GraphFile → (earlier : List ℕ) → Option ℕ
 new_command file earlier = new_of file.graph earlier (maker_of (edges_of file.graph) file.path)

@@ -7,7 +7,7 @@ use Rattle.nj_graph.specs.Graph.{GraphModel, edges_of}
 use Rattle.nj_graph.specs.Handles.{GraphFile, files_in}
 use Rattle.nj_tools.specs.Listings.{inputs_of_maker, tree_text}
 
--- the trees of the rest of rows of files, the deepest row last, where this many levels are written
+-- the trees of the rest of rows of files, the deepest row last, where the given number of levels is written
 unfoldable pub rows_text : List ReadStatement → (levels depth : ℕ) → (rows : List (List (List ℕ))) → List ℕ
 rows_text entries levels depth [] = []
 rows_text entries levels depth (row ∷ deeper) =
@@ -27,7 +27,7 @@ rows_after edges levels rows path others =
 abbrev pub rows_of : (rows : List (List GraphFile)) → List (List (List ℕ))
 rows_of rows = map (λ row. map (λ file. file.path) row) rows
 
--- all of them are files of the graph
+-- all files in the rows are files of the graph
 abbrev pub AreIn : GraphModel → (rows : List (List GraphFile)) → Type 0
 AreIn graph rows = AllByRecursion (λ row. AllByRecursion (λ file. file.graph ≡ graph) row) rows
 
@@ -48,7 +48,7 @@ unfoldable pub tree_lines : List EdgePaths → (levels : ℕ) → (path : List �
 tree_lines edges zero path = 0
 tree_lines edges (suc levels) path = 1 + sum_by (tree_lines edges levels) (inputs_of_maker edges (maker_of edges path))
 
--- how many lines are left of such rows
+-- how many lines are left of the rows
 unfoldable pub rows_lines : List EdgePaths → (levels depth : ℕ) → (rows : List (List (List ℕ))) → ℕ
 rows_lines edges levels depth [] = 0
 rows_lines edges levels depth (row ∷ deeper) =

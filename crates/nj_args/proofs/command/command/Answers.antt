@@ -5,7 +5,7 @@ use Rattle.clap.specs.Words.{Rule, with_rule}
 use Rattle.nj_args.specs.CommandLine.{command, nothing_yet, arguments}
 use Rattle.nj_args.proofs.command.command.Goals as goal
 
--- without the last
+-- without the last option
 abbrev options : List Rule
 options = take 14 arguments
 

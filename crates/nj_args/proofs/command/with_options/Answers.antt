@@ -6,7 +6,7 @@ use Rattle.clap.specs.Words.{App, Rule, app_of, with_rule}
 use Rattle.nj_args.specs.Inside.Held.{option_at}
 use Rattle.nj_args.proofs.command.with_options.Goals as goal
 
--- one more
+-- one more option
 added : {X : Type 0} (rule : X → Rule) (start app next : App) (options : List X) (i : ℕ) (d : X)
     → i < length options
     → app ≡ fold with_rule start (map rule (take i options))

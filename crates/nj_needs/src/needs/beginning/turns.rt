@@ -2,7 +2,7 @@
 //! one turn, and is counted.
 //!
 //! The fields are private, and the constructor is visible only in the module above, where a walk
-//! begins. So whoever is handed a `Turns` takes turns by it alone, and no count can be dropped.
+//! begins. So whoever is handed a `Turns` takes turns only by it, and no count can be dropped.
 
 ghost use Rattle.std.specs.Prelude.{◌≡◌, ◌+◌, ◌^◌, ◌<◌, length, true, All, IfSome, is_some, option_map, slice_get, slice_set, if◌then◌else◌};
 ghost use Rattle.std.specs.Option.{ForSome};
@@ -50,8 +50,8 @@ impl<'g> Turns<'g> {
         self.graph.edge_count()
     }
 
-    /// A look at a place: in the inputs of an edge, or in the targets if there is none. `None` past
-    /// the end, which takes no turn, and `Some(None)` at a source.
+    /// A look at a place: in the inputs of an edge, or in the targets if no edge is given. Returns
+    /// `None` past the end, which takes no turn, and `Some(None)` at a source.
     pub fn look(&mut self, edge: Option<EdgeNo>, place: usize) -> Option<Option<EdgeNo>>
         requires { ForSome edge (λ e. e.0 < count_of self.old.graph.now) }
         ensures found { option_map number_of result

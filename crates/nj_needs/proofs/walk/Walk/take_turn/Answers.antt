@@ -40,7 +40,7 @@ close-requires-clause-past c =
     (comes w c.as_slice.result.now c.top_edge-edge.result None c.as_slice.ensures c.top_edge-edge.ensures
     c.in_default.ensures.found)
 
--- a source is no edge
+-- a source is not an edge
 source : (found : Option EdgeNo) → ((e : EdgeNo) → found ≡ Some e → ⊥) → (m : ℕ) → number_of found ≡ Some m
     → ⊥
 source found none m is = let e = numbered found m is in none e.0 e.1
@@ -92,7 +92,7 @@ get-requires c =
     c.as_slice.ensures c.top_edge-edge.ensures c.in-Some.ensures.found c.in-Some-found.is) in
     omega (arith, low)
 
--- the flag of the maker tells whether it is done
+-- the flag of the maker is set exactly if the maker is done
 is_done : (w : Walk) (maker : ℕ) (flag : Bool) → slice_get w.flags.items maker ≡ Some flag
     → get_or w.flags.items maker false ≡ flag
 is_done w maker flag is = get_or_from_slice_get w.flags.items maker flag false is
