@@ -17,8 +17,8 @@
 //! 5. nothing: the value is empty.
 //!
 //! The pool and the dyndep file of an edge are looked up at its statement, so that step 4 uses the
-//! state of the scope at that point. So are the names in the words of a `build` line, for which only steps 2
-//! and 4 apply.
+//! state of the scope at that point. So are the names in the words of a `build` line, for which only
+//! steps 2 and 4 apply.
 #![tactic(auto)]
 
 mod binding_order;
