@@ -7,8 +7,8 @@ copy outside the repository, by `rt must-fail`, which begins with what `rt check
 
 --gate writes nothing. It tries the edits of the crates whose state is another by `rt ci`, over what
 that proved before, and up to four edits of each of two crates whose state is the same: they have to
-be refused where the file says. The hash of the commit chooses them, one crate from the lower half.
-With --all it tries all edits. --table FILE writes what each step took.
+be refused where the file says. The hash of the commit chooses them among crates that are checked in
+a few minutes, one from the lower half. With --all it tries all edits. --table FILE writes what each step took.
 
 The last line is `N passed, M failed`, and the status is 1 if an edit was not refused.
 """
@@ -28,6 +28,9 @@ from lib.sources import Sources
 MEASURED = [sys.executable, ROOT / "scripts/measure_gate.py"]
 # The most edits that the gate tries of a crate whose state is the recorded one.
 MOST_AGAIN = 4
+# Crates whose check takes more than five minutes of CPU time (docs/GATE.md), which the gate does not
+# choose.
+LARGE = {"nj_ask", "nj_audit", "nj_c", "nj_edges", "nj_graph", "nj_statements", "nj_tools"}
 
 
 def passed_on(command, folder):
@@ -115,7 +118,7 @@ def gate(everything, table, sources, record):
     known = edits.edited_crates(sources)
     fitting = [it for it in known if record.fits(it, sources)]
     others = [it for it in known if it not in fitting]
-    again = fitting if everything else chosen(fitting, commit())
+    again = fitting if everything else chosen([it for it in fitting if it not in LARGE], commit())
     print(f"Edits of crates that changed since theirs were refused: {', '.join(others) or 'none'}")
     print(f"Edits that are tried again, of {len(fitting)} crates: {', '.join(again) or 'none'}")
     crates = [it for it in known if it in others or it in again]
