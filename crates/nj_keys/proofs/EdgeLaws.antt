@@ -192,7 +192,7 @@ alike folders e f keys more few none never short also is =
 
 -- ---- edges of the same key
 
-key-is : (folders : List (List ℕ)) (e : StatedEdge) (key : List ℕ) (fields : Fields)
+pub key-is : (folders : List (List ℕ)) (e : StatedEdge) (key : List ℕ) (fields : Fields)
     → IsKey folders e.edges e.entries e.number key → AreFieldsOf folders e fields
     → key ≡ sha256 (fields_text fields)
 key-is folders e key fields is are =

@@ -15,7 +15,7 @@ use Rattle.nj_graph.specs.declared.Kind.TheVariants.{Explicit, Implicit, OrderOn
 use Rattle.nj_keys.specs.Keys.{bars, field, fields_text, input_text, number, Fields, InputFields}
 use Rattle.nj_keys.specs.Keys.{TextsTellFields}
 
-own : IsNumeralModel (λ ds. all_ascii_digits ds ≡ true) (digits_value 10)
+pub own : IsNumeralModel (λ ds. all_ascii_digits ds ≡ true) (digits_value 10)
 own = numerals_by_value (λ ds. all_ascii_digits ds ≡ true) tells_all_ascii_digits
 
 both-true : (s t : Bool) → s && t ≡ true → (s ≡ true) × (t ≡ true)
@@ -26,7 +26,7 @@ not-colon : (d : ℕ) → is_ascii_digit d ≡ true → 58 ≡ d → ⊥
 not-colon d digit is = let colon : is_ascii_digit 58 ≡ true = ap is_ascii_digit is ∙ digit in absurd cc
 
 -- the bytes before the first colon, and those after it
-cut : (ds es r s : List ℕ) → all_ascii_digits ds ≡ true → all_ascii_digits es ≡ true
+pub cut : (ds es r s : List ℕ) → all_ascii_digits ds ≡ true → all_ascii_digits es ≡ true
     → ds ++ 58 ∷ r ≡ es ++ 58 ∷ s → (ds ≡ es) × (r ≡ s)
 cut [] [] r s all also is = (refl, cc)
 cut [] (e ∷ es) r s all also is = absurd
@@ -40,7 +40,7 @@ cut (d ∷ ds) (e ∷ es) r s all also is =
     (ap (λ n. n ∷ ds) first ∙ ap (λ ns. e ∷ ns) rest.0, rest.1)
 
 -- a number in front of a text
-one-number : (m n : ℕ) (x y : List ℕ) → m < 2 ^ 64 → n < 2 ^ 64 → number m ++ x ≡ number n ++ y
+pub one-number : (m n : ℕ) (x y : List ℕ) → m < 2 ^ 64 → n < 2 ^ 64 → number m ++ x ≡ number n ++ y
     → (m ≡ n) × (x ≡ y)
 one-number m n x y fits also is =
     let whole = sym (append_assoc (decimal m) (58 ∷ []) x) ∙ is ∙ append_assoc (decimal n) (58 ∷ []) y in
@@ -64,7 +64,7 @@ one-field a b x y fits also is =
 abbrev IsShort : List ℕ → Type 0
 IsShort text = length text < 2 ^ 64
 
-same-fields : (cs bs : List (List ℕ)) (x y : List ℕ) → length cs ≡ length bs → AllByRecursion IsShort cs
+pub same-fields : (cs bs : List (List ℕ)) (x y : List ℕ) → length cs ≡ length bs → AllByRecursion IsShort cs
     → AllByRecursion IsShort bs
     → flat_map field cs ++ x ≡ flat_map field bs ++ y → (cs ≡ bs) × (x ≡ y)
 same-fields [] [] x y count fit also is = (refl, is)
@@ -137,12 +137,12 @@ same-inputs (i ∷ is) (j ∷ js) fit also same =
 
 -- ---- all fields
 
-abbrev after_command : Fields → List ℕ
+abbrev pub after_command : Fields → List ℕ
 after_command f = field f.response_file
     ++ (field f.response ++ (number (length f.outputs)
     ++ (flat_map field f.outputs ++ flat_map input_text f.inputs)))
 
-in-parts : (f : Fields) → fields_text f ≡ field f.command ++ after_command f
+pub in-parts : (f : Fields) → fields_text f ≡ field f.command ++ after_command f
 in-parts f =
     let command = field f.command in
     let file = field f.response_file in

@@ -1,3 +1,4 @@
+mod AdditionLaws
 mod BaseLaws
 mod BaseLemmas
 mod BaseRows

@@ -4,7 +4,7 @@ use Rattle.std.proofs.Common.{append_assoc, arith}
 use Rattle.std.proofs.lemmas.List.{append-nil, length_push, reverse-append, reverse-reverse}
 use Rattle.nj_graph.specs.ReadingList.{ReadStatement}
 use Rattle.nj_graph.specs.Edges.{EdgePaths}
-use Rattle.nj_keys.specs.Keys.{line, IsKey, LinesAreUnique, ListsKeys, PagesOfLinesJoin}
+use Rattle.nj_keys.specs.Keys.{key_with, line, IsKey, LinesAreUnique, ListsKeys, PagesOfLinesJoin}
 use Rattle.nj_keys.specs.Keys.ListsKeys.{none, last}
 use Rattle.nj_keys.proofs.KeyLaws.{unique}
 
@@ -18,9 +18,9 @@ last-same xs ys x y is =
     let front : reverse xs ≡ reverse ys = cc in
     (sym (reverse-reverse xs) ∙ ap reverse front ∙ reverse-reverse ys, cc)
 
-module _ (folders : List (List ℕ)) (edges : List EdgePaths) (entries : List ReadStatement) where
+module _ (additions folders : List (List ℕ)) (edges : List EdgePaths) (entries : List ReadStatement) where
   one-text : (numbers others text other : List ℕ) → numbers ≡ others
-      → ListsKeys folders edges entries numbers text → ListsKeys folders edges entries others other
+      → ListsKeys additions folders edges entries numbers text → ListsKeys additions folders edges entries others other
       → text ≡ other
   one-text _ _ _ _ same none none = refl
   one-text _ _ _ _ same none (last {numbers = ms} {e = f} are key) = absurd (last-apart ms f same)
@@ -30,25 +30,25 @@ module _ (folders : List (List ℕ)) (edges : List EdgePaths) (entries : List Re
       let both = last-same ns ms e f same in
       let keys = unique folders edges entries f k l (subst (λ n. IsKey folders edges entries n k) both.1 key)
       more in
-      ap (λ t. t ++ line edges e k) (one-text ns ms text other both.0 are also)
-      ∙ ap (λ n. other ++ line edges n k) both.1 ∙ ap (λ key. other ++ line edges f key) keys
+      ap (λ t. t ++ line edges e (key_with additions k)) (one-text ns ms text other both.0 are also)
+      ∙ ap (λ n. other ++ line edges n (key_with additions k)) both.1 ∙ ap (λ key. other ++ line edges f (key_with additions key)) keys
 
-  joined : (numbers more text rest : List ℕ) → ListsKeys folders edges entries numbers text
-      → ListsKeys folders edges entries more rest
-      → ListsKeys folders edges entries (numbers ++ more) (text ++ rest)
+  joined : (numbers more text rest : List ℕ) → ListsKeys additions folders edges entries numbers text
+      → ListsKeys additions folders edges entries more rest
+      → ListsKeys additions folders edges entries (numbers ++ more) (text ++ rest)
   joined numbers _ text _ are none =
-      subst (λ ns. ListsKeys folders edges entries ns (text ++ [])) (sym (append-nil numbers))
-      (subst (ListsKeys folders edges entries numbers) (sym (append-nil text)) are)
+      subst (λ ns. ListsKeys additions folders edges entries ns (text ++ [])) (sym (append-nil numbers))
+      (subst (ListsKeys additions folders edges entries numbers) (sym (append-nil text)) are)
   joined numbers _ text _ are (last {numbers = ms} {text = rest} {e = e} {key = k} also key) =
-      subst (λ ns. ListsKeys folders edges entries ns (text ++ (rest ++ line edges e k)))
+      subst (λ ns. ListsKeys additions folders edges entries ns (text ++ (rest ++ line edges e (key_with additions k))))
       (append_assoc numbers ms (e ∷ []))
-      (subst (ListsKeys folders edges entries ((numbers ++ ms) ++ e ∷ []))
-      (append_assoc text rest (line edges e k)) (last (joined numbers ms text rest are also) key))
+      (subst (ListsKeys additions folders edges entries ((numbers ++ ms) ++ e ∷ []))
+      (append_assoc text rest (line edges e (key_with additions k))) (last (joined numbers ms text rest are also) key))
 
 pub one : LinesAreUnique
-one folders edges entries numbers text other are also =
-    one-text folders edges entries numbers numbers text other refl are also
+one additions folders edges entries numbers text other are also =
+    one-text additions folders edges entries numbers numbers text other refl are also
 
 pub join : PagesOfLinesJoin
-join folders edges entries numbers more text rest are also =
-    joined folders edges entries numbers more text rest are also
+join additions folders edges entries numbers more text rest are also =
+    joined additions folders edges entries numbers more text rest are also

@@ -78,21 +78,21 @@ leaves files entries graph mark limit (Some next) stopped =
           ∙ ap (λ es. written limit (left_at files mark) ++ es) (sym kept.1),
     )
 
-module _ (folders : List (List ℕ)) (files : GraphFiles) (entries : List ReadStatement)
+module _ (additions folders : List (List ℕ)) (files : GraphFiles) (entries : List ReadStatement)
     (graph : IsGraphOf files.graph entries) where
-  joined : (mark : Option (List ℕ)) (texts : List (List ℕ)) → ArePages folders files entries mark texts
-      → ListsKeys folders (edges_of files.graph) entries (left_from files mark) (concat texts)
+  joined : (mark : Option (List ℕ)) (texts : List (List ℕ)) → ArePages additions folders files entries mark texts
+      → ListsKeys additions folders (edges_of files.graph) entries (left_from files mark) (concat texts)
   joined _ _ none = nothing
   joined _ _ (page {mark = mark} {text = text} {next = next} {texts = texts} limit stops lists more) =
-      subst (λ ns. ListsKeys folders (edges_of files.graph) entries ns (text ++ concat texts))
+      subst (λ ns. ListsKeys additions folders (edges_of files.graph) entries ns (text ++ concat texts))
       (sym (leaves files entries graph mark limit next stops).1)
-      (join folders (edges_of files.graph) entries (written limit (left_at files mark)) (left_from files next)
+      (join additions folders (edges_of files.graph) entries (written limit (left_at files mark)) (left_from files next)
       text
       (concat texts) lists (joined next texts more))
 
 pub all-pages : PagesAreAll
-all-pages folders files entries graph mark texts pages =
-    joined folders files entries graph (Some mark) texts pages
+all-pages additions folders files entries graph mark texts pages =
+    joined additions folders files entries graph (Some mark) texts pages
 
 pub start : StartLeavesAll
 start files = ap (edges_in files.graph) (without-none _)

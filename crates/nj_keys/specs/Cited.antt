@@ -9,6 +9,10 @@ pub use Rattle.std.specs.List.{flat_map}
 pub use Rattle.nj_graph.specs.Edges.{outputs_of, maker_of, first_output}
 pub use Rattle.nj_keys.specs.Keys.{bars, field, fields_of, fields_text, input_text, inputs_with_keys, maker_key, number, response_of}
 pub use Rattle.nj_keys.specs.Keys.{variable_of, IsKey, Needs, EdgesHaveKeys, KeysAreUnique, LinesAreUnique, PagesOfLinesJoin}
+pub use Rattle.nj_keys.specs.Keys.{AdditionsTell, additions_text, key_with}
+pub use Rattle.nj_keys.specs.Inside.Additions.{digest_of_additions, key_after}
+pub use Rattle.sha2.specs.Sha256.{sha256}
+pub use Rattle.hex.specs.Hex.{encode_lower}
 pub use Rattle.nj_keys.specs.Keys.{TextsTellFields, TextsTellEdges, TextsTellMapped, KeysTellFields, line, ListsKeys}
 pub use Rattle.nj_keys.specs.Inside.Keeping.{kept_key, inputs_in, made_by, IsAcyclic, IsKept, IsMissing, KeepsKeys, MakesOne}
 pub use Rattle.nj_keys.specs.Inside.FileTexts.{input_texts, path_texts}

@@ -111,18 +111,31 @@ pub data IsKey (folders : List (List ℕ)) (edges : List EdgePaths) (entries : L
   digest : {e : ℕ} (keys : ℕ → List ℕ) → ((f : ℕ) → Needs edges e f → IsKey folders edges entries f (keys f))
       → IsKey folders edges entries e (sha256 (fields_text (fields_of folders edges entries keys e)))
 
+-- ---- additions
+
+-- the text of additions: how many there are, and a field for each
+abbrev pub additions_text : (additions : List (List ℕ)) → List ℕ
+additions_text additions = number (length additions) ++ flat_map field additions
+
+-- A key with additions: the SHA-256 of a colon, the SHA-256 of their text, and the key. No text of fields begins with a colon. Without
+-- additions it is the key itself.
+abbrev pub key_with : (additions : List (List ℕ)) → (key : List ℕ) → List ℕ
+key_with [] key = key
+key_with (text ∷ additions) key = sha256 (58 ∷ sha256 (additions_text (text ∷ additions)) ++ key)
+
 -- ---- lines
 
 -- a key in hexadecimal digits, and the first output of its edge
 abbrev pub line : List EdgePaths → (edge : ℕ) → (key : List ℕ) → List ℕ
 line edges edge key = encode_lower key ++ 32 ∷ unwrap_or (first_output (edge_at edges edge)) [] ++ 10 ∷ []
 
--- The text has a line for each of the given edges, in their order, with its key.
-pub data ListsKeys (folders : List (List ℕ)) (edges : List EdgePaths) (entries : List ReadStatement) :
+-- The text has a line for each of the given edges, in their order, with its key and the additions.
+pub data ListsKeys (additions folders : List (List ℕ)) (edges : List EdgePaths) (entries : List ReadStatement) :
     (numbers : List ℕ) → (text : List ℕ) → Type 0 where
-  none : ListsKeys folders edges entries [] []
-  last : {numbers text : List ℕ} {e : ℕ} {key : List ℕ} → ListsKeys folders edges entries numbers text → IsKey folders edges entries e key
-      → ListsKeys folders edges entries (numbers ++ e ∷ []) (text ++ line edges e key)
+  none : ListsKeys additions folders edges entries [] []
+  last : {numbers text : List ℕ} {e : ℕ} {key : List ℕ} → ListsKeys additions folders edges entries numbers text
+      → IsKey folders edges entries e key
+      → ListsKeys additions folders edges entries (numbers ++ e ∷ []) (text ++ line edges e (key_with additions key))
 
 -- ---- laws
 
@@ -236,13 +249,32 @@ abbrev pub EdgesHaveKeys : Type 0
 EdgesHaveKeys = (folders : List (List ℕ)) (g : GraphModel) (entries : List ReadStatement) → IsGraphOf g entries
     → (e : ℕ) → e < length (edges_of g) → (key : List ℕ) × IsKey folders (edges_of g) entries e key
 
+-- two different texts have the same SHA-256
+abbrev pub HasConfusion : Type 0
+HasConfusion = (one other : List ℕ) × AreConfused one other
+
+-- the number of additions and the length of each are below 2^64, as for all that memory holds
+pub record AreShortAdditions (additions : List (List ℕ)) : Type 0 where
+  pub count : length additions < 2 ^ 64
+  pub lengths : AllByRecursion (λ text. length text < 2 ^ 64) additions
+
+-- Two keys of edges that are the same with their additions are the same, and so are the additions, unless SHA-256 confuses two texts. So a key
+-- that was made with one compiler is not a key that was made with another.
+abbrev pub AdditionsTell : Type 0
+AdditionsTell = (additions others folders bases : List (List ℕ)) (e f : StatedEdge) (key other : List ℕ) (one two : Fields)
+    → AreShortAdditions additions → AreShortAdditions others
+    → IsKey folders e.edges e.entries e.number key → IsKey bases f.edges f.entries f.number other
+    → AreFieldsOf folders e one → AreFieldsOf bases f two → AreShort one → AreShort two
+    → key_with additions key ≡ key_with others other → ((additions ≡ others) × (key ≡ other)) ⊎ HasConfusion
+
 -- a list of edges has only one text
 abbrev pub LinesAreUnique : Type 0
-LinesAreUnique = (folders : List (List ℕ)) (edges : List EdgePaths) (entries : List ReadStatement) (numbers text other : List ℕ)
-    → ListsKeys folders edges entries numbers text → ListsKeys folders edges entries numbers other → text ≡ other
+LinesAreUnique = (additions folders : List (List ℕ)) (edges : List EdgePaths) (entries : List ReadStatement) (numbers text other : List ℕ)
+    → ListsKeys additions folders edges entries numbers text → ListsKeys additions folders edges entries numbers other → text ≡ other
 
 -- the texts of two pages, one after the other, are the text of the edges of both
 abbrev pub PagesOfLinesJoin : Type 0
-PagesOfLinesJoin = (folders : List (List ℕ)) (edges : List EdgePaths) (entries : List ReadStatement) (numbers more text rest : List ℕ)
-    → ListsKeys folders edges entries numbers text → ListsKeys folders edges entries more rest
-    → ListsKeys folders edges entries (numbers ++ more) (text ++ rest)
+PagesOfLinesJoin = (additions folders : List (List ℕ)) (edges : List EdgePaths) (entries : List ReadStatement)
+    (numbers more text rest : List ℕ)
+    → ListsKeys additions folders edges entries numbers text → ListsKeys additions folders edges entries more rest
+    → ListsKeys additions folders edges entries (numbers ++ more) (text ++ rest)

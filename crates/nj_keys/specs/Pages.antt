@@ -55,18 +55,18 @@ PagesLeaveTheRest = (files : GraphFiles) (entries : List ReadStatement) → IsGr
 
 -- The texts of pages with any limits: each page begins at the mark where the page before stopped, and the last page stops
 -- without a mark.
-pub data ArePages (folders : List (List ℕ)) (files : GraphFiles) (entries : List ReadStatement) :
+pub data ArePages (additions folders : List (List ℕ)) (files : GraphFiles) (entries : List ReadStatement) :
     (mark : Option (List ℕ)) → (texts : List (List ℕ)) → Type 0 where
-  none : ArePages folders files entries None []
+  none : ArePages additions folders files entries None []
   page : {mark text : List ℕ} {next : Option (List ℕ)} {texts : List (List ℕ)} (limit : Option ℕ) → StopsFrom files mark limit next
-      → ListsKeys folders (edges_of files.graph) entries (written limit (left_at files mark)) text
-      → ArePages folders files entries next texts → ArePages folders files entries (Some mark) (text ∷ texts)
+      → ListsKeys additions folders (edges_of files.graph) entries (written limit (left_at files mark)) text
+      → ArePages additions folders files entries next texts → ArePages additions folders files entries (Some mark) (text ∷ texts)
 
 -- so the texts of pages, one after another, are the text of all edges that were left at the first mark
 abbrev pub PagesAreAll : Type 0
-PagesAreAll = (folders : List (List ℕ)) (files : GraphFiles) (entries : List ReadStatement) → IsGraphOf files.graph entries
-    → (mark : List ℕ) (texts : List (List ℕ)) → ArePages folders files entries (Some mark) texts
-    → ListsKeys folders (edges_of files.graph) entries (left_at files mark) (concat texts)
+PagesAreAll = (additions folders : List (List ℕ)) (files : GraphFiles) (entries : List ReadStatement) → IsGraphOf files.graph entries
+    → (mark : List ℕ) (texts : List (List ℕ)) → ArePages additions folders files entries (Some mark) texts
+    → ListsKeys additions folders (edges_of files.graph) entries (left_at files mark) (concat texts)
 
 -- and at the empty mark, before the first page, every command that the files need is left
 abbrev pub StartLeavesAll : Type 0

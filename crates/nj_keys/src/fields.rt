@@ -144,8 +144,8 @@ fn push_mapped(text: &mut Vec<u8>, bases: &Bases, bytes: &[u8]) -> Result<(), Al
     push_field(text, &mapped)
 }
 
-// Appends a field: its length, a colon, its bytes.
-fn push_field(text: &mut Vec<u8>, bytes: &[u8]) -> Result<(), AllocError>
+/// Appends a field: its length, a colon, its bytes.
+pub(crate) fn push_field(text: &mut Vec<u8>, bytes: &[u8]) -> Result<(), AllocError>
     ensures { OnOk result (text.new.items ≡ text.old.items ++ field bytes.now) }
 {
     push_number(text, bytes.len())?;
@@ -153,8 +153,8 @@ fn push_field(text: &mut Vec<u8>, bytes: &[u8]) -> Result<(), AllocError>
     Ok(())
 }
 
-// Appends a number and a colon.
-fn push_number(text: &mut Vec<u8>, count: usize) -> Result<(), AllocError>
+/// Appends a number and a colon.
+pub(crate) fn push_number(text: &mut Vec<u8>, count: usize) -> Result<(), AllocError>
     ensures { OnOk result (text.new.items ≡ text.old.items ++ number count) }
 {
     text.extend_from_slice(Buffer::new().format(count).as_bytes())?;

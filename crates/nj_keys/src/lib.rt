@@ -1,6 +1,7 @@
 //! Keys of edges, under which a cache may keep the outputs of their commands.
 #![tactic(auto)]
 
+mod additions;
 mod bases;
 mod fields;
 mod keys;
@@ -8,5 +9,5 @@ mod laws;
 mod pages;
 
 pub use bases::Bases;
-pub use laws::{bases_law, edges_law, fields_law, keys_law, lines_law, pages_law};
+pub use laws::{additions_law, bases_law, edges_law, fields_law, keys_law, lines_law, pages_law};
 pub use pages::{Page, page_from};

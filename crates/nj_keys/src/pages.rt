@@ -1,8 +1,9 @@
 //! The lines of commands, in pages.
 
-ghost use Rattle.std.specs.Prelude.{◌≡◌, ◌++◌, ◌⊎◌, [], true, false, IfErr, IfOk, OnOk, unwrap_or};
-ghost use Rattle.nj_keys.specs.Cited.{edge_of, paths_of, OfStatements, first_output, leads, left_at, BeginsAfter, WalkState, written, StopsAt, edges_of, line, ListsKeys, kept_key};
+ghost use Rattle.std.specs.Prelude.{◌≡◌, ◌++◌, ◌⊎◌, [], true, false, IfErr, IfOk, OnOk, map, unwrap_or};
+ghost use Rattle.nj_keys.specs.Cited.{edge_of, paths_of, OfStatements, first_output, leads, left_at, BeginsAfter, WalkState, written, StopsAt, edges_of, line, ListsKeys, key_after, kept_key};
 
+use crate::additions::{digest_of_additions, digits_of};
 use crate::bases::Bases;
 use crate::fields::{Key, kept_key};
 use crate::keys::keep_key;
@@ -19,7 +20,8 @@ pub struct Page {
 
 /// Returns the lines of the commands that the targets need, from a mark on: at most `take` lines,
 /// if that is a limit. A line is the key of an edge in hexadecimal digits, a space and its first
-/// output. In the contents of a key a number stands for each base.
+/// output. In the contents of a key a number stands for each base. The additions go into every key:
+/// they name what commands depend on besides files, such as a compiler's version.
 ///
 /// # Errors
 ///
@@ -28,6 +30,7 @@ pub struct Page {
 pub fn page_from(
     alloc: Global,
     bases: &Bases,
+    additions: &[&[u8]],
     targets: &FileList<'_>,
     mark: &Mark,
     take: Option<u64>,
@@ -36,14 +39,15 @@ pub fn page_from(
     ensures refused { IfErr result (λ fault. (fault ≡ MarkFault.OutOfMemory)
         ⊎ ((fault ≡ MarkFault.MarkOutOfRange) × (leads targets.now mark.now ≡ false))) }
     ensures lines { OfStatements targets.now.graph (λ entries.
-        IfOk result (λ page. ListsKeys bases.now (edges_of targets.now.graph) entries
-        (written take (left_at targets.now mark.now)) page.lines.items)) }
+        IfOk result (λ page. ListsKeys (map (λ text. text.now) additions.now) bases.now
+        (edges_of targets.now.graph) entries (written take (left_at targets.now mark.now))
+        page.lines.items)) }
     ensures mark { IfOk result (λ page. (walk : WalkState)
         × BeginsAfter targets.now mark.now walk × StopsAt walk take page.mark) }
 {
     let graph = targets.graph();
     let mut needs = Needs::resume(alloc, graph, targets.numbers(), mark)?;
-    let page = next_page(alloc, graph, bases, &mut needs, take)?;
+    let page = next_page(alloc, graph, bases, additions, &mut needs, take)?;
     Ok(page)
 }
 
@@ -52,35 +56,42 @@ fn next_page(
     alloc: Global,
     graph: &Graph,
     bases: &Bases,
+    additions: &[&[u8]],
     needs: &mut Needs<'_>,
     take: Option<u64>,
 ) -> Result<Page, AllocError>
     requires { needs.old.graph ≡ graph.now.built.graph }
     ensures lines { OfStatements graph.now (λ entries.
-        IfOk result (λ page. ListsKeys bases.now (edges_of graph.now) entries
-        (written take needs.old.left) page.lines.items)) }
+        IfOk result (λ page. ListsKeys (map (λ text. text.now) additions.now) bases.now
+        (edges_of graph.now) entries (written take needs.old.left) page.lines.items)) }
     ensures mark { IfOk result (λ page. StopsAt needs.old take page.mark) }
 {
     let mut kept: Vec<Option<Key>> = vec![in alloc; None; graph.edge_count()]?;
     let keys = kept.as_mut_slice();
+    let added = digest_of_additions(alloc, additions)?;
     let mut lines = Vec::new(alloc);
     let mut room = take;
     'commands: while let Some(number) = needs.next_on_page(&mut room) {
         let edge = graph.edge_at(number);
         keep_key(alloc, edge, bases, keys)?;
-        push_line(&mut lines, edge, keys)?;
+        push_line(&mut lines, edge, added, keys)?;
     }
     let mark = needs.mark_after_page(alloc, room)?;
     Ok(Page { lines, mark })
 }
 
-// Appends the line of an edge, with its kept key.
-fn push_line(lines: &mut Vec<u8>, edge: Edge<'_>, keys: &[Option<Key>]) -> Result<(), AllocError>
+// Appends the line of an edge, with its kept key, after additions with the given digest.
+fn push_line(
+    lines: &mut Vec<u8>,
+    edge: Edge<'_>,
+    additions: Option<Key>,
+    keys: &[Option<Key>],
+) -> Result<(), AllocError>
     ensures { OnOk result (lines.new.items ≡ lines.old.items
         ++ line (edges_of (edge_of edge.entry).graph) (edge_of edge.entry).number
-        (kept_key keys.now (edge_of edge.entry).number)) }
+        (key_after additions (kept_key keys.now (edge_of edge.entry).number))) }
 {
-    let digits = hex::encode(*lines.allocator(), kept_key(keys, edge.number()))?;
+    let digits = digits_of(*lines.allocator(), additions, kept_key(keys, edge.number()))?;
     lines.extend_from_slice(digits.as_bytes())?;
     lines.push(b' ')?;
     lines.extend_from_slice(first_output(edge))?;

@@ -1,4 +1,4 @@
-use Rattle.std.proofs.Common.{ℕ, List, length}
+use Rattle.std.proofs.Common.{ℕ, List, length, map}
 use Rattle.nj_graph.specs.ReadingList.{ReadStatement}
 use Rattle.nj_needs.specs.PageWalks.{HasSoFar}
 use Rattle.nj_graph.specs.Graph.{edges_of, IsGraphOf}
@@ -13,7 +13,7 @@ invariant-commands l = record {
   keys : (entries : List ReadStatement) → IsGraphOf l.graph entries
       → KeepsKeys l.bases (edges_of l.graph) entries l.keys;
   lines : (entries : List ReadStatement) → IsGraphOf l.graph entries
-      → ListsKeys l.bases (edges_of l.graph) entries numbers l.lines.items;
+      → ListsKeys (map (λ text. text.now) l.additions) l.bases (edges_of l.graph) entries numbers l.lines.items;
 }
 
 abbrev pub decreases-commands : goal.decreases-commands

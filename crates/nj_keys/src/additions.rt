@@ -1,0 +1,71 @@
+//! Texts that go into every key.
+
+ghost use Rattle.std.specs.Prelude.{◌≡◌, ◌++◌, ◌∷◌, IfOk, OnOk, length, map, string_bytes};
+ghost use Rattle.nj_keys.specs.Cited.{additions_text, digest_of_additions, encode_lower, field, flat_map, key_after, number, sha256};
+
+use crate::fields::{Key, push_field, push_number};
+use sha2::{Digest, Sha256};
+use std::alloc::{AllocError, Global};
+
+/// Returns the digest of the text of additions; `None` without additions.
+pub(crate) fn digest_of_additions(
+    alloc: Global,
+    additions: &[&[u8]],
+) -> Result<Option<Key>, AllocError>
+    ensures { IfOk result (λ digest.
+        digest ≡ digest_of_additions (map (λ text. text.now) additions.now)) }
+{
+    if additions.is_empty() {
+        return Ok(None);
+    }
+    let text = additions_text(alloc, additions)?;
+    Ok(Some(Sha256::digest(text.as_slice())))
+}
+
+// Returns the text of additions: how many there are, and a field for each.
+fn additions_text(alloc: Global, additions: &[&[u8]]) -> Result<Vec<u8>, AllocError>
+    ensures { IfOk result (λ text.
+        text.items ≡ additions_text (map (λ text. text.now) additions.now)) }
+{
+    let mut text = Vec::new(alloc);
+    push_number(&mut text, additions.len())?;
+    push_additions(&mut text, additions)?;
+    Ok(text)
+}
+
+// Appends a field for each addition.
+fn push_additions(text: &mut Vec<u8>, additions: &[&[u8]]) -> Result<(), AllocError>
+    ensures { OnOk result (text.new.items
+        ≡ text.old.items ++ flat_map field (map (λ text. text.now) additions.now)) }
+{
+    'additions: for addition in additions {
+        push_field(text, addition)?;
+    }
+    Ok(())
+}
+
+/// Returns the hexadecimal digits of a key with additions that have the given digest.
+pub(crate) fn digits_of(
+    alloc: Global,
+    additions: Option<Key>,
+    key: &[u8],
+) -> Result<String, AllocError>
+    ensures { IfOk result (λ digits.
+        string_bytes digits ≡ encode_lower (key_after additions key.now)) }
+{
+    match additions {
+        Some(digest) => hex::encode(alloc, &key_after(alloc, &digest, key)?),
+        None => hex::encode(alloc, key),
+    }
+}
+
+// Returns the SHA-256 of a colon, the digest of additions, and a key.
+fn key_after(alloc: Global, digest: &[u8], key: &[u8]) -> Result<Key, AllocError>
+    ensures { IfOk result (λ added. added ≡ sha256 (58 ∷ digest.now ++ key.now)) }
+{
+    let mut text = Vec::new(alloc);
+    text.push(b':')?;
+    text.extend_from_slice(digest)?;
+    text.extend_from_slice(key)?;
+    Ok(Sha256::digest(text.as_slice()))
+}
