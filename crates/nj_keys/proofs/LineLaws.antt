@@ -20,7 +20,8 @@ last-same xs ys x y is =
 
 module _ (additions folders : List (List ℕ)) (edges : List EdgePaths) (entries : List ReadStatement) where
   one-text : (numbers others text other : List ℕ) → numbers ≡ others
-      → ListsKeys additions folders edges entries numbers text → ListsKeys additions folders edges entries others other
+      → ListsKeys additions folders edges entries numbers text
+      → ListsKeys additions folders edges entries others other
       → text ≡ other
   one-text _ _ _ _ same none none = refl
   one-text _ _ _ _ same none (last {numbers = ms} {e = f} are key) = absurd (last-apart ms f same)
@@ -31,7 +32,8 @@ module _ (additions folders : List (List ℕ)) (edges : List EdgePaths) (entries
       let keys = unique folders edges entries f k l (subst (λ n. IsKey folders edges entries n k) both.1 key)
       more in
       ap (λ t. t ++ line edges e (key_with additions k)) (one-text ns ms text other both.0 are also)
-      ∙ ap (λ n. other ++ line edges n (key_with additions k)) both.1 ∙ ap (λ key. other ++ line edges f (key_with additions key)) keys
+      ∙ ap (λ n. other ++ line edges n (key_with additions k)) both.1
+      ∙ ap (λ key. other ++ line edges f (key_with additions key)) keys
 
   joined : (numbers more text rest : List ℕ) → ListsKeys additions folders edges entries numbers text
       → ListsKeys additions folders edges entries more rest
@@ -40,10 +42,12 @@ module _ (additions folders : List (List ℕ)) (edges : List EdgePaths) (entries
       subst (λ ns. ListsKeys additions folders edges entries ns (text ++ [])) (sym (append-nil numbers))
       (subst (ListsKeys additions folders edges entries numbers) (sym (append-nil text)) are)
   joined numbers _ text _ are (last {numbers = ms} {text = rest} {e = e} {key = k} also key) =
-      subst (λ ns. ListsKeys additions folders edges entries ns (text ++ (rest ++ line edges e (key_with additions k))))
+      subst (λ ns. ListsKeys additions folders edges entries ns
+      (text ++ (rest ++ line edges e (key_with additions k))))
       (append_assoc numbers ms (e ∷ []))
       (subst (ListsKeys additions folders edges entries ((numbers ++ ms) ++ e ∷ []))
-      (append_assoc text rest (line edges e (key_with additions k))) (last (joined numbers ms text rest are also) key))
+      (append_assoc text rest (line edges e (key_with additions k)))
+      (last (joined numbers ms text rest are also) key))
 
 pub one : LinesAreUnique
 one additions folders edges entries numbers text other are also =

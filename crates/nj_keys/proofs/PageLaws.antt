@@ -80,13 +80,15 @@ leaves files entries graph mark limit (Some next) stopped =
 
 module _ (additions folders : List (List ℕ)) (files : GraphFiles) (entries : List ReadStatement)
     (graph : IsGraphOf files.graph entries) where
-  joined : (mark : Option (List ℕ)) (texts : List (List ℕ)) → ArePages additions folders files entries mark texts
+  joined : (mark : Option (List ℕ)) (texts : List (List ℕ))
+      → ArePages additions folders files entries mark texts
       → ListsKeys additions folders (edges_of files.graph) entries (left_from files mark) (concat texts)
   joined _ _ none = nothing
   joined _ _ (page {mark = mark} {text = text} {next = next} {texts = texts} limit stops lists more) =
       subst (λ ns. ListsKeys additions folders (edges_of files.graph) entries ns (text ++ concat texts))
       (sym (leaves files entries graph mark limit next stops).1)
-      (join additions folders (edges_of files.graph) entries (written limit (left_at files mark)) (left_from files next)
+      (join additions folders (edges_of files.graph) entries (written limit (left_at files mark))
+      (left_from files next)
       text
       (concat texts) lists (joined next texts more))
 

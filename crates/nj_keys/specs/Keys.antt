@@ -117,8 +117,8 @@ pub data IsKey (folders : List (List ℕ)) (edges : List EdgePaths) (entries : L
 abbrev pub additions_text : (additions : List (List ℕ)) → List ℕ
 additions_text additions = number (length additions) ++ flat_map field additions
 
--- A key with additions: the SHA-256 of a colon, the SHA-256 of their text, and the key. No text of fields begins with a colon. Without
--- additions it is the key itself.
+-- A key with additions: the SHA-256 of a colon, the SHA-256 of their text, and the key. The text of an edge's fields never begins with
+-- a colon. Without additions it is the key itself.
 abbrev pub key_with : (additions : List (List ℕ)) → (key : List ℕ) → List ℕ
 key_with [] key = key
 key_with (text ∷ additions) key = sha256 (58 ∷ sha256 (additions_text (text ∷ additions)) ++ key)
@@ -258,8 +258,8 @@ pub record AreShortAdditions (additions : List (List ℕ)) : Type 0 where
   pub count : length additions < 2 ^ 64
   pub lengths : AllByRecursion (λ text. length text < 2 ^ 64) additions
 
--- Two keys of edges that are the same with their additions are the same, and so are the additions, unless SHA-256 confuses two texts. So a key
--- that was made with one compiler is not a key that was made with another.
+-- Keys of edges that are the same with their additions are the same without them, and so are the additions, unless SHA-256 confuses
+-- two texts. So a key that names one compiler is not a key that names another.
 abbrev pub AdditionsTell : Type 0
 AdditionsTell = (additions others folders bases : List (List ℕ)) (e f : StatedEdge) (key other : List ℕ) (one two : Fields)
     → AreShortAdditions additions → AreShortAdditions others
@@ -269,8 +269,9 @@ AdditionsTell = (additions others folders bases : List (List ℕ)) (e f : Stated
 
 -- a list of edges has only one text
 abbrev pub LinesAreUnique : Type 0
-LinesAreUnique = (additions folders : List (List ℕ)) (edges : List EdgePaths) (entries : List ReadStatement) (numbers text other : List ℕ)
-    → ListsKeys additions folders edges entries numbers text → ListsKeys additions folders edges entries numbers other → text ≡ other
+LinesAreUnique = (additions folders : List (List ℕ)) (edges : List EdgePaths) (entries : List ReadStatement)
+    (numbers text other : List ℕ) → ListsKeys additions folders edges entries numbers text
+    → ListsKeys additions folders edges entries numbers other → text ≡ other
 
 -- the texts of two pages, one after the other, are the text of the edges of both
 abbrev pub PagesOfLinesJoin : Type 0

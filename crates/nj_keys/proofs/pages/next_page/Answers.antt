@@ -16,7 +16,8 @@ commands-init c = record {
       let none = c.in_ok-kept.ensures.items_if_clones_equal (only-none _ (λ key is. is)) in
       absurd (no-keys c.edge_count.result c.as_mut_slice-keys.result.now
       (c.as_mut_slice-keys.ensures.value ∙ none) e key found);
-  lines = λ entries graph. subst (ListsKeys (map (λ text. text.now) c.args.additions.now) c.args.bases.now (edges_of c.args.graph.now) entries [])
+  lines = λ entries graph. subst (ListsKeys (map (λ text. text.now) c.args.additions.now) c.args.bases.now
+      (edges_of c.args.graph.now) entries [])
       (sym c.new-lines.ensures.items) none;
 }
 
@@ -35,7 +36,8 @@ commands-preserved c =
     let kept = subst (λ (edge : GraphEdge). IsKept c.keep_key.new.keys edge.number) is
     c.in_ok-keep_key.ensures.kept in
     let line_is = subst (λ (edge : GraphEdge). c.push_line.new.lines.items ≡ c.commands.lines.items
-    ++ line (edges_of edge.graph) edge.number (key_with additions (kept_key c.keep_key.new.keys edge.number))) is
+    ++ line (edges_of edge.graph) edge.number (key_with additions (kept_key c.keep_key.new.keys edge.number)))
+    is
     (with-additions additions c.in_ok-added.added c.in_ok-added.ensures c.push_line.new.lines.items
     c.commands.lines.items (edges_of own.graph) own.number (kept_key c.keep_key.new.keys own.number)
     c.in_ok-push_line.ensures) in

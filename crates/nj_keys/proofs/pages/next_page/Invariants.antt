@@ -13,7 +13,8 @@ invariant-commands l = record {
   keys : (entries : List ReadStatement) → IsGraphOf l.graph entries
       → KeepsKeys l.bases (edges_of l.graph) entries l.keys;
   lines : (entries : List ReadStatement) → IsGraphOf l.graph entries
-      → ListsKeys (map (λ text. text.now) l.additions) l.bases (edges_of l.graph) entries numbers l.lines.items;
+      → ListsKeys (map (λ text. text.now) l.additions) l.bases (edges_of l.graph) entries numbers
+      l.lines.items;
 }
 
 abbrev pub decreases-commands : goal.decreases-commands

@@ -16,9 +16,11 @@ returns-clause-lines c entries graph =
     let needs = c.in_ok-needs.needs in
     let left = left-is c.args.targets.now c.graph-graph.result.now c.numbers.result.now c.graph-graph.ensures
     c.numbers.ensures.paths c.args.mark.now needs (rw c.deref.ensures at c.in_ok-needs.ensures.1) in
-    subst (λ numbers. ListsKeys (map (λ text. text.now) c.args.additions.now) c.args.bases.now (edges_of c.args.targets.now.graph) entries
+    subst (λ numbers. ListsKeys (map (λ text. text.now) c.args.additions.now) c.args.bases.now
+    (edges_of c.args.targets.now.graph) entries
     (written c.args.take numbers) c.in_ok-page.page.lines.items) left
-    (subst (λ (h : GraphModel). ListsKeys (map (λ text. text.now) c.args.additions.now) c.args.bases.now (edges_of h) entries
+    (subst (λ (h : GraphModel). ListsKeys (map (λ text. text.now) c.args.additions.now) c.args.bases.now
+    (edges_of h) entries
     (written c.args.take needs.left) c.in_ok-page.page.lines.items) c.graph-graph.ensures
     (c.in_ok-page.ensures.lines entries (rw c.graph-graph.ensures graph)))
 
