@@ -23,7 +23,7 @@ _ninja_graph_options() {
         draw) echo '--affected --fold --limit --inputs' ;;
         why) echo '--validations --no-order-only' ;;
         audit) echo '--all --only --except --json --list' ;;
-        keys) echo '--base --take --resume' ;;
+        keys) echo '--base --with --take --resume' ;;
         stale) echo '--why --no-manifest' ;;
         tests)
             echo '--ctest --source-dir -z --ignore --ignore-unknown --allow-empty --format --why --json --unnamed'
@@ -67,7 +67,7 @@ _ninja_graph_words() {
         case $option in
             --) ended=yes ;;
             -C | -f | --deps-log-file | --source-dir | --ignore | --rule | --prefix | --only | --except | \
-                --base | --take | --resume | --limit | --inputs | --ctest | --format | --unnamed)
+                --base | --with | --take | --resume | --limit | --inputs | --ctest | --format | --unnamed)
                 [[ ${COMP_WORDS[index + 1]} == '=' ]] && ((index++))
                 if ((++index >= COMP_CWORD)); then
                     wanted=$option

@@ -276,7 +276,7 @@ GRAPH_TOOLS = {
     ),
     "draw": Tool({"--affected": None, "--fold": None, "--limit": "N", "--inputs": "K"}),
     "json": Tool({}),
-    "keys": Tool({"--base": "DIR", "--take": "N", "--resume": "MARK"}, looks=((ANYTHING, MARK),)),
+    "keys": Tool({"--base": "DIR", "--with": "TEXT", "--take": "N", "--resume": "MARK"}, looks=((ANYTHING, MARK),)),
     "stale": Tool({"--why": None, "--no-manifest": None}, looks=((LINES, ANYTHING), (NOTHING, LINES))),
     "tests": Tool(
         {

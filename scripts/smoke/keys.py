@@ -127,8 +127,19 @@ class Keys:
             self.known[edge] = hashlib.sha256(b"".join(fields)).digest()
         return self.known[edge]
 
-    def lines(self, outputs):
-        return "".join(f"{self.key(output).hex()} {output}\n" for output in outputs)
+    def lines(self, outputs, additions=()):
+        def key(output):
+            return with_additions(self.key(output), additions)
+
+        return "".join(f"{key(output).hex()} {output}\n" for output in outputs)
+
+
+def with_additions(key, additions):
+    """A key into which texts go, by the man page."""
+    if not additions:
+        return key
+    text = b"%d:" % len(additions) + b"".join(field(it.encode()) for it in additions)
+    return hashlib.sha256(b":" + hashlib.sha256(text).digest() + key).digest()
 
 
 def run(graph, folder, words):
@@ -186,6 +197,21 @@ def keys_of_files(program, graph, folder):
     whole = Keys(LISTED + PHONY).lines(edge.outputs[0] for edge in LISTED)
     yield from expect("all", run(graph, folder, []), (DONE, whole, ""))
     yield from pages_differ(folder, program, graph, [], whole)
+
+
+@check
+def keys_with_texts(graph, folder):
+    """Texts go into every key, in their order, and pages have the same keys as the whole."""
+    write_files(folder, FILES)
+    keys, found = Keys(LISTED + PHONY), set()
+    for additions in ["gcc 13"], ["gcc 13", "CPATH="], ["CPATH=", "gcc 13"], ["gcc 13CPATH="], [""], ["é\n"]:
+        words = [f"--with={text}" for text in additions]
+        whole = keys.lines((edge.outputs[0] for edge in LISTED), additions)
+        yield from expect(additions, run(graph, folder, words), (DONE, whole, ""))
+        rest = run(graph, folder, [*words, "--resume", "0"]).output
+        yield from expect(f"{additions}, a page", whole.endswith(rest), True)
+        found |= {whole}
+    yield from expect("each has its keys", len(found), 6)
 
 
 @check

@@ -41,13 +41,16 @@ module _ (known : DiscoveredGraph) (entries : List ReadStatement) (options : Key
 
   pub keys-page : (files : GraphFiles) → files.graph ≡ known.graph → Targets files.paths
       → IsClear known files.paths → (folders : List (List ℕ)) → folders ≡ map clean_path_of options.bases
-      → (written : Page) → IsPageOf files entries folders mark options.take written
+      → (additions : List (List ℕ)) → additions ≡ options.additions
+      → (written : Page) → IsPageOf files entries additions folders mark options.take written
       → (output : List ℕ) (looks : Bool) (warnings : List ℕ)
       → output ≡ written.lines.items → looks ≡ false
       → warnings ≡ mark_line written.mark ++ caveat_text known entries
       → AnswersKeys known entries options mark output (answered looks warnings)
-  keys-page files same are clear folders bases written is output looks warnings o l w =
-      let there = subst (λ g. IsPageOf (files_at g files.paths) entries (map clean_path_of options.bases) mark
-      options.take written) same
-      (subst (λ ds. IsPageOf files entries ds mark options.take written) bases is) in
+  keys-page files same are clear folders bases additions added written is output looks warnings o l w =
+      let there = subst (λ g. IsPageOf (files_at g files.paths) entries options.additions
+      (map clean_path_of options.bases) mark options.take written) same
+      (subst (λ texts. IsPageOf files entries texts (map clean_path_of options.bases) mark options.take
+      written) added
+      (subst (λ ds. IsPageOf files entries additions ds mark options.take written) bases is)) in
       rw (o, l, w) (page written.mark are clear there.valid there.lines there.begins there.stops)

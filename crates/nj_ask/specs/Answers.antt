@@ -153,7 +153,7 @@ pub data AnswersKeys (known : DiscoveredGraph) (entries : List ReadStatement) (o
   page : {paths : List (List ℕ)} {lines : List ℕ} {walk : WalkState} (rest : Option (List ℕ))
       → asked_targets known.graph options.targets ≡ Ok paths → IsClear known paths
       → leads (files_at known.graph paths) mark ≡ true
-      → ListsKeys (map clean_path_of options.bases) (edges_of known.graph) entries
+      → ListsKeys options.additions (map clean_path_of options.bases) (edges_of known.graph) entries
       (written options.take (left_at (files_at known.graph paths) mark)) lines
       → BeginsAfter (files_at known.graph paths) mark walk → StopsAt walk options.take rest
       → AnswersKeys known entries options mark lines (answered false (mark_line rest ++ caveat_text known entries))

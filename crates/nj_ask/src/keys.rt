@@ -150,7 +150,8 @@ pub(crate) fn answer_keys(
         Ok(()) => {}
         Err(failure) => return Err(failure),
     }
-    let page = match page_of(alloc, asked, &targets, options.take) {
+    let additions = bytes_of(alloc, &options.additions)?;
+    let page = match page_of(alloc, asked, &additions, &targets, options.take) {
         Ok(page) => page,
         Err(failure) => return Err(failure),
     };
@@ -188,20 +189,34 @@ pub(crate) fn texts_of<'w>(alloc: Global, words: &'w [String]) -> Result<Vec<&'w
     Ok(texts)
 }
 
-/// The page from a mark on.
+/// The bytes of words.
+fn bytes_of<'w>(alloc: Global, words: &'w [String]) -> Result<Vec<&'w [u8]>, AllocError>
+    ensures { IfOk result (λ bytes.
+        map (λ text. text.now) bytes.items ≡ map string_bytes words.entry.now) }
+{
+    let mut bytes = Vec::new(alloc);
+    'words: for word in words {
+        bytes.push(word.as_bytes())?;
+    }
+    Ok(bytes)
+}
+
+/// The page from a mark on, whose keys have additions.
 fn page_of(
     alloc: Global,
     asked: &PageAsked,
+    additions: &[&[u8]],
     targets: &FileList<'_>,
     take: Option<u64>,
 ) -> Result<Page, Failure>
     ensures page { OfStatements targets.now.graph (λ entries.
-        IfOk result (IsPageOf targets.now entries asked.now.bases asked.now.mark take)) }
+        IfOk result (IsPageOf targets.now entries (map (λ text. text.now) additions.now)
+        asked.now.bases asked.now.mark take)) }
     ensures refused { IfErr result (FailsBy Fault
         (λ line. (leads targets.now asked.now.mark ≡ false)
         × (line ≡ program_line (codes "mark out of range")))) }
 {
-    match page_from(alloc, &asked.bases, targets, &asked.mark, take) {
+    match page_from(alloc, &asked.bases, additions, targets, &asked.mark, take) {
         Ok(page) => Ok(page),
         Err(fault) => Err(mark_failure(alloc, fault, Status::Fault)),
     }

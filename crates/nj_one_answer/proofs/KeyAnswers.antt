@@ -92,33 +92,38 @@ unless-memory : (meant : Bool) (fault : MarkFault) → meant ≡ true → IsRefu
 unless-memory meant fault is (inl none) = none
 unless-memory meant fault is (inr (range, bad)) = absurd (let e = sym is ∙ bad in cc)
 
-pub pages-agree : LinesAreUnique → (folders : List (List ℕ)) (files : GraphFiles)
+pub pages-agree : LinesAreUnique → (additions folders : List (List ℕ)) (files : GraphFiles)
     (entries : List ReadStatement) → IsGraphOf files.graph entries
     → (begun : List ℕ) (take : Option ℕ) (a b : Result Page MarkFault)
     → IfOk a (λ _. leads files begun ≡ true) → IfErr a (IsRefused (leads files begun))
-    → IfOk a (λ p. ListsKeys folders (edges_of files.graph) entries (written take (left_at files begun))
+    → IfOk a (λ p. ListsKeys additions folders (edges_of files.graph) entries
+    (written take (left_at files begun))
     p.lines.items)
     → IfOk a (λ p. (walk : WalkState) × BeginsAfter files begun walk × StopsAt walk take p.mark)
     → IfOk b (λ _. leads files begun ≡ true) → IfErr b (IsRefused (leads files begun))
-    → IfOk b (λ p. ListsKeys folders (edges_of files.graph) entries (written take (left_at files begun))
+    → IfOk b (λ p. ListsKeys additions folders (edges_of files.graph) entries
+    (written take (left_at files begun))
     p.lines.items)
     → IfOk b (λ p. (walk : WalkState) × BeginsAfter files begun walk × StopsAt walk take p.mark)
     → AgreeUpTo SamePage IsMarkOutOfMemory a b
-pages-agree one folders files entries graph begun take (Ok a) (Ok b) _ _ lines (walk, begins, stops) _ _
+pages-agree one additions folders files entries graph begun take (Ok a) (Ok b) _ _ lines (walk, begins, stops)
+    _ _
     lines2
     (walk2, begins2, stops2) = record {
-      lines = one folders (edges_of files.graph) entries (written take (left_at files begun)) a.lines.items
+      lines = one additions folders (edges_of files.graph) entries (written take (left_at files begun))
+          a.lines.items
           b.lines.items lines lines2;
       mark = marks-agree files begun graph.acyclic walk walk2 begins begins2 take a.mark b.mark stops stops2;
     }
-pages-agree one folders files entries graph begun take (Ok a) (Err f) valid _ _ _ _ bad _ _ =
+pages-agree one additions folders files entries graph begun take (Ok a) (Err f) valid _ _ _ _ bad _ _ =
     unless-memory (leads files begun) f valid bad
-pages-agree one folders files entries graph begun take (Err e) (Ok b) _ bad _ _ valid _ _ _ =
+pages-agree one additions folders files entries graph begun take (Err e) (Ok b) _ bad _ _ valid _ _ _ =
     unless-memory (leads files begun) e valid bad
-pages-agree one folders files entries graph begun take (Err e) (Err f) _ (inl none) _ _ _ _ _ _ =
+pages-agree one additions folders files entries graph begun take (Err e) (Err f) _ (inl none) _ _ _ _ _ _ =
     inr (inl none)
-pages-agree one folders files entries graph begun take (Err e) (Err f) _ (inr bad) _ _ _ (inl none) _ _ =
+pages-agree one additions folders files entries graph begun take (Err e) (Err f) _ (inr bad) _ _ _ (inl none)
+    _ _ =
     inr (inr none)
-pages-agree one folders files entries graph begun take (Err e) (Err f) _ (inr (range, bad)) _ _ _
+pages-agree one additions folders files entries graph begun take (Err e) (Err f) _ (inr (range, bad)) _ _ _
     (inr (range2, bad2)) _ _ =
     inl (range ∙ sym range2)

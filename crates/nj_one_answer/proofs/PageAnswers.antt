@@ -28,7 +28,8 @@ module _ (unique : LinesAreUnique) (known : DiscoveredGraph) (entries : List Rea
     targets = asked_targets known.graph options.targets
 
     abbrev Lists : (paths : List (List ℕ)) (lines : List ℕ) → Type 0
-    Lists paths lines = ListsKeys (map clean_path_of options.bases) (edges_of known.graph) entries
+    Lists paths lines = ListsKeys options.additions (map clean_path_of options.bases) (edges_of known.graph)
+        entries
         (written options.take (left_at (files_at known.graph paths) mark)) lines
 
     -- the targets are the same files
@@ -107,7 +108,7 @@ module _ (unique : LinesAreUnique) (known : DiscoveredGraph) (entries : List Rea
         (page {paths = a2} {lines = t2} {walk = w2} rest2 at2 clear2 valid2 lists2 begins2 stops2) =
         let files = files_at known.graph a2 in
         let paths : a1 ≡ a2 = same a1 a2 at1 at2 in (
-          unique (map clean_path_of options.bases) (edges_of known.graph) entries
+          unique options.additions (map clean_path_of options.bases) (edges_of known.graph) entries
               (written options.take (left_at files mark)) t1 t2
               (subst (λ ps. Lists ps t1) paths lists1) lists2,
           ap (λ rest. answered false (mark_line rest ++ caveat_text known entries))

@@ -43,6 +43,7 @@ pub fn bases_append_mapped(
 pub fn page_from(
     alloc: Global,
     bases: &Bases,
+    additions: &[&[u8]],
     targets: &FileList<'_>,
     mark: &Mark,
     take: Option<u64>,
@@ -52,7 +53,7 @@ pub fn page_from(
 {
     nj_keys::lines_law();
     (
-        nj_keys::page_from(alloc, bases, targets, mark, take),
-        nj_keys::page_from(alloc, bases, targets, mark, take),
+        nj_keys::page_from(alloc, bases, additions, targets, mark, take),
+        nj_keys::page_from(alloc, bases, additions, targets, mark, take),
     )
 }

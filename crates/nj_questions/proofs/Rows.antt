@@ -40,7 +40,13 @@ drawn targets of_affected folds limit inputs =
 
 abbrev keyed : (bases : List (List ℕ)) (take : Option ℕ) (resume : Option (List ℕ)) (targets : List (List ℕ))
     → KeysModel
-keyed bases take resume targets = record { bases = bases; take = take; resume = resume; targets = targets }
+keyed bases take resume targets = record {
+  bases = bases;
+  additions = [];
+  take = take;
+  resume = resume;
+  targets = targets;
+}
 
 -- `stale`, which joins what builds discovered
 abbrev judges : (targets : List (List ℕ)) (reasons no_manifest : Bool) → Result QuestionModel RefusalModel
@@ -150,6 +156,13 @@ bases_row : question_of (codes "keys" ∷ codes "--base" ∷ codes "/b" ∷ code
     codes "/b" ∷ []) ≡ asks (keys (keyed (codes "/b" ∷ codes "/a" ∷ codes "/b" ∷ []) None None []))
 unfolding question_of command clap_on_literals
 bases_row = refl
+
+additions_row : question_of (codes "keys" ∷ codes "--with" ∷ codes "gcc 13" ∷ codes "--with=x=y" ∷ codes
+    "--with" ∷
+    [] ∷ []) ≡ asks (keys (record (keyed [] None None [])
+    { additions = codes "gcc 13" ∷ codes "x=y" ∷ [] ∷ [] }))
+unfolding question_of command clap_on_literals
+additions_row = refl
 
 keys_options_row : question_of (codes "keys" ∷ codes "--take" ∷ codes "5" ∷ codes "--resume" ∷ codes "0.1" ∷
     codes "app" ∷ []) ≡ asks (keys (keyed [] (Some 5) (Some (codes "0.1")) (codes "app" ∷ [])))

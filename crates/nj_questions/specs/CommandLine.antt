@@ -73,7 +73,8 @@ draw_options = flag (codes "affected") ∷ flag (codes "fold") ∷ number (codes
 
 -- the options of `keys`
 abbrev pub keys_options : List Rule
-keys_options = repeated (codes "base") ∷ number (codes "take") ∷ long_option (codes "resume") ∷ words (codes "targets") ∷ []
+keys_options =
+    repeated (codes "base") ∷ repeated (codes "with") ∷ number (codes "take") ∷ long_option (codes "resume") ∷ words (codes "targets") ∷ []
 
 -- the options of `stale`
 abbrev pub stale_options : List Rule

@@ -65,6 +65,7 @@ draw_in rows = record {
 abbrev pub keys_in : List Row → KeysModel
 keys_in rows = record {
   bases = values_in (codes "base") rows;
+  additions = values_in (codes "with") rows;
   take = number_in (codes "take") rows;
   resume = first_of (codes "resume") rows;
   targets = values_in (codes "targets") rows;

@@ -51,9 +51,10 @@ pub record DrawModel : Type 0 where
   pub limit : Option ℕ
   pub inputs : Option ℕ
 
--- `keys`: `resume` is the text of a mark
+-- `keys`: `additions` go into every key; `resume` is the text of a mark
 pub record KeysModel : Type 0 where
   pub bases : List (List ℕ)
+  pub additions : List (List ℕ)
   pub take : Option ℕ
   pub resume : Option (List ℕ)
   pub targets : List (List ℕ)
@@ -169,6 +170,7 @@ draw_model options = record {
 abbrev pub keys_model : KeysOptions → KeysModel
 keys_model options = record {
   bases = map string_bytes options.bases.items;
+  additions = map string_bytes options.additions.items;
   take = options.take;
   resume = option_map string_bytes options.resume;
   targets = map string_bytes options.targets.items;

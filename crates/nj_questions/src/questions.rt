@@ -146,6 +146,8 @@ pub struct DrawOptions {
 pub struct KeysOptions {
     /// `--base DIR`: paths of directories for which numbers stand, in their order.
     pub bases: Vec<String>,
+    /// `--with TEXT`: texts that go into every key, in their order.
+    pub additions: Vec<String>,
     /// `--take N`: at most this many commands.
     pub take: Option<u64>,
     /// `--resume MARK`: the text of the mark of the previous run.

@@ -181,11 +181,16 @@ Builds of one project in two directories have the same keys where these are give
   ninja-graph keys -C build --base \"$PWD/build\" --base \"$PWD\"",
 };
 
-pub const KEYS_OPTIONS: [Entry; 4] = [
+pub const KEYS_OPTIONS: [Entry; 5] = [
     (
         "base",
         Form::Repeated("DIR"),
         "Let a number stand for DIR, an absolute path, wherever it is named",
+    ),
+    (
+        "with",
+        Form::Repeated("TEXT"),
+        "Let TEXT go into every key, such as the version of a compiler",
     ),
     ("take", Form::Number("N"), "Stop after N commands"),
     (

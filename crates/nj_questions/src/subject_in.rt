@@ -89,6 +89,7 @@ fn keys_in(alloc: Global, options: &ArgMatches<'_>) -> Result<KeysOptions, Alloc
 {
     Ok(KeysOptions {
         bases: values_in(alloc, options, "base")?,
+        additions: values_in(alloc, options, "with")?,
         take: number_in(options, "take"),
         resume: text_in(alloc, options, "resume")?,
         targets: values_in(alloc, options, "targets")?,

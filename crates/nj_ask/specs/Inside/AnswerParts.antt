@@ -30,10 +30,10 @@ SaysPattern (pattern.Wrong text fault) line = line ≡ pattern_line text.now fau
 SaysPattern pattern.OutOfMemory line = ⊥
 
 -- the lines of the commands that files need and that are left at a mark, up to a limit, and the mark after them
-pub record IsPageOf (files : GraphFiles) (entries : List ReadStatement) (folders : List (List ℕ)) (mark : List ℕ)
+pub record IsPageOf (files : GraphFiles) (entries : List ReadStatement) (additions folders : List (List ℕ)) (mark : List ℕ)
     (limit : Option ℕ) (page : Page) : Type 0 where
   pub valid : leads files mark ≡ true
-  pub lines : ListsKeys folders (edges_of files.graph) entries (written limit (left_at files mark)) page.lines.items
+  pub lines : ListsKeys additions folders (edges_of files.graph) entries (written limit (left_at files mark)) page.lines.items
   pub walk : WalkState
   pub begins : BeginsAfter files mark walk
   pub stops : StopsAt walk limit page.mark

@@ -1,4 +1,4 @@
-use Rattle.std.proofs.Common.{◌≡◌, Ok, false, map, ap, sym, subst}
+use Rattle.std.proofs.Common.{◌≡◌, ◌∙◌, Ok, false, map, ap, sym, subst}
 use Rattle.std.specs.Prelude.{codes, string_bytes}
 use Rattle.nj_graph.specs.Files.{path_at}
 use Rattle.nj_graph.specs.Graph.{GraphModel, IsGraphOf, files_of}
@@ -75,6 +75,9 @@ returns c entries graph =
     let answer = c.in_ok-page_answer.field-0 in
     keys-page known entries options mark files c.in-Ok.ensures.of are
     (subst (IsClear known) paths c.in-Ok-check_depfiles.ensures.clear) c.args.asked.now.bases c.requires
+    (map (λ text. text.now) c.deref-3.result.now)
+    (ap (map (λ text. text.now)) c.deref-3.ensures.value ∙ c.in_ok-additions.ensures
+    ∙ ap (map string_bytes) c.deref-2.ensures.value)
     c.in-Ok-page_of.page
     (c.in-Ok-page_of.ensures.page entries (subst (λ (g : GraphModel). IsGraphOf g entries)
     (sym c.in-Ok.ensures.of) graph))
