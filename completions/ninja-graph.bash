@@ -26,7 +26,7 @@ _ninja_graph_options() {
         keys) echo '--base --with --take --resume' ;;
         stale) echo '--why --no-manifest' ;;
         tests)
-            echo '--ctest --source-dir -z --ignore --ignore-unknown --allow-empty --format --why --json --unnamed'
+            echo '--ctest --meson --source-dir -z --ignore --ignore-unknown --allow-empty --format --why --json --unnamed'
             ;;
     esac
 }
@@ -67,7 +67,8 @@ _ninja_graph_words() {
         case $option in
             --) ended=yes ;;
             -C | -f | --deps-log-file | --source-dir | --ignore | --rule | --prefix | --only | --except | \
-                --base | --with | --take | --resume | --limit | --inputs | --ctest | --format | --unnamed)
+                --base | --with | --take | --resume | --limit | --inputs | --ctest | --meson | --format | \
+                --unnamed)
                 [[ ${COMP_WORDS[index + 1]} == '=' ]] && ((index++))
                 if ((++index >= COMP_CWORD)); then
                     wanted=$option
@@ -97,11 +98,11 @@ _ninja_graph_offer_value() {
     # bash cuts `--rule=x` into three words
     [[ $current == '=' ]] && current=''
     case $wanted in
-        -C | --source-dir | --base) offer=(-d) ;;
+        -C | --source-dir | --base | --meson) offer=(-d) ;;
         -f | --deps-log-file | --ctest) offer=(-f) ;;
         --rule) _ninja_graph_offer_lines < <(_ninja_graph_rules) ;;
         --only | --except) offer=(-W "$(_ninja_graph_kinds)") ;;
-        --format) offer=(-W 'lines ctest') ;;
+        --format) offer=(-W 'lines ctest meson') ;;
         --unnamed) offer=(-W skip) ;;
     esac
 }

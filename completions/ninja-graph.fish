@@ -131,6 +131,8 @@ complete -c ninja-graph -n '__ninja_graph_is stale' -l no-manifest \
     -d 'Do not ask whether the manifest itself is stale'
 
 complete -c ninja-graph -n '__ninja_graph_is tests' -l ctest -r -F -d 'What ctest --show-only=json-v1 wrote'
+complete -c ninja-graph -n '__ninja_graph_is tests' -l meson -x \
+    -d 'A build directory of Meson' -a '(__fish_complete_directories)'
 complete -c ninja-graph -n '__ninja_graph_is tests' -l source-dir -x \
     -d 'A directory of the changed paths' -a '(__fish_complete_directories)'
 complete -c ninja-graph -n '__ninja_graph_is tests' -s z -d 'Paths are ended by zero bytes'
@@ -138,7 +140,7 @@ complete -c ninja-graph -n '__ninja_graph_is tests' -l ignore -x -d 'Ignore path
 complete -c ninja-graph -n '__ninja_graph_is tests' -l ignore-unknown \
     -d 'Do not report paths that no edge names'
 complete -c ninja-graph -n '__ninja_graph_is tests' -l allow-empty -d 'Accept an input without a changed path'
-complete -c ninja-graph -n '__ninja_graph_is tests' -l format -x -d 'How the tests are written' -a 'lines ctest'
+complete -c ninja-graph -n '__ninja_graph_is tests' -l format -x -d 'How the tests are written' -a 'lines ctest meson'
 complete -c ninja-graph -n '__ninja_graph_is tests' -l why -d 'Write why each test is chosen, too'
 complete -c ninja-graph -n '__ninja_graph_is tests' -l json -d 'An object of JSON for each test'
 complete -c ninja-graph -n '__ninja_graph_is tests' -l unnamed -x \

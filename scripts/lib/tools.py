@@ -281,6 +281,7 @@ GRAPH_TOOLS = {
     "tests": Tool(
         {
             "--ctest": "FILE",
+            "--meson": "DIR",
             "--source-dir": "DIR",
             "-z": None,
             "--ignore": "GLOB",
@@ -413,6 +414,10 @@ GRAPH_RUNS = {
         "tests --ctest none.json < a.c",
         "tests --ctest nothing < a.c",
         "tests --ctest tests.json --format nothing",
+        "tests --ctest tests.json --format meson",
+        "tests --meson none < a.c",
+        "tests --meson . --format meson",
+        "tests --meson . --ctest tests.json",
         "tests",
     ],
 }

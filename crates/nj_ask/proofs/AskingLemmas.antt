@@ -221,7 +221,7 @@ module _ (question : QuestionModel) (times : DeclaredTimes) (folder input : List
 pub tells-lacking : (question : QuestionModel) (times : DeclaredTimes) (folder input : List ℕ)
     (old new : Sources)
     (out : SinkState)
-    (failure : Failure) → FailsBy Fault (LacksFiles question times old new) failure
+    (failure : Failure) → FailsBy Fault (LacksFiles question times folder old new) failure
     → LeavesTold question times folder input old new out out (Err failure)
 tells-lacking question times folder input old new out (Refused line given) fails =
     subst (λ s. LeavesTold question times folder input old new out out (Err (Refused line s))) (sym fails.1)
@@ -233,7 +233,7 @@ tells-lacking question times folder input old new out OutOfMemory fails = tells_
 pub tells-answer : (question : QuestionModel) (times : DeclaredTimes) (folder input : List ℕ)
     (old new : Sources) (between : SourceState) (out out_new : SinkState) (known : DiscoveredGraph)
     (entries : List ReadStatement) (list : List TestModel) (reported : Result Told Failure)
-    → ReadsFiles question times old (sources_of new.files between) known list
+    → ReadsFiles question times folder old (sources_of new.files between) known list
     → IsGraphOf known.graph entries
     → LeavesAnswer known entries times folder question.subject list input between new.built out out_new
     reported

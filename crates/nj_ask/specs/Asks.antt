@@ -96,17 +96,17 @@ abbrev pub around : (files built : SourceState) → (output error : SinkState) �
 around files built output error = record { sources = sources_of files built; sinks = sinks_of output error }
 
 -- the files of a question were read: its list of tests, and then its graph
-pub record ReadsFiles (question : QuestionModel) (times : DeclaredTimes) (old new : Sources) (known : DiscoveredGraph)
+pub record ReadsFiles (question : QuestionModel) (times : DeclaredTimes) (folder : List ℕ) (old new : Sources) (known : DiscoveredGraph)
     (list : List TestModel) : Type 0 where
   pub between : SourceState
-  pub tests : ReadsTests question.subject old.files between list
+  pub tests : ReadsTests question.subject folder old.files between list
   pub graph : KnowsGraph question.graph (seeks_undeclared question.subject) times (sources_of between old.built) new known
 
 -- they were not: its list of tests is not there, or else there is no graph
-pub data LacksFiles (question : QuestionModel) (times : DeclaredTimes) (old new : Sources) (line : List ℕ) : Type 0 where
-  no_tests : LacksTests question.subject old.files new.files line → new.built ≡ old.built → LacksFiles question times old new line
-  no_graph : {between : SourceState} (list : List TestModel) → ReadsTests question.subject old.files between list
-      → LacksGraph question.graph times (sources_of between old.built) new line → LacksFiles question times old new line
+pub data LacksFiles (question : QuestionModel) (times : DeclaredTimes) (folder : List ℕ) (old new : Sources) (line : List ℕ) : Type 0 where
+  no_tests : LacksTests question.subject folder old.files new.files line → new.built ≡ old.built → LacksFiles question times folder old new line
+  no_graph : {between : SourceState} (list : List TestModel) → ReadsTests question.subject folder old.files between list
+      → LacksGraph question.graph times (sources_of between old.built) new line → LacksFiles question times folder old new line
 
 -- nothing is output, and a line says why, with this status
 abbrev pub IsRefusal : (line : List ℕ) → Status → (output : List ℕ) → Ending → Type 0
@@ -126,20 +126,20 @@ TakesBuildLog true entries before after log = ReadsBuildLog entries before after
 TakesBuildLog false entries before after log = (after ≡ before) × (log ≡ no_lines)
 
 -- what the files of a question come to: its list of tests, a graph and its statements, and then a build log
-pub record Knows (question : QuestionModel) (times : DeclaredTimes) (old new : Sources) (known : DiscoveredGraph)
+pub record Knows (question : QuestionModel) (times : DeclaredTimes) (folder : List ℕ) (old new : Sources) (known : DiscoveredGraph)
     (entries : List ReadStatement) (log : BuildLogModel) (list : List TestModel) : Type 0 where
   pub between : SourceState
-  pub files : ReadsFiles question times old (sources_of new.files between) known list
+  pub files : ReadsFiles question times folder old (sources_of new.files between) known list
   pub is : IsGraphOf known.graph entries
   pub takes : TakesBuildLog (takes_build_log question.subject) entries between new.built log
 
 -- or why there is no list of tests or no graph, or no build log
-pub data Lacks (question : QuestionModel) (times : DeclaredTimes) (old new : Sources) : (line : List ℕ) → Type 0 where
-  no_files : {line : List ℕ} → LacksFiles question times old new line → Lacks question times old new line
+pub data Lacks (question : QuestionModel) (times : DeclaredTimes) (folder : List ℕ) (old new : Sources) : (line : List ℕ) → Type 0 where
+  no_files : {line : List ℕ} → LacksFiles question times folder old new line → Lacks question times folder old new line
   no_build_log : {between : SourceState} {known : DiscoveredGraph} {entries : List ReadStatement} {list : List TestModel} {line : List ℕ}
       → takes_build_log question.subject ≡ true
-      → ReadsFiles question times old (sources_of new.files between) known list
-      → IsGraphOf known.graph entries → LacksBuildLog entries between new.built line → Lacks question times old new line
+      → ReadsFiles question times folder old (sources_of new.files between) known list
+      → IsGraphOf known.graph entries → LacksBuildLog entries between new.built line → Lacks question times folder old new line
 
 -- Options are refused, or answered, before anything is read. Else the files are read, and the graph is asked; or a file is lacking, or
 -- memory. Absolute paths below the working directory are the build's.
@@ -151,11 +151,11 @@ pub data Asks (question : QuestionModel) (times : DeclaredTimes) (folder : List 
       → Ends (IsText text) old.sinks new.sinks status → Asks question times folder input old new status
   by_graph : {known : DiscoveredGraph} {entries : List ReadStatement} {log : BuildLogModel} {list : List TestModel} {status : Status}
       → IsTaken question.subject → listed question.subject ≡ None
-      → Knows question times old.sources new.sources known entries log list
+      → Knows question times folder old.sources new.sources known entries log list
       → Ends (Answers known entries log times folder question.subject list input) old.sinks new.sinks status
       → Asks question times folder input old new status
   lacks_files : {line : List ℕ} {status : Status} → IsTaken question.subject → listed question.subject ≡ None
-      → Lacks question times old.sources new.sources line → Ends (IsRefusal line Fault) old.sinks new.sinks status
+      → Lacks question times folder old.sources new.sources line → Ends (IsRefusal line Fault) old.sinks new.sinks status
       → Asks question times folder input old new status
   lacks_memory : new.sinks.output ≡ old.sinks.output → Reported old.sinks.error new.sinks.error memory_line
       → Asks question times folder input old new Fault

@@ -1,5 +1,5 @@
 -- The answer to `tests`: which tests of a list a change of files reaches, and what is said of them.
-use Rattle.std.specs.Prelude.{◌≡◌, ◌≢◌, ◌↔◌, ℕ, Bool, false, ◌&&◌, ◌||◌, not, ◌==◌, if◌then◌else◌, Option, Some, None, is_some, List, [], ◌∷◌, ◌++◌, codes, map, length, bytes_eq, Contains}
+use Rattle.std.specs.Prelude.{◌≡◌, ◌≢◌, ◌↔◌, ℕ, Bool, false, ◌&&◌, ◌||◌, not, ◌==◌, if◌then◌else◌, Option, Some, None, is_none, is_some, List, [], ◌∷◌, ◌++◌, codes, map, length, bytes_eq, Contains}
 use Rattle.std.specs.List.Sorted.{IsStrictlyIncreasing}
 use Rattle.std.specs.Option.{option_or}
 use Rattle.nj_text.specs.Calls.{is_empty}
@@ -12,7 +12,7 @@ use Rattle.nj_chosen.specs.Reasons.{BuildChange}
 use Rattle.nj_reached.specs.GraphChanges.{GraphChange, IsChangeOf}
 use Rattle.nj_test_texts.specs.TestTexts.{tests_text, written_from}
 use Rattle.nj_test_texts.specs.declared.style.Style.{Style}
-use Rattle.nj_test_texts.specs.declared.style.Style.TheVariants.{CTest, Names, Objects, Reasons}
+use Rattle.nj_test_texts.specs.declared.style.Style.TheVariants.{CTest, Meson, Names, Objects, Reasons}
 use Rattle.nj_questions.specs.Questions.{TestsModel}
 use Rattle.nj_ask.specs.declared.discovered.DiscoveredGraph.{DiscoveredGraph}
 use Rattle.nj_ask.specs.declared.status.Status.TheVariants.{Fault}
@@ -20,31 +20,54 @@ use Rattle.nj_ask.specs.Answers.{change_asked}
 use Rattle.nj_ask.specs.Endings.{Ending, answered, program_line, refused}
 use Rattle.nj_ask.specs.Given.{given_paths, LeavesPaths, MisusesAffected, TakesAffected}
 use Rattle.nj_ask.specs.Reports.{ChangeModel, HasCaveats, IsTouchedBy, changed_paths, no_path_line}
+use Rattle.nj_ask.specs.TestLists.{list_path}
 
 -- ---- options
 
--- the word is that of the expression for CTest
-abbrev pub asks_ctest : (format : Option (List ℕ)) → Bool
-asks_ctest None = false
-asks_ctest (Some word) = bytes_eq word (codes "ctest")
+-- this format is requested
+abbrev pub asks_format : (name : List ℕ) → (format : Option (List ℕ)) → Bool
+asks_format name None = false
+asks_format name (Some word) = bytes_eq word name
 
 -- how the tests are written
 abbrev pub style_asked : TestsModel → Style
 style_asked options =
-    if options.json then Objects else if options.why then Reasons else if asks_ctest options.format then CTest else Names
+    if options.json then Objects else if options.why then Reasons
+    else if asks_format (codes "ctest") options.format then CTest
+    else if asks_format (codes "meson") options.format then Meson else Names
 
 -- the line about the word of a format that there is not
 abbrev pub format_misuse : (format : Option (List ℕ)) → Option (List ℕ)
 format_misuse None = None
 format_misuse (Some word) =
-    if bytes_eq word (codes "lines") || bytes_eq word (codes "ctest") then None
+    if bytes_eq word (codes "lines") || bytes_eq word (codes "ctest") || bytes_eq word (codes "meson") then None
     else Some (program_line (codes "unknown format '" ++ word ++ codes "'"))
+
+-- the line about options that do not name one list
+abbrev pub list_misuse : TestsModel → Option (List ℕ)
+list_misuse options =
+    if is_some options.ctest && is_some options.meson then Some (program_line (codes "--ctest excludes --meson"))
+    else if is_none options.ctest && is_none options.meson then
+    Some (program_line (codes "a list of tests is required: --ctest FILE or --meson DIR"))
+    else None
+
+-- the line about a format for another program than that of the list
+abbrev pub program_misuse : TestsModel → Option (List ℕ)
+program_misuse options =
+    if is_some options.meson && asks_format (codes "ctest") options.format then
+    Some (program_line (codes "--meson excludes --format ctest"))
+    else if is_some options.ctest && asks_format (codes "meson") options.format then
+    Some (program_line (codes "--ctest excludes --format meson"))
+    else None
 
 -- the line about options that exclude each other: reasons are for lines, and objects have them
 abbrev pub style_misuse : TestsModel → Option (List ℕ)
 style_misuse options =
     if options.json && (options.why || is_some options.format) then Some (program_line (codes "--json excludes --format and --why"))
-    else if options.why && asks_ctest options.format then Some (program_line (codes "--why excludes --format ctest"))
+    else if options.why && asks_format (codes "ctest") options.format then
+    Some (program_line (codes "--why excludes --format ctest"))
+    else if options.why && asks_format (codes "meson") options.format then
+    Some (program_line (codes "--why excludes --format meson"))
     else None
 
 -- the line about another word than `skip` of `--unnamed`
@@ -56,7 +79,8 @@ unnamed_misuse (Some word) =
 -- the first of these lines
 abbrev pub word_misuse : TestsModel → Option (List ℕ)
 word_misuse options =
-    option_or (format_misuse options.format) (option_or (style_misuse options) (unnamed_misuse options.unnamed))
+    option_or (format_misuse options.format) (option_or (list_misuse options) (option_or (program_misuse options)
+    (option_or (style_misuse options) (unnamed_misuse options.unnamed))))
 
 -- Why the options are refused before anything is read: for one of these lines; or else as those of the change are.
 pub data MisusesTests (options : TestsModel) (line : List ℕ) : Type 0 where
@@ -110,7 +134,7 @@ no_path_remark options paths = if length paths == 0 && not options.change.allow_
 
 -- that the list has no test
 abbrev pub no_test_remark : TestsModel → List TestModel → List ℕ
-no_test_remark options tests = if length tests == 0 then program_line (options.ctest ++ codes ": there is no test in it") else []
+no_test_remark options tests = if length tests == 0 then program_line (list_path options ++ codes ": there is no test in it") else []
 
 -- what is said of the paths and the tests that are given
 abbrev pub remarks : TestsModel → (paths : List (List ℕ)) → List TestModel → List ℕ

@@ -42,7 +42,7 @@ pub use Rattle.nj_ask.specs.Inside.Reached.{warning_by, AreFilesAt, AreTables, A
 pub use Rattle.nj_ask.specs.SameFiles.{full_path_of}
 pub use Rattle.nj_graph.specs.Edges.{is_among, first_output, edge_at, outputs_of, inputs_of, maker_of}
 pub use Rattle.nj_ask.specs.ChosenTests.{AnswersTests, WritesTests, no_path_remark, no_test_remark, remarks, roots_of, MisusesTests}
-pub use Rattle.nj_ask.specs.ChosenTests.{asks_ctest, format_misuse, style_asked, style_misuse, unnamed_misuse, word_misuse}
+pub use Rattle.nj_ask.specs.ChosenTests.{asks_format, format_misuse, style_asked, list_misuse, program_misuse, style_misuse, unnamed_misuse, word_misuse}
 pub use Rattle.nj_text.specs.Calls.{is_empty}
 pub use Rattle.nj_graph.specs.Files.{path_at}
 pub use Rattle.nj_scope.specs.Sources.{outcome_bytes, SourceState}
@@ -88,5 +88,6 @@ pub use Rattle.nj_ask.specs.Inside.StaleParts.{IsManifestAnswer, LacksTime}
 pub use Rattle.nj_needs.specs.Growing.{grown_targets}
 pub use Rattle.nj_ask.specs.Statuses.{exit_code}
 pub use Rattle.std.specs.IoError.{error_kind}
-pub use Rattle.nj_ask.specs.TestLists.{LacksList, LacksTests, ReadsList, ReadsTests}
+pub use Rattle.nj_ask.specs.TestLists.{LacksList, LacksLists, LacksMeson, LacksNamed, LacksTests, LacksText, ReadsList, ReadsLists}
+pub use Rattle.nj_ask.specs.TestLists.{ReadsMeson, ReadsNamed, ReadsTests, faulty_path, info_path, is_of_targets, list_line, list_path}
 pub use Rattle.nj_graph.specs.Targets.{picked}

@@ -88,7 +88,7 @@ pub(crate) fn ask<S: FileSource, B: FileSource, T: FileTimes, O: Sink, E: Sink>(
         Err(failure) => return without_graph(conclude(err, &Err(failure))),
     };
     let seeks = seeks_undeclared(&task);
-    match read_files(alloc, files, built, times, question, seeks) {
+    match read_files(alloc, files, built, times, folder, question, seeks) {
         Ok(FilesRead { tests, known }) => {
             let told = answer_by(
                 alloc, &known, built, times, folder, task, &tests, input, out,
@@ -109,21 +109,22 @@ fn read_files<S: FileSource, B: FileSource, T: FileTimes>(
     files: &mut S,
     built: &mut B,
     times: &T,
+    folder: &[u8],
     question: &Question,
     seeks: bool,
 ) -> Result<FilesRead, Failure>
     requires { seeks ≡ seeks_undeclared (subject_model question.now.subject) }
     ensures read { IfOk result (λ read. ReadsFiles (question_model question.now)
-        (T.times times.now) (sources_of (S.state files.old) (B.state built.old))
+        (T.times times.now) folder.now (sources_of (S.state files.old) (B.state built.old))
         (sources_of (S.state files.new) (B.state built.new)) read.known.value
         (map test_model read.tests.items)) }
     ensures stated { IfOk result (λ read. HasStatements read.known.value.graph) }
     ensures edges { IfOk result (λ read. HasEdges read.known.value) }
     ensures lacks { IfErr result (FailsBy Fault (LacksFiles (question_model question.now)
-        (T.times times.now) (sources_of (S.state files.old) (B.state built.old))
+        (T.times times.now) folder.now (sources_of (S.state files.old) (B.state built.old))
         (sources_of (S.state files.new) (B.state built.new)))) }
 {
-    let tests = match read_tests(alloc, files, &question.subject) {
+    let tests = match read_tests(alloc, files, folder, &question.subject) {
         Ok(tests) => tests,
         Err(failure) => return Err(failure),
     };

@@ -11,6 +11,7 @@ use crate::given::given_paths;
 use crate::listing::push_line;
 use crate::report::{Change, Reach, reach_of};
 use crate::status::Status;
+use crate::test_list::list_path;
 use crate::test_options::style_asked;
 use nj_changes::{full_path, without_ignored};
 use nj_chosen::choose;
@@ -181,10 +182,10 @@ fn push_no_test(
         ++ no_test_remark (tests_model options.now) (map test_model tests.now)) }
 {
     if tests.is_empty() {
-        let path = options.ctest.as_bytes();
+        let path = list_path(alloc, options)?;
         push_line(
             text,
-            &in_words(alloc, b"", path, b": there is no test in it")?,
+            &in_words(alloc, b"", path.as_bytes(), b": there is no test in it")?,
         )?;
     }
     Ok(())

@@ -1,7 +1,7 @@
 //! The options of `tests`, before anything is read.
 
 ghost use Rattle.std.specs.Prelude.{◌≡◌, None, Some, IfErr, IfOk, option_map, string_bytes};
-ghost use Rattle.nj_ask.specs.Cited.{AreTestsAsked, FailsBy, MisusesTests, Usage, asks_ctest, format_misuse, style_asked, style_misuse, tests_model, unnamed_misuse, word_misuse};
+ghost use Rattle.nj_ask.specs.Cited.{AreTestsAsked, FailsBy, MisusesTests, Usage, asks_format, format_misuse, list_misuse, program_misuse, style_asked, program_line, style_misuse, tests_model, unnamed_misuse, word_misuse};
 
 use crate::failure::Failure;
 use crate::given::globs_asked;
@@ -35,6 +35,14 @@ fn check_words(alloc: Global, options: &TestsOptions) -> Result<(), Failure>
         Ok(()) => {}
         Err(failure) => return Err(failure),
     }
+    match check_list(alloc, options) {
+        Ok(()) => {}
+        Err(failure) => return Err(failure),
+    }
+    match check_program(alloc, options) {
+        Ok(()) => {}
+        Err(failure) => return Err(failure),
+    }
     match check_style(alloc, options) {
         Ok(()) => {}
         Err(failure) => return Err(failure),
@@ -52,11 +60,49 @@ fn check_format(alloc: Global, format: Option<&String>) -> Result<(), Failure>
     let Some(word) = format else {
         return Ok(());
     };
-    if word.as_str() == "lines" || word.as_str() == "ctest" {
+    if word.as_str() == "lines" || word.as_str() == "ctest" || word.as_str() == "meson" {
         return Ok(());
     }
     let word = word.as_bytes();
     Err(Failure::in_words(alloc, b"unknown format '", word, b"'", Status::Usage))
+}
+
+/// Refuses options that do not name one list of tests.
+fn check_list(alloc: Global, options: &TestsOptions) -> Result<(), Failure>
+    ensures allowed { IfOk result (λ _. list_misuse (tests_model options.now) ≡ None) }
+    ensures refused { IfErr result (FailsBy Usage (λ line.
+        list_misuse (tests_model options.now) ≡ Some line)) }
+{
+    if options.ctest.is_some() && options.meson.is_some() {
+        return Err(misuse(alloc, b"--ctest excludes --meson"));
+    }
+    if options.ctest.is_none() && options.meson.is_none() {
+        let text = b"a list of tests is required: --ctest FILE or --meson DIR";
+        return Err(misuse(alloc, text));
+    }
+    Ok(())
+}
+
+/// Refuses a format for another program than that of the list.
+fn check_program(alloc: Global, options: &TestsOptions) -> Result<(), Failure>
+    ensures allowed { IfOk result (λ _. program_misuse (tests_model options.now) ≡ None) }
+    ensures refused { IfErr result (FailsBy Usage (λ line.
+        program_misuse (tests_model options.now) ≡ Some line)) }
+{
+    if options.meson.is_some() && asks_format(options, "ctest") {
+        return Err(misuse(alloc, b"--meson excludes --format ctest"));
+    }
+    if options.ctest.is_some() && asks_format(options, "meson") {
+        return Err(misuse(alloc, b"--ctest excludes --format meson"));
+    }
+    Ok(())
+}
+
+/// The refusal of options, in the given words.
+fn misuse(alloc: Global, text: &[u8]) -> Failure
+    ensures { FailsBy Usage (λ line. line ≡ program_line text.now) result }
+{
+    Failure::in_words(alloc, b"", text, b"", Status::Usage)
 }
 
 /// Refuses options that exclude each other.
@@ -66,12 +112,13 @@ fn check_style(alloc: Global, options: &TestsOptions) -> Result<(), Failure>
         style_misuse (tests_model options.now) ≡ Some line)) }
 {
     if options.json && (options.why || options.format.is_some()) {
-        let text = b"--json excludes --format and --why";
-        return Err(Failure::in_words(alloc, b"", text, b"", Status::Usage));
+        return Err(misuse(alloc, b"--json excludes --format and --why"));
     }
-    if options.why && asks_ctest(options) {
-        let text = b"--why excludes --format ctest";
-        return Err(Failure::in_words(alloc, b"", text, b"", Status::Usage));
+    if options.why && asks_format(options, "ctest") {
+        return Err(misuse(alloc, b"--why excludes --format ctest"));
+    }
+    if options.why && asks_format(options, "meson") {
+        return Err(misuse(alloc, b"--why excludes --format meson"));
     }
     Ok(())
 }
@@ -94,12 +141,12 @@ fn check_unnamed(alloc: Global, unnamed: Option<&String>) -> Result<(), Failure>
     Err(Failure::in_words(alloc, b"'", word, text, Status::Usage))
 }
 
-/// Whether the expression for CTest is requested.
-fn asks_ctest(options: &TestsOptions) -> bool
-    ensures { result ≡ asks_ctest (tests_model options.now).format }
+/// Whether the format with the given name is requested.
+fn asks_format(options: &TestsOptions, name: &str) -> bool
+    ensures { result ≡ asks_format name.now (tests_model options.now).format }
 {
     match &options.format {
-        Some(word) => word.as_str() == "ctest",
+        Some(word) => word.as_str() == name,
         None => false,
     }
 }
@@ -114,8 +161,11 @@ pub(crate) fn style_asked(options: &TestsOptions) -> Style
     if options.why {
         return Style::Reasons;
     }
-    if asks_ctest(options) {
+    if asks_format(options, "ctest") {
         return Style::CTest;
+    }
+    if asks_format(options, "meson") {
+        return Style::Meson;
     }
     Style::Names
 }

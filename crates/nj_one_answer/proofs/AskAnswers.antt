@@ -113,9 +113,9 @@ module _ (law : OneAnswer) (values : SameKnownHaveSameAnswers) (line : OneMisuse
     EndsFor (no_graph line) old new status = Ends (IsRefusal line Fault) old.sinks new.sinks status
 
     abbrev Alike : (status end : Status) → Type 0
-    Alike status end = AskAlike question times old one other status end
+    Alike status end = AskAlike question times folder old one other status end
 
-    files-alike : (files : FilesRead) → ComeTo question times old.sources one.sources files
+    files-alike : (files : FilesRead) → ComeTo question times folder old.sources one.sources files
         → TellTimes question.subject times → (status end : Status) → EndsFor files old one status
         → EndsFor files old other end → EndAlike (SameFor question.subject files) old.sinks one.sinks
         other.sinks status end
@@ -151,8 +151,8 @@ module _ (law : OneAnswer) (values : SameKnownHaveSameAnswers) (line : OneMisuse
     ends-same (no_graph line) (no_graph more) same end ends =
         subst (λ l. Ends (IsRefusal l Fault) old.sinks other.sinks end) (sym same) ends
 
-    read-alike : (files more : FilesRead) → ComeTo question times old.sources one.sources files
-        → ComeTo question times old.sources other.sources more → (status end : Status)
+    read-alike : (files more : FilesRead) → ComeTo question times folder old.sources one.sources files
+        → ComeTo question times folder old.sources other.sources more → (status end : Status)
         → EndsFor files old one status → EndsFor more old other end → Alike status end
     read-alike files more come come2 status end ends ends2 =
         both_read files more come come2 (λ same tells. files-alike files come tells status end ends
@@ -319,7 +319,7 @@ module _ (law : OneAnswer) (values : SameKnownHaveSameAnswers) (line : OneMisuse
     (times : DeclaredTimes) (folder input : List ℕ) (old one other : Around) where
   pub reads-alike : (read : Result Question Refusal) (status end : Status)
       → AsksWith read times folder input old one status → AsksWith read times folder input old other end
-      → ReadAlike read times old one other status end
+      → ReadAlike read times folder old one other status end
   reads-alike (Ok question) status end is also =
       asks-alike law values line apart (question_model question) times folder input old one other status end
       is also
@@ -328,7 +328,7 @@ module _ (law : OneAnswer) (values : SameKnownHaveSameAnswers) (line : OneMisuse
 
   module _ (given : List (List ℕ)) (status end : Status) where
     abbrev Words : Type 0
-    Words = AskWordsAlike given times old one other status end
+    Words = AskWordsAlike given times folder old one other status end
 
     forgot-one : (r : Refusal) → r ≡ refusal.OutOfMemory → Refuses r old.sinks one.sinks status → Words
     forgot-one r same is =

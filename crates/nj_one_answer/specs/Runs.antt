@@ -81,9 +81,9 @@ pub data FilesRead : Type 0 where
   no_graph : (line : List ℕ) → FilesRead
 
 -- they come to the given result
-abbrev pub ComeTo : QuestionModel → DeclaredTimes → (old new : Sources) → FilesRead → Type 0
-ComeTo question times old new (graph known entries log tests) = Knows question times old new known entries log tests
-ComeTo question times old new (no_graph line) = Lacks question times old new line
+abbrev pub ComeTo : QuestionModel → DeclaredTimes → (folder : List ℕ) → (old new : Sources) → FilesRead → Type 0
+ComeTo question times folder old new (graph known entries log tests) = Knows question times folder old new known entries log tests
+ComeTo question times folder old new (no_graph line) = Lacks question times folder old new line
 
 -- they come to the same graph, statements, build log and tests, or to the same line
 abbrev pub SameFiles : (one other : FilesRead) → Type 0
@@ -100,16 +100,16 @@ SameFor subject (no_graph line) output other = output ≡ other
 
 -- Two runs of a question: both end alike before anything is read; or both read the files, and end alike if the files come to the same; or
 -- memory runs out for one of them.
-pub data AskAlike (question : QuestionModel) (times : DeclaredTimes) (old one other : Around) (status end : Status) : Type 0 where
+pub data AskAlike (question : QuestionModel) (times : DeclaredTimes) (folder : List ℕ) (old one other : Around) (status end : Status) : Type 0 where
   unread : one.sources ≡ old.sources → other.sources ≡ old.sources
-      → EndAlike (λ a b. a ≡ b) old.sinks one.sinks other.sinks status end → AskAlike question times old one other status end
-  read : (files more : FilesRead) → ComeTo question times old.sources one.sources files
-      → ComeTo question times old.sources other.sources more
+      → EndAlike (λ a b. a ≡ b) old.sinks one.sinks other.sinks status end → AskAlike question times folder old one other status end
+  read : (files more : FilesRead) → ComeTo question times folder old.sources one.sources files
+      → ComeTo question times folder old.sources other.sources more
       → (SameFiles files more → TellTimes question.subject times
       → EndAlike (SameFor question.subject files) old.sinks one.sinks other.sinks status end)
-      → AskAlike question times old one other status end
+      → AskAlike question times folder old one other status end
   lacked_memory : LacksMemory old.sinks one.sinks status ⊎ LacksMemory old.sinks other.sinks end
-      → AskAlike question times old one other status end
+      → AskAlike question times folder old one other status end
 
 -- ---- arguments that are not a question
 
@@ -119,9 +119,9 @@ pub data RefuseAlike (old one other : Sinks) (status end : Status) : Type 0 wher
   lacked_memory : LacksMemory old one status → LacksMemory old other end → RefuseAlike old one other status end
 
 -- two runs of arguments that were read
-abbrev pub ReadAlike : Result Question Refusal → DeclaredTimes → (old one other : Around) → (status end : Status) → Type 0
-ReadAlike (Ok question) times old one other status end = AskAlike (question_model question) times old one other status end
-ReadAlike (Err refused) times old one other status end =
+abbrev pub ReadAlike : Result Question Refusal → DeclaredTimes → (folder : List ℕ) → (old one other : Around) → (status end : Status) → Type 0
+ReadAlike (Ok question) times folder old one other status end = AskAlike (question_model question) times folder old one other status end
+ReadAlike (Err refused) times folder old one other status end =
     (one.sources ≡ old.sources) × (other.sources ≡ old.sources) × RefuseAlike old.sinks one.sinks other.sinks status end
 
 -- Two refusals of the same arguments. The wording of help, and of what is wrong with arguments, is left open.
@@ -133,10 +133,10 @@ RefuseWordsAlike unparsed old one other status end =
     (line more : List ℕ) × Ends (IsRefusal line Usage) old one status × Ends (IsRefusal more Usage) old other end
 
 -- two runs of arguments
-pub data AskWordsAlike (words : List (List ℕ)) (times : DeclaredTimes) (old one other : Around) (status end : Status) : Type 0 where
-  asked : {question : QuestionModel} → question_of words ≡ Ok question → AskAlike question times old one other status end
-      → AskWordsAlike words times old one other status end
+pub data AskWordsAlike (words : List (List ℕ)) (times : DeclaredTimes) (folder : List ℕ) (old one other : Around) (status end : Status) : Type 0 where
+  asked : {question : QuestionModel} → question_of words ≡ Ok question → AskAlike question times folder old one other status end
+      → AskWordsAlike words times folder old one other status end
   refused : {refusal : RefusalModel} → question_of words ≡ Err refusal → one.sources ≡ old.sources → other.sources ≡ old.sources
-      → RefuseWordsAlike refusal old.sinks one.sinks other.sinks status end → AskWordsAlike words times old one other status end
+      → RefuseWordsAlike refusal old.sinks one.sinks other.sinks status end → AskWordsAlike words times folder old one other status end
   lacked_memory : LacksMemory old.sinks one.sinks status ⊎ LacksMemory old.sinks other.sinks end
-      → AskWordsAlike words times old one other status end
+      → AskWordsAlike words times folder old one other status end

@@ -147,7 +147,7 @@ pub fn ask_read_words<S: FileSource, B: FileSource, T: FileTimes, O: Sink, E: Si
     requires built { B.state built.old ≡ B.state other_built.old }
     requires out { O.state out.old ≡ O.state other_out.old }
     requires err { E.state err.old ≡ E.state other_err.old }
-    ensures { ReadAlike read.now (T.times times.now)
+    ensures { ReadAlike read.now (T.times times.now) folder.now
         (around (S.state files.old) (B.state built.old) (O.state out.old) (E.state err.old))
         (around (S.state files.new) (B.state built.new) (O.state out.new) (E.state err.new))
         (around (S.state other_files.new) (B.state other_built.new) (O.state other_out.new)
@@ -195,7 +195,7 @@ pub fn ask_words<S: FileSource, B: FileSource, T: FileTimes, O: Sink, E: Sink>(
     requires built { B.state built.old ≡ B.state other_built.old }
     requires out { O.state out.old ≡ O.state other_out.old }
     requires err { E.state err.old ≡ E.state other_err.old }
-    ensures { AskWordsAlike (map string_bytes words.now) (T.times times.now)
+    ensures { AskWordsAlike (map string_bytes words.now) (T.times times.now) folder.now
         (around (S.state files.old) (B.state built.old) (O.state out.old) (E.state err.old))
         (around (S.state files.new) (B.state built.new) (O.state out.new) (E.state err.new))
         (around (S.state other_files.new) (B.state other_built.new) (O.state other_out.new)

@@ -60,10 +60,21 @@ abbrev chain : (start end : List ℕ) (validations no_order_only : Bool) → Why
 chain start end validations no_order_only =
     record { start = start; end = end; validations = validations; no_order_only = no_order_only }
 
--- `tests` without options, by the list in the given file
-abbrev reached : (ctest : List ℕ) → TestsModel
-reached ctest =
-    record { change = changed; ctest = ctest; format = None; why = false; json = false; unnamed = None }
+-- `tests` without options
+abbrev reached : TestsModel
+reached = record {
+  change = changed;
+  ctest = None;
+  meson = None;
+  format = None;
+  why = false;
+  json = false;
+  unnamed = None;
+}
+
+-- by the list in a file
+abbrev listed : TestsModel
+listed = record reached { ctest = Some (codes "list") }
 
 -- ---- each subcommand
 
@@ -98,9 +109,28 @@ unfolding question_of command clap_on_literals
 stale_options_row = refl
 
 tests_row : question_of (codes "tests" ∷ codes "--ctest" ∷ codes "list" ∷ [])
-    ≡ asks (tests (reached (codes "list")))
+    ≡ asks (tests listed)
 unfolding question_of command clap_on_literals
 tests_row = refl
+
+tests_meson_row : question_of (codes "tests" ∷ codes "--meson=build" ∷ codes "--format" ∷ codes "meson" ∷ [])
+    ≡ asks (tests (record reached { meson = Some (codes "build"); format = Some (codes "meson") }))
+unfolding question_of command clap_on_literals
+tests_meson_row = refl
+
+tests_listless_row : question_of (codes "tests" ∷ []) ≡ asks (tests reached)
+unfolding question_of command clap_on_literals
+tests_listless_row = refl
+
+tests_two_lists_row : question_of (codes "tests" ∷ codes "--meson" ∷ codes "build" ∷ codes "--ctest" ∷ codes
+    "list" ∷ [])
+    ≡ asks (tests (record listed { meson = Some (codes "build") }))
+unfolding question_of command clap_on_literals
+tests_two_lists_row = refl
+
+tests_list_twice_row : question_of (codes "tests" ∷ codes "--meson=a" ∷ codes "--meson=b" ∷ []) ≡ Err unparsed
+unfolding question_of command clap_on_literals
+tests_list_twice_row = refl
 
 why_row : question_of (codes "why" ∷ codes "a" ∷ codes "b" ∷ [])
     ≡ asks (why (chain (codes "a") (codes "b") false false))
@@ -172,7 +202,7 @@ keys_options_row = refl
 tests_options_row : question_of (codes "tests" ∷ codes "--source-dir" ∷ codes ".." ∷ codes "-z" ∷ codes
     "--ctest=list" ∷ codes "--ignore=*.md" ∷ codes "--format=ctest" ∷ codes "--unnamed" ∷ codes "skip" ∷ codes
     "--ignore-unknown" ∷ codes "--allow-empty" ∷ codes "--source-dir=/s" ∷ [])
-    ≡ asks (tests (record (reached (codes "list")) {
+    ≡ asks (tests (record listed {
       change = record changed {
         source_dirs = codes ".." ∷ codes "/s" ∷ [];
         zero_ended = true;
@@ -188,7 +218,7 @@ tests_options_row = refl
 
 tests_texts_row : question_of (codes "tests" ∷ codes "--ctest" ∷ codes "list" ∷ codes "--why" ∷ codes "--json"
     ∷ [])
-    ≡ asks (tests (record (reached (codes "list")) { why = true; json = true }))
+    ≡ asks (tests (record listed { why = true; json = true }))
 unfolding question_of command clap_on_literals
 tests_texts_row = refl
 
@@ -350,10 +380,6 @@ twice_row = refl
 stray_row : question_of (codes "json" ∷ codes "a" ∷ []) ≡ Err unparsed
 unfolding question_of command clap_on_literals
 stray_row = refl
-
-listless_row : question_of (codes "tests" ∷ []) ≡ Err unparsed
-unfolding question_of command clap_on_literals
-listless_row = refl
 
 ruled_row : question_of (codes "tests" ∷ codes "--ctest" ∷ codes "list" ∷ codes "--rule=cc" ∷ [])
     ≡ Err unparsed

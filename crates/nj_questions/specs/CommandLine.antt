@@ -23,10 +23,6 @@ flag name = record (new_rule name) { long = Some name; action = Some SetTrue }
 abbrev pub long_option : (name : List ℕ) → Rule
 long_option name = record (new_rule name) { long = Some name; value_names = 1 }
 
--- `--NAME VALUE`, which is required
-abbrev pub required_option : (name : List ℕ) → Rule
-required_option name = record (long_option name) { required = true }
-
 -- `--NAME VALUE`, which may be repeated
 abbrev pub repeated : (name : List ℕ) → Rule
 repeated name = record (long_option name) { action = Some Append }
@@ -82,7 +78,7 @@ stale_options = flag (codes "why") ∷ flag (codes "no-manifest") ∷ words (cod
 
 -- the options of `tests`
 abbrev pub tests_options : List Rule
-tests_options = required_option (codes "ctest") ∷ repeated (codes "source-dir") ∷ short_flag (codes "zero-ended") 122
+tests_options = long_option (codes "ctest") ∷ long_option (codes "meson") ∷ repeated (codes "source-dir") ∷ short_flag (codes "zero-ended") 122
     ∷ repeated (codes "ignore") ∷ flag (codes "ignore-unknown") ∷ flag (codes "allow-empty") ∷ long_option (codes "format")
     ∷ flag (codes "why") ∷ flag (codes "json") ∷ long_option (codes "unnamed") ∷ []
 

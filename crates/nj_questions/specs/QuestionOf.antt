@@ -83,7 +83,8 @@ stale_in rows = record {
 abbrev pub tests_in : List Row → TestsModel
 tests_in rows = record {
   change = affected_in rows;
-  ctest = text_or (codes "ctest") [] rows;
+  ctest = first_of (codes "ctest") rows;
+  meson = first_of (codes "meson") rows;
   format = first_of (codes "format") rows;
   why = is_on (codes "why") rows;
   json = is_on (codes "json") rows;

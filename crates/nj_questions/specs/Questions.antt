@@ -65,10 +65,12 @@ pub record StaleModel : Type 0 where
   pub why : Bool
   pub no_manifest : Bool
 
--- `tests`: of a change, by the list of tests in the file `ctest`; `format` and `unnamed` are words
+-- `tests`: of a change, by the list of tests in the file `ctest`, or by that of Meson in the build directory `meson`; `format` and
+-- `unnamed` are words
 pub record TestsModel : Type 0 where
   pub change : AffectedModel
-  pub ctest : List ℕ
+  pub ctest : Option (List ℕ)
+  pub meson : Option (List ℕ)
   pub format : Option (List ℕ)
   pub why : Bool
   pub json : Bool
@@ -188,7 +190,8 @@ stale_model options = record {
 abbrev pub tests_model : TestsOptions → TestsModel
 tests_model options = record {
   change = affected_model options.change;
-  ctest = string_bytes options.ctest;
+  ctest = option_map string_bytes options.ctest;
+  meson = option_map string_bytes options.meson;
   format = option_map string_bytes options.format;
   why = options.why;
   json = options.json;

@@ -1,7 +1,7 @@
 //! How options and words of the command line are written.
 
 ghost use Rattle.std.specs.Prelude.{◌≡◌, false};
-ghost use Rattle.nj_questions.specs.Cited.{rule_of, rule_in, flag, short_flag, short_option, long_option, required_option, repeated, number, word, words};
+ghost use Rattle.nj_questions.specs.Cited.{rule_of, rule_in, flag, short_flag, short_option, long_option, repeated, number, word, words};
 
 use clap::{Arg, ArgAction, value_parser};
 use std::alloc::Global;
@@ -17,8 +17,6 @@ pub enum Form {
     Flag,
     /// `--NAME VALUE`
     Long(&'static str),
-    /// `--NAME VALUE`, which is required.
-    Required(&'static str),
     /// `--NAME VALUE`, which may be repeated.
     Repeated(&'static str),
     /// `--NAME VALUE`, whose value is a number.
@@ -42,7 +40,6 @@ pub fn arg_of<'a>(alloc: Global, name: &'a str, form: Form, help: &'a str) -> Ar
         Form::Letter(letter) => short_flag(alloc, name, letter, help),
         Form::Flag => flag(alloc, name, help),
         Form::Long(value) => long_option(alloc, name, value, help),
-        Form::Required(value) => required_option(alloc, name, value, help),
         Form::Repeated(value) => repeated(alloc, name, value, help),
         Form::Number(value) => number(alloc, name, value, help),
         Form::Word => word(alloc, name, help),
@@ -98,14 +95,6 @@ fn long_option<'a>(alloc: Global, name: &'a str, value: &'a str, help: &'a str) 
         .long(name)
         .value_name(value)
         .help(help)
-}
-
-// `--NAME VALUE`, which is required.
-fn required_option<'a>(alloc: Global, name: &'a str, value: &'a str, help: &'a str) -> Arg<'a>
-    ensures rule { rule_of result ≡ required_option name.entry.now }
-    ensures local { result.global ≡ false }
-{
-    long_option(alloc, name, value, help).required(true)
 }
 
 // `--NAME VALUE`, which may be repeated.

@@ -173,7 +173,9 @@ pub struct TestsOptions {
     /// The options of the change, as for `affected`, without those that choose outputs.
     pub change: AffectedOptions,
     /// `--ctest FILE`: what `ctest --show-only=json-v1` wrote.
-    pub ctest: String,
+    pub ctest: Option<String>,
+    /// `--meson DIR`: a build directory of Meson, whose `meson-info` has the list of tests.
+    pub meson: Option<String>,
     /// `--format FORMAT`: the word for how the tests are written.
     pub format: Option<String>,
     /// `--why`: each line has the reason too.

@@ -249,14 +249,24 @@ tests are written then, and standard error says why.
 
   ctest --show-only=json-v1 > tests.json
   git diff -z --name-only main | ninja-graph tests -z --ctest tests.json --deps --source-dir .. > names
-  ctest --tests-from-file names",
+  ctest --tests-from-file names
+
+The same for Meson, whose list is in the build directory:
+  git diff -z --name-only main |
+    ninja-graph tests -z --meson . --format meson --deps --source-dir .. > patterns
+  xargs -r -d '\\n' meson test < patterns",
 };
 
-pub const TESTS_OPTIONS: [Entry; 10] = [
+pub const TESTS_OPTIONS: [Entry; 11] = [
     (
         "ctest",
-        Form::Required("FILE"),
+        Form::Long("FILE"),
         "Read the list of tests that ctest --show-only=json-v1 wrote to FILE",
+    ),
+    (
+        "meson",
+        Form::Long("DIR"),
+        "Read the list of tests in meson-info of DIR, a build directory of Meson",
     ),
     (
         "source-dir",
@@ -286,7 +296,7 @@ pub const TESTS_OPTIONS: [Entry; 10] = [
     (
         "format",
         Form::Long("FORMAT"),
-        "Write a name in each line (lines), or one expression for ctest -R (ctest)",
+        "Write names in lines (lines), patterns for meson test in lines (meson), or one for ctest -R (ctest)",
     ),
     ("why", Form::Flag, "Write why each test is chosen, too"),
     ("json", Form::Flag, "Write an object of JSON for each test"),

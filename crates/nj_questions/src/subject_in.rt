@@ -113,7 +113,8 @@ fn tests_in(alloc: Global, options: &ArgMatches<'_>) -> Result<TestsOptions, All
 {
     Ok(TestsOptions {
         change: affected_in(alloc, options)?,
-        ctest: text_or(alloc, options, "ctest", "")?,
+        ctest: text_in(alloc, options, "ctest")?,
+        meson: text_in(alloc, options, "meson")?,
         format: text_in(alloc, options, "format")?,
         why: is_on(options, "why"),
         json: is_on(options, "json"),

@@ -100,9 +100,9 @@ pub data LeavesAnswer (known : DiscoveredGraph) (entries : List ReadStatement) (
 pub data LeavesTold (question : QuestionModel) (times : DeclaredTimes) (folder : List ℕ) (input : List ℕ) (old new : Sources)
     (out out_new : SinkState) : Result Told Failure → Type 0 where
   tells : {known : DiscoveredGraph} {entries : List ReadStatement} {log : BuildLogModel} {list : List TestModel} {told : Result Told Failure}
-      → Knows question times old new known entries log list
+      → Knows question times folder old new known entries log list
       → Returns (Answers known entries log times folder question.subject list input) out out_new told
       → LeavesTold question times folder input old new out out_new told
-  tells_why : {line : Vec ℕ} → Lacks question times old new line.items → out_new ≡ out
+  tells_why : {line : Vec ℕ} → Lacks question times folder old new line.items → out_new ≡ out
       → LeavesTold question times folder input old new out out_new (Err (Refused line Fault))
   tells_memory : out_new ≡ out → LeavesTold question times folder input old new out out_new (Err OutOfMemory)

@@ -4,7 +4,7 @@ use Rattle.std.specs.Borrow.{Bor}
 use Rattle.std.specs.Option.{option_map_or}
 use Rattle.clap.specs.Words.{App, Row, Rule, Shape, found_of, new_app, rows_of, with_rule}
 use Rattle.clap.specs.declared.parser.matches.ArgMatches.{ArgMatches}
-use Rattle.nj_questions.specs.CommandLine.{program, graph_options, short_option, short_flag, long_option, flag, repeated, number, required_option, word, words}
+use Rattle.nj_questions.specs.CommandLine.{program, graph_options, short_option, short_flag, long_option, flag, repeated, number, word, words}
 use Rattle.nj_questions.specs.QuestionOf.{subject_in}
 use Rattle.nj_questions.specs.declared.forms.Form.{Form}
 use Rattle.nj_questions.specs.declared.forms.Form.TheVariants as form
@@ -17,7 +17,6 @@ rule_in name (form.Short letter value) = short_option name letter
 rule_in name (form.Letter letter) = short_flag name letter
 rule_in name form.Flag = flag name
 rule_in name (form.Long value) = long_option name
-rule_in name (form.Required value) = required_option name
 rule_in name (form.Repeated value) = repeated name
 rule_in name (form.Number value) = number name
 rule_in name form.Word = word name

@@ -30,6 +30,6 @@ returns-in-Err-known_graph-clause-lacks g c =
     let new = sources_of (g.S.FileSource.state c.known_graph.new.files)
     (g.B.FileSource.state c.known_graph.new.built) in
     fails-as Fault (LacksGraph question.graph times between new)
-    (LacksFiles question times (sources_of (g.S.FileSource.state c.args.files.now) old) new)
+    (LacksFiles question times c.args.folder.now (sources_of (g.S.FileSource.state c.args.files.now) old) new)
     c.in-Err-known_graph.failure (λ line lacks. no_graph _ c.in-Ok.ensures.read lacks)
     c.in-Err-known_graph.ensures.lacks
