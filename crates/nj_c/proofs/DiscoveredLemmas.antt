@@ -71,6 +71,7 @@ module _ (g : GraphModel) (before : Kept) (files : Supplied) (wanted : Vec (Vec 
     wanted = empty;
     found = refl;
     mark = refl;
+    stale = refl;
     run = record { output = refl; errors = refl };
   }
 
@@ -117,6 +118,7 @@ same-others before after k = record {
   wanted = k.wanted;
   found = k.found;
   mark = k.mark;
+  stale = k.stale;
   run = record { output = k.run.output; errors = k.run.errors };
 }
 

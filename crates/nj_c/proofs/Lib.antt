@@ -24,11 +24,13 @@ mod OneAnswerMarks
 mod OneAnswerPaths
 mod OneAnswerRuns
 mod OneAnswerSessions
+mod OneAnswerStale
 mod OneAnswerTargets
 mod OneAnswerUndeclared
 mod PageLemmas
 mod RunLemmas
 mod SessionValues
+mod StaleLemmas
 mod SuppliedLemmas
 mod WantedLemmas
 mod WordLemmas

@@ -14,7 +14,7 @@ use Rattle.nj_c.specs.OneAnswer.{SameAnswer, SameBuffer, InMemory}
 use Rattle.nj_c.specs.Statuses.{code_of}
 use Rattle.nj_c.proofs.OneAnswerLemmas.{Refuses, not-open, not-loaded, nothing, refused, refused-buffer}
 use Rattle.nj_c.proofs.OneAnswerLemmas.{at-option, at-number, items-agree, texts-agree, texts-agree-in-memory}
-use Rattle.nj_c.proofs.OneAnswerLemmas.{values-agree}
+use Rattle.nj_c.proofs.OneAnswerLemmas.{done-agree, values-agree}
 
 -- ---- the contents, and the graph
 
@@ -482,6 +482,14 @@ module _ {K : Type 0} (session session2 : Option K) (alike : session ≡ session
       part-agrees part (λ p. (one ≡ code_of Done) × (x ≡ of p)) (λ p. (other ≡ code_of Done) × (y ≡ of p))
       (SameAnswer one other (x ≡ y)) (refused one other (x ≡ y))
       (λ p v w. values-agree one other (of p) x y v w) is also
+
+  pub item-of-part : {P : Type 0} (part : K → Option P) (D E : P → Type 0) (Same : Type 0)
+      → ((p : P) → D p → E p → Same) → OfContents session one (λ kept. GivesItem (part kept) one D)
+      → OfContents session2 other (λ kept. GivesItem (part kept) other E) → SameAnswer one other Same
+  item-of-part part D E Same both is also =
+      part-agrees part (λ p. (one ≡ code_of Done) × D p) (λ p. (other ≡ code_of Done) × E p)
+      (SameAnswer one other Same) (refused one other Same)
+      (λ p v w. done-agree one other Same v.0 w.0 (both p v.1 w.1)) is also
 
   module _ (before before2 after after2 : List ℕ) (needed needed2 : ℕ) (same : before ≡ before2)
       (kept : KeptUnlessDone before after one) (kept2 : KeptUnlessDone before2 after2 other)

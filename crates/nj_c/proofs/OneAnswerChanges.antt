@@ -130,6 +130,7 @@ unchanged-contents SameGraphs SameEdges kept new new2 is also graph edges =
       fault = refl;
       found = edges;
       mark = refl;
+      stale = refl;
       joined = λ _. record { log = refl; unknown = refl };
       output = refl;
       errors = refl;
@@ -156,6 +157,7 @@ module _ (SameEdges : List ℕ → List ℕ → Type 0) (kept new new2 : Kept)
       fault = part (λ (k : Kept). k.fault) refl;
       found = edges;
       mark = mark;
+      stale = part (λ (k : Kept). k.stale.items) refl;
       joined = λ _. record {
         log = part (λ (k : Kept). k.log) refl;
         unknown = part (λ (k : Kept). k.unknown.items) refl;

@@ -341,6 +341,7 @@ module _ (g : GraphModel) (stated : List ReadStatement) (graph : IsGraphOf g sta
       fault = faults;
       found = ap (λ v. map (λ e. e.0) v.items) (k.found ∙ sym k2.found);
       mark = ap (λ m. m.items) (k.mark ∙ sym k2.mark);
+      stale = ap (λ v. v.items) (k.stale ∙ sym k2.stale);
       joined = joins;
       output = ap (λ o. o.bytes) (k.run.output ∙ sym k2.run.output);
       errors = ap (λ o. o.bytes) (k.run.errors ∙ sym k2.run.errors);
@@ -357,6 +358,7 @@ module _ (g : GraphModel) (stated : List ReadStatement) (graph : IsGraphOf g sta
       fault = part (λ (k : Kept). k.fault) refl;
       found = part (λ (k : Kept). map (λ e. e.0) k.found.items) refl;
       mark = part (λ (k : Kept). k.mark.items) refl;
+      stale = part (λ (k : Kept). k.stale.items) refl;
       joined = λ _. record {
         log = part (λ (k : Kept). k.log) refl;
         unknown = part (λ (k : Kept). k.unknown.items) refl;

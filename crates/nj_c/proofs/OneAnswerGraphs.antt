@@ -4,6 +4,7 @@ use Rattle.nj_text.specs.declared.spot.Spot.{Spot}
 use Rattle.nj_faults.specs.declared.fault.GraphFault.{GraphFault}
 use Rattle.nj_faults.specs.declared.fault.Place.{Place}
 use Rattle.nj_graph.specs.Graph.{GraphModel, edges_of, files_of}
+use Rattle.nj_state.specs.declared.commands.StaleEdge.{StaleEdge}
 use Rattle.nj_c.specs.declared.session_state.Kept.{Kept}
 use Rattle.nj_c.specs.declared.session_state.LogRead.{LogRead}
 use Rattle.nj_c.specs.OneAnswer.{SameAnswer}
@@ -25,6 +26,9 @@ place_in kept = option_and_then (λ (fault : GraphFault). fault.place) kept.faul
 
 abbrev pub found_at : (index : ℕ) → Kept → Option ℕ
 found_at index kept = slice_get (map (λ e. e.0) kept.found.items) index
+
+abbrev pub stale_at : (index : ℕ) → Kept → Option StaleEdge
+stale_at index kept = slice_get kept.stale.items index
 
 abbrev pub wanted_at : (index : ℕ) → Kept → Option (List ℕ)
 wanted_at index kept = slice_get (map (λ p. p.items) kept.wanted.items) index

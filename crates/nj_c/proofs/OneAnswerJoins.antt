@@ -105,6 +105,7 @@ module _ (g : GraphModel) (stated : List ReadStatement) (graph : IsGraphOf g sta
           fault = part (λ (k : Kept). k.fault) refl;
           found = part (λ (k : Kept). map (λ e. e.0) k.found.items) refl;
           mark = part (λ (k : Kept). k.mark.items) refl;
+          stale = part (λ (k : Kept). k.stale.items) refl;
           joined = λ _. record {
             log = part (λ (k : Kept). k.log) (ap (λ l. Some (read_of l))
                 (says_one_thing bytes log log2 is is2));
@@ -131,6 +132,7 @@ module _ (g : GraphModel) (stated : List ReadStatement) (graph : IsGraphOf g sta
           fault = side (λ (k : Kept). k.fault) (ap Some same);
           found = side (λ (k : Kept). map (λ e. e.0) k.found.items) refl;
           mark = side (λ (k : Kept). k.mark.items) refl;
+          stale = side (λ (k : Kept). k.stale.items) refl;
           joined = λ there. absurd (there (ap (λ (k : Kept). k.graph) left));
           output = side (λ (k : Kept). k.output.bytes) refl;
           errors = side (λ (k : Kept). k.errors.bytes) refl;

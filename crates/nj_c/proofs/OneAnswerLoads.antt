@@ -382,6 +382,7 @@ module _ (kept new new2 : Kept) (main : List ℕ) (joins : Bool) (files : SameFi
       fault = faults;
       found = ap (map (λ e. e.0)) (nothing.0 ∙ sym nothing2.0);
       mark = nothing.1 ∙ sym nothing2.1;
+      stale = nothing.4 ∙ sym nothing2.4;
       joined = λ _. record {
         log = nothing.2 ∙ sym nothing2.2;
         unknown = nothing.3 ∙ sym nothing2.3;

@@ -477,6 +477,7 @@ module _ (law : OneEnding) (kept new new2 : Kept) (text : List ℕ) (exit exit2 
       fault = load.fault ∙ sym load2.fault;
       found = ap (λ v. map (λ e. e.0) v.items) (load.found ∙ sym load2.found);
       mark = ap (λ m. m.items) (load.mark ∙ sym load2.mark);
+      stale = ap (λ v. v.items) (load.stale ∙ sym load2.stale);
       joined = λ _. record {
         log = load.log ∙ sym load2.log;
         unknown = ap (λ u. u.items) (load.unknown ∙ sym load2.unknown);

@@ -20,6 +20,7 @@ empty-agree one other is also = record {
   fault = is.fault ∙ sym also.fault;
   found = ap (map (λ e. e.0)) (is.lists.0 ∙ sym also.lists.0);
   mark = is.lists.1 ∙ sym also.lists.1;
+  stale = is.lists.4 ∙ sym also.lists.4;
   joined = λ _. record {
     log = is.lists.2 ∙ sym also.lists.2;
     unknown = is.lists.3 ∙ sym also.lists.3;
@@ -74,6 +75,7 @@ module _ (kept : Kept) (path : List ℕ) (file : Option (List ℕ)) where
         fault = part (λ (k : Kept). k.fault) refl;
         found = part (λ (k : Kept). map (λ e. e.0) k.found.items) refl;
         mark = part (λ (k : Kept). k.mark.items) refl;
+        stale = part (λ (k : Kept). k.stale.items) refl;
         joined = λ _. record {
           log = part (λ (k : Kept). k.log) refl;
           unknown = part (λ (k : Kept). k.unknown.items) refl;

@@ -117,6 +117,7 @@ same-load before middle after one two = record {
   fault = two.fault ∙ one.fault;
   found = two.found ∙ one.found;
   mark = two.mark ∙ one.mark;
+  stale = two.stale ∙ one.stale;
   log = two.log ∙ one.log;
   unknown = two.unknown ∙ one.unknown;
 }

@@ -26,6 +26,7 @@ pub use Rattle.nj_c.specs.Inside.DiscoveredHeld.{FindsOr, JoinsTo, KeepsFound, I
 pub use Rattle.nj_statements.specs.Built.{detail_at, defaults_in_force}
 pub use Rattle.nj_c.specs.FaultKinds.{kind_of, kind_of_syntax}
 pub use Rattle.nj_faults.specs.FaultLines.{bare_line}
+pub use Rattle.nj_c.specs.StaleEdges.{disk_time, ListsStale, given_times, reason_code, reason_place}
 pub use Rattle.nj_c.specs.Runs.{AllWordsCanBeGiven, OutputsNeverFail, LeavesRun, RunsKept, SameLoad, given_words}
 pub use Rattle.nj_faults.specs.Faults.{no_memory}
 pub use Rattle.nj_c.specs.Inside.Results.{FinishesLoad, KeepsFault, KeepsLoad, KeepsResult, AreStatements}
@@ -44,6 +45,9 @@ pub use Rattle.nj_c.specs.Targets.{PicksFile}
 pub use Rattle.nj_c.specs.Inside.RunsHeld.{empty_memory, FinishesRun, KeepsRun, NoFailures, NoRun, Ran, WordsRefused}
 pub use Rattle.std.specs.Str.{is_utf8}
 pub use Rattle.nj_scope.specs.Sources.{outcome_bytes}
+pub use Rattle.nj_state.specs.Stale.{AreStaleEdges}
+pub use Rattle.nj_c.specs.Inside.StaleHeld.{FindsStale, LogRefused, TimesRefused}
+pub use Rattle.nj_build_log.specs.Logs.{build_log_of}
 pub use Rattle.nj_c.specs.Inside.SuppliedHeld.{read_bytes, wanted_of}
 pub use Rattle.nj_c.specs.UndeclaredInputs.{numbered_input, GivesInputs, GivesUndeclared, InputsKeptUnlessDone}
 pub use Rattle.nj_names.specs.NameTables.{with_name}

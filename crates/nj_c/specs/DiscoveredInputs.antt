@@ -98,6 +98,7 @@ pub record KeepsOthers (before after : Kept) : Type 0 where
   pub wanted : after.wanted.items ≡ []
   pub found : after.found ≡ before.found
   pub mark : after.mark ≡ before.mark
+  pub stale : after.stale ≡ before.stale
   pub run : SameRun before after
 
 -- no graph is left

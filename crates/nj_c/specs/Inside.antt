@@ -4,4 +4,5 @@ pub mod LogsJoined
 pub mod PagesHeld
 pub mod Results
 pub mod RunsHeld
+pub mod StaleHeld
 pub mod SuppliedHeld

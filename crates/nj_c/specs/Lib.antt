@@ -11,6 +11,7 @@ pub mod Targets
 pub mod JoinedLogs
 pub mod DiscoveredInputs
 pub mod DirtyEdges
+pub mod StaleEdges
 pub mod MadeFrom
 pub mod Paths
 pub mod UndeclaredInputs

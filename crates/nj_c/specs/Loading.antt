@@ -26,9 +26,10 @@ abbrev pub Changes : (before after : Option Kept) → ℤ → ((before after : K
 Changes before after result does = MatchOption before ((after ≡ None) × (result ≡ code_of NotOpen))
     (λ kept. (new : Kept) × (after ≡ Some new) × Returns result (does kept new))
 
--- nothing is left of an earlier graph: no list of edges, no mark after it, and nothing that was joined
+-- nothing is left of an earlier graph: no list of edges, no mark after it, nothing that was joined, and no list of stale edges
 abbrev pub LeavesNothing : Kept → Type 0
 LeavesNothing kept = (kept.found.items ≡ []) × (kept.mark.items ≡ []) × (kept.log ≡ None) × (kept.unknown.items ≡ [])
+    × (kept.stale.items ≡ [])
 
 -- the output of the last run is kept unchanged
 pub record SameRun (before after : Kept) : Type 0 where

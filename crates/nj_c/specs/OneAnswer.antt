@@ -66,6 +66,7 @@ pub record SameContents (SameGraphs : GraphModel → GraphModel → Type 0) (Sam
   pub fault : one.fault ≡ other.fault
   pub found : SameEdges (edge_numbers one) (edge_numbers other)
   pub mark : one.mark.items ≡ other.mark.items
+  pub stale : one.stale.items ≡ other.stale.items
   pub joined : one.graph ≢ None → SameJoined one other
   pub output : one.output.bytes ≡ other.output.bytes
   pub errors : one.errors.bytes ≡ other.errors.bytes

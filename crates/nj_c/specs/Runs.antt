@@ -71,6 +71,7 @@ pub record SameLoad (before after : Kept) : Type 0 where
   pub fault : after.fault ≡ before.fault
   pub found : after.found ≡ before.found
   pub mark : after.mark ≡ before.mark
+  pub stale : after.stale ≡ before.stale
   pub log : after.log ≡ before.log
   pub unknown : after.unknown ≡ before.unknown
 

@@ -40,8 +40,12 @@ fn dirtied(alloc: Global, kept: &Kept, numbers: &[usize]) -> Result<Page, Status
     Ok(Page { edges, mark })
 }
 
-// The edges with a flag, of the first ones.
-fn flagged(alloc: Global, flags: &[bool], count: usize) -> Result<Vec<EdgeNo>, AllocError>
+/// The edges with a flag, of the first ones.
+pub(crate) fn flagged(
+    alloc: Global,
+    flags: &[bool],
+    count: usize,
+) -> Result<Vec<EdgeNo>, AllocError>
     ensures edges { IfOk result (λ edges. numbers_of edges.items ≡ flagged flags.now count) }
     ensures below { IfOk result (λ edges. All (λ edge. edge.0 < count) edges.items) }
 {

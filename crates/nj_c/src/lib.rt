@@ -15,6 +15,7 @@ mod edge_times;
 mod edges;
 mod fault_kinds;
 mod faults;
+mod file_times;
 mod files;
 mod items;
 mod lacking_depfiles;
@@ -33,6 +34,7 @@ mod sealed_box;
 mod session;
 mod session_state;
 mod sessions;
+mod stale_edges;
 mod status;
 mod supplied_files;
 mod taken_box;
@@ -62,6 +64,7 @@ pub use program_runs::{nx_run, nx_run_errors, nx_run_output};
 pub use rule_and_target_lists::{nx_default, nx_root, nx_rule_name_at};
 pub use session::Session;
 pub use sessions::{nx_add_absent, nx_add_file, nx_close, nx_open, nx_version};
+pub use stale_edges::{nx_stale, nx_stale_edge};
 pub use undeclared_inputs::{EdgeInput, nx_undeclared};
 pub use values::{nx_command, nx_variable};
 
@@ -92,5 +95,6 @@ pub use one_answer::runs::{run_errors_twice, run_output_twice, run_twice};
 pub use one_answer::sessions::{
     add_absent_twice, add_file_twice, close_twice, open_twice, version_twice,
 };
+pub use one_answer::stale_edges::{stale_edge_twice, stale_twice};
 pub use one_answer::targets::{made_from_twice, pick_target_twice};
 pub use one_answer::values::{command_twice, variable_twice};

@@ -78,6 +78,7 @@ fn forget_load(kept: &mut Kept)
     kept.mark.clear();
     kept.log = None;
     kept.unknown.clear();
+    kept.stale.clear();
 }
 
 // Keeps the wanted paths, or the result of the load.

@@ -17,5 +17,6 @@ pub mod logs;
 pub mod paths;
 pub mod runs;
 pub mod sessions;
+pub mod stale_edges;
 pub mod targets;
 pub mod values;

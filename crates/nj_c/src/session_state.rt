@@ -5,6 +5,7 @@ ghost use Rattle.nj_c.specs.Cited.{IsEmpty};
 use crate::supplied_files::SuppliedFiles;
 use nj_graph::{EdgeNo, Graph, GraphFault};
 use nj_scope::HashKeys;
+use nj_state::StaleEdge;
 use nj_tools::MemorySink;
 use std::alloc::Global;
 
@@ -27,6 +28,8 @@ pub struct Kept {
     pub(crate) log: Option<LogRead>,
     /// For each edge, whether its discovered inputs are not known; empty if none were joined.
     pub(crate) unknown: Vec<bool>,
+    /// The stale edges of the last requested list of them.
+    pub(crate) stale: Vec<StaleEdge>,
     /// The standard output of the last run.
     pub(crate) output: MemorySink,
     /// The standard error of the last run.
@@ -56,6 +59,7 @@ impl Kept {
             mark: Vec::new(alloc),
             log: None,
             unknown: Vec::new(alloc),
+            stale: Vec::new(alloc),
             output: MemorySink::new(alloc, None),
             errors: MemorySink::new(alloc, None),
         }
