@@ -82,14 +82,14 @@ enum nx_status {
     NX_BAD_NUMBER = 6,
     /* The text is not a mark, or it leads to no edge. */
     NX_BAD_MARK = 7,
-    /* The path of the main file, or the arguments of a run, are not UTF-8. */
+    /* The path of the main file or of a file with a time, or the arguments of a run, are not UTF-8. */
     NX_NOT_UTF8 = 8,
     /* The session is not open. */
     NX_NOT_OPEN = 9,
     /* An allocation failed, and nothing else happened, except as nx_load, nx_join_deps,
        nx_join_discovered and nx_run say below. The session can be used and closed as before. */
     NX_OUT_OF_MEMORY = 10,
-    /* The bytes are not a deps log of version 4. */
+    /* The bytes are not a deps log of version 4, or for nx_stale not a build log that it reads. */
     NX_BAD_LOG = 11
 };
 
@@ -187,6 +187,24 @@ typedef struct nx_edge_input {
     size_t file;
 } nx_edge_input;
 
+/* Why an edge is stale, for nx_stale_edge. Their numbers never change; later versions may add some. */
+enum nx_stale_reason {
+    /* Its discovered inputs are unknown; this reason is about no file. */
+    NX_STALE_UNKNOWN_INPUTS = 0,
+    /* An input is stale: a source that does not exist, or an output of a stale edge. */
+    NX_STALE_INPUT = 1,
+    /* An output does not exist. */
+    NX_STALE_MISSING_OUTPUT = 2,
+    /* An output is older than the newest input. */
+    NX_STALE_OLDER_OUTPUT = 3,
+    /* The log has this output from another command. */
+    NX_STALE_OTHER_COMMAND = 4,
+    /* The time that the log has for this output is before the newest input. */
+    NX_STALE_EARLIER_BUILD = 5,
+    /* The log does not have this output. */
+    NX_STALE_NOT_LOGGED = 6
+};
+
 /* A session: all that one graph needs. It owns its memory, which nx_close frees. */
 typedef struct nx_session {
     void *kept;
@@ -195,7 +213,7 @@ typedef struct nx_session {
 /* The value of a session before its first call. */
 #define NX_SESSION_CLOSED { 0 }
 
-/* Times for nx_join_discovered: of a missing file, and an unknown time. */
+/* Times for nx_join_discovered and nx_stale: of a missing file, and an unknown time. */
 #define NX_TIME_ABSENT UINT64_C(0)
 #define NX_TIME_UNKNOWN UINT64_MAX
 
@@ -535,6 +553,36 @@ int32_t nx_path_between(nx_session *session, size_t from, size_t to, uint32_t wi
  */
 int32_t nx_undeclared(nx_session *session, const void *log, size_t log_length, nx_edge_input *inputs,
                       size_t room, size_t *count);
+
+/* ---- stale edges ---- */
+
+/*
+ * Lists the edges that Ninja would run for the targets now: the stale edges among those with commands
+ * that the targets need, in the order of nx_page. nx_stale_edge returns them with their reasons.
+ * `log` has the bytes of a build log of version 5, 6 or 7, as `.ninja_log` has them; no bytes stand
+ * for a log without lines. `times` has for each file of the graph, by its number, when it was last
+ * changed, in nanoseconds since 1970, and NX_TIME_ABSENT for a file that does not exist; `time_count`
+ * is the number of files. NX_TIME_UNKNOWN counts as the latest time, so find out the time, or leave
+ * the question.
+ * An edge is stale if its discovered inputs are unknown, if one of its explicit or implicit inputs is
+ * stale, or if one of its outputs does not exist, is older than the newest of these inputs, or is not
+ * in the log as the result of the same command with these inputs. `restat` and `generator` count as
+ * for Ninja. Call nx_join_discovered first: before it, no edge counts as unknown, and discovered
+ * inputs are missing. Validations count only if they are targets themselves. After any other status
+ * than NX_DONE the list is unchanged; a load empties it.
+ * NX_DONE, NX_BAD_NUMBER for an unknown target or another number of times, NX_BAD_LOG, NX_NOT_UTF8 if
+ * the path of a file is not UTF-8, NX_OUT_OF_MEMORY.
+ */
+int32_t nx_stale(nx_session *session, const void *log, size_t log_length, const uint64_t *times,
+                 size_t time_count, const size_t *targets, size_t target_count);
+
+/*
+ * The edge at an index of the list of nx_stale, and its first reason, one of `enum nx_stale_reason`.
+ * The reason is about a file: for NX_STALE_INPUT the input of the edge at the index `place`, as
+ * nx_input returns it; for another reason its output at that index. NX_STALE_UNKNOWN_INPUTS is about
+ * no file, and `place` is 0. NX_DONE, or NX_NOTHING past the end.
+ */
+int32_t nx_stale_edge(nx_session *session, size_t index, size_t *edge, int32_t *reason, size_t *place);
 
 /* ---- whole runs ---- */
 

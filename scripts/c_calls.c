@@ -7,7 +7,7 @@
    buffers that are too small, null pointers of length 0, and invalid arguments and marks. A call
    that returns many items has to return the same items as one at a time. What files need, chains of
    inputs, undeclared inputs, dirty edges and files on which the manifest depends have to be those
-   that searches of its own find.
+   that searches of its own find, and stale edges those with commands where no file exists.
    Each status has to be one that the header names for the call and the state of the session, a
    buffer may only be written where a text goes, and after the last close no block of memory may be
    left. With `refused` it does so again and again, and refuses one allocation after the other,
@@ -1302,6 +1302,91 @@ static void try_made_from(void)
     }
 }
 
+/* ---- stale edges ---- */
+
+static uint64_t file_times[MOST_MANY];
+
+/* The statuses with which stale edges are listed. */
+static unsigned if_utf8(void)
+{
+    unsigned listed = OF(DONE) | OF(OUT_OF_MEMORY);
+    for (size_t file = 0; file < file_count; file++) {
+        TEXT(if_loaded, nx_path, file, OF(DONE));
+        for (size_t at = 0; at < given_length; at++) {
+            if (given[at] >= 128)
+                return listed | OF(NOT_UTF8);
+        }
+    }
+    return listed;
+}
+
+/* Checks that a reason is about a file of its edge, for which it may hold. */
+static void try_reason(size_t edge, int32_t reason, size_t place)
+{
+    size_t file = 0, maker = 0;
+    int32_t kind = -1, unknown = 0;
+    if (reason == NX_STALE_UNKNOWN_INPUTS) {
+        int32_t status = nx_is_unknown(&session, edge, &unknown);
+        expect(status == NX_DONE && unknown && place == 0, "nx_stale_edge", "known", (long long)edge);
+    } else if (reason == NX_STALE_INPUT) {
+        int32_t status = nx_input(&session, edge, place, &file, &kind);
+        expect(status == NX_DONE && kind != NX_ORDER_ONLY, "nx_stale_edge", "no input", (long long)place);
+        expect(nx_maker(&session, file, &maker) == NX_DONE || file_times[file] == 0, "nx_stale_edge",
+               "a source that exists", (long long)file);
+    } else {
+        int32_t status = nx_output(&session, edge, place, &file);
+        int is_missing = reason == NX_STALE_MISSING_OUTPUT;
+        expect(reason > NX_STALE_INPUT && reason <= NX_STALE_NOT_LOGGED, "nx_stale_edge", "reason", reason);
+        expect(status == NX_DONE && is_missing == (file_times[file] == 0), "nx_stale_edge", "output",
+               (long long)place);
+    }
+}
+
+/* Lists the stale edges by a log without lines, where all files have one time. They have to be those of a
+   page, except that edges with a value of `generator` may be left out if files exist. */
+static void list_stale(const size_t *targets, size_t count, uint64_t time)
+{
+    size_t edge, stale, place, listed = 0;
+    int32_t reason = -1;
+    for (size_t file = 0; file < file_count; file++)
+        file_times[file] = time;
+    int32_t status = IF_LOADED(if_utf8(), nx_stale(&session, NULL, 0, file_times, file_count, targets, count));
+    if (status != NX_DONE || nx_page(&session, targets, count, NULL, 0, SIZE_MAX) != NX_DONE)
+        return;
+    for (size_t index = 0; nx_found(&session, index, &edge) == NX_DONE; index++) {
+        status = IF_OPEN(OF(DONE) | OF(NOTHING), nx_stale_edge(&session, listed, &stale, &reason, &place));
+        if (status == NX_DONE && stale == edge) {
+            try_reason(edge, reason, place);
+            listed++;
+        } else {
+            expect(time != 0 && has_value(edge, "generator"), "nx_stale", "left out", (long long)edge);
+        }
+    }
+    IF_OPEN(OF(NOTHING), nx_stale_edge(&session, listed, &stale, &reason, &place));
+    IF_OPEN(OF(NOTHING), nx_stale_edge(&session, SIZE_MAX, &stale, &reason, &place));
+}
+
+static void try_stale(void)
+{
+    static const char old[] = "# ninja log v4\n";
+    size_t targets[MOST_ITEMS], count = 0, file = 0, edge = 0, place = 0;
+    unsigned bad = OF(BAD_NUMBER) | OF(OUT_OF_MEMORY);
+    int32_t reason = 0;
+    file_count = 0;
+    IF_LOADED(OF(DONE), nx_file_count(&session, &file_count));
+    IF_OPEN(OF(NOTHING), nx_stale_edge(&session, SIZE_MAX, &edge, &reason, &place));
+    if (file_count >= MOST_MANY)
+        return;
+    while (count < MOST_ITEMS && nx_default(&session, count, &file) == NX_DONE)
+        targets[count++] = file;
+    IF_LOADED(bad, nx_stale(&session, NULL, 0, file_times, file_count + 1, targets, count));
+    IF_LOADED(bad, nx_stale(&session, NULL, 0, file_times, file_count, &file_count, 1));
+    IF_LOADED(OF(BAD_LOG) | OF(OUT_OF_MEMORY),
+              nx_stale(&session, old, sizeof old - 1, file_times, file_count, targets, count));
+    list_stale(targets, count, NX_TIME_ABSENT);
+    list_stale(targets, count, 1);
+}
+
 /* ---- whole runs ---- */
 
 #define WORDS(text) { (const uint8_t *)(text), sizeof(text) - 1 }
@@ -1371,6 +1456,7 @@ static void live(void)
     try_logs();
     try_discovered();
     try_made_from();
+    try_stale();
     try_runs();
     ask_all();
     ALWAYS(OF(DONE), nx_close(&session));
@@ -1397,8 +1483,10 @@ static void live(void)
     load("build.ninja", 1);
     ask_all();
     try_made_from();
+    try_stale();
     try_discovered();
     try_made_from();
+    try_stale();
     ask_all();
     IF_OPEN(OF(NOT_UTF8), nx_load(&session, not_utf8, 1, 0));
     if (state != CLOSED)
@@ -1424,6 +1512,7 @@ static void live_briefly(void)
         state = OPEN;
     load("build.ninja", 1);
     ask_all();
+    try_stale();
     run((struct text)WORDS("--dyndep\0-t\0commands"), RAN);
     try_logs();
     load("build.ninja", 1);
