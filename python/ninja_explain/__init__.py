@@ -12,7 +12,7 @@ and commands are strings, in which bytes that are not UTF-8 are lone surrogates
 (`errors="surrogateescape"`).
 """
 
-from ninja_explain._errors import BadDepsLog, BadMark, Fault, FaultKind
+from ninja_explain._errors import BadBuildLog, BadDepsLog, BadMark, Fault, FaultKind
 from ninja_explain._graph import (
     Edge,
     File,
@@ -23,12 +23,15 @@ from ninja_explain._graph import (
     Page,
     Place,
     Run,
+    StaleEdge,
+    StaleReason,
     Step,
     UndeclaredInput,
     run,
 )
 
 __all__ = [
+    "BadBuildLog",
     "BadDepsLog",
     "BadMark",
     "Edge",
@@ -42,6 +45,8 @@ __all__ = [
     "Page",
     "Place",
     "Run",
+    "StaleEdge",
+    "StaleReason",
     "Step",
     "UndeclaredInput",
     "run",

@@ -11,7 +11,7 @@ from ctypes import POINTER, c_char_p, c_int32, c_size_t, c_uint32, c_uint64
 from pathlib import Path
 from typing import Any, Callable, Iterator, Protocol, Sequence, TypeVar, cast
 
-from ninja_explain._errors import STATUS_ERRORS, Fault, FaultKind
+from ninja_explain._errors import STATUS_ERRORS, BadBuildLog, BadDepsLog, Fault, FaultKind
 
 SONAME = "libninja_explain.so.1"
 VARIABLE = "NINJA_EXPLAIN_LIBRARY"
@@ -21,7 +21,7 @@ MAJOR, MINOR = 1, 2
 DONE, NOTHING, SHORT, FAULT, WANTED = range(5)
 # The greatest number that a call takes.
 GREATEST = c_size_t(-1).value
-# Times of outputs: of a missing output, and an unknown time.
+# Times of files: of a missing file, and an unknown time.
 TIME_ABSENT, TIME_UNKNOWN = 0, c_uint64(-1).value
 # How many items of a list one call returns at most.
 ROOM = 4096
@@ -92,6 +92,8 @@ _CALLS: dict[str, Sequence[Any]] = {
     "nx_needed": _NUMBERS,
     "nx_path_between": [c_size_t, c_size_t, c_uint32, POINTER(_Step), c_size_t, _NUMBER],
     "nx_undeclared": [*_TEXT, POINTER(_EdgeInput), c_size_t, _NUMBER],
+    "nx_stale": [*_TEXT, POINTER(c_uint64), c_size_t, *_NUMBERS],
+    "nx_stale_edge": [c_size_t, _NUMBER, _KIND, _NUMBER],
     "nx_page": [*_NUMBERS, *_TEXT, c_size_t],
     "nx_page_mark": _BUFFER,
     "nx_run": [*_TEXT, _KIND],
@@ -318,6 +320,26 @@ class Session:
             if count.value <= room:
                 return [(each.edge, each.file) for each in given[: count.value]]
             room = count.value
+
+    @in_turn
+    def stale(
+        self, log: bytes, times: Sequence[int], targets: Sequence[int]
+    ) -> list[tuple[int, int, int]]:
+        """The stale edges that targets need, each an edge, the number of its reason, and a place."""
+        given = (c_uint64 * len(times))(*times)
+        rooms = given, len(times), *number_arguments(targets)
+        try:
+            self._call("nx_stale", log, len(log), *rooms)
+        except BadDepsLog:
+            raise BadBuildLog("not a build log of version 5, 6 or 7") from None
+        return list(self._by_index(self._stale_edge))
+
+    def _stale_edge(self, index: int) -> tuple[int, int, int] | None:
+        edge, reason, place = c_size_t(), c_int32(), c_size_t()
+        found = ctypes.byref(edge), ctypes.byref(reason), ctypes.byref(place)
+        if not self._is_there("nx_stale_edge", index, *found):
+            return None
+        return edge.value, reason.value, place.value
 
     @in_turn
     def listed(self, name: str, *arguments: Any) -> list[int]:

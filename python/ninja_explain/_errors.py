@@ -83,6 +83,10 @@ class BadDepsLog(ValueError):
     """Bytes that are not a deps log of version 4, which Ninja has written since 1.9."""
 
 
+class BadBuildLog(ValueError):
+    """Bytes that are not a build log of version 5, 6 or 7."""
+
+
 # The meaning of a status of the library, beside a fault.
 STATUS_ERRORS: dict[int, tuple[type[Exception], str]] = {
     5: (ValueError, "no graph is loaded"),

@@ -43,6 +43,18 @@ class Kind(IntEnum):
     ORDER_ONLY = 2
 
 
+class StaleReason(IntEnum):
+    """Why an edge is stale, as in `enum nx_stale_reason` of the header for C."""
+
+    UNKNOWN_INPUTS = 0
+    STALE_INPUT = 1
+    MISSING_OUTPUT = 2
+    OLDER_OUTPUT = 3
+    OTHER_COMMAND = 4
+    EARLIER_BUILD = 5
+    NOT_LOGGED = 6
+
+
 _KINDS = tuple(Kind)
 # Where Ninja keeps its deps log, in the build directory.
 _DEPS_LOG = b".ninja_deps"
@@ -275,6 +287,15 @@ class UndeclaredInput(NamedTuple):
 
     edge: Edge
     file: File
+
+
+class StaleEdge(NamedTuple):
+    """An edge that Ninja would run now, and why: its first reason, and the file that this is about, an
+    input for `STALE_INPUT` and else an output. `file` is None for `UNKNOWN_INPUTS`."""
+
+    edge: Edge
+    reason: StaleReason
+    file: File | None
 
 
 class LogRead(NamedTuple):
@@ -532,6 +553,35 @@ class Graph:
         found = self._session.undeclared(*_log_arguments(log))
         return [UndeclaredInput(Edge._of(self, edge), File._of(self, file)) for edge, file in found]
 
+    def stale(
+        self, log: bytes, times: Mapping[str, int], targets: Iterable[File] | None = None
+    ) -> list[StaleEdge]:
+        """The edges that Ninja would run now for the targets, or without any for the defaults: the stale
+        edges among those that `commands` lists, in its order.
+
+        `log` has the bytes of a build log, which Ninja keeps as `.ninja_log` in the build directory; no
+        bytes stand for a log without lines. `times` tells of each file by its path when it was last
+        changed, in nanoseconds since 1970; a file without a time, or with 0, does not exist. Load the
+        graph with discovered inputs first: without them, no edge counts as unknown.
+
+        Raises BadBuildLog for other bytes; ValueError if a path is not UTF-8, or a time is out of range;
+        and MemoryError.
+        """
+        content, _ = _log_arguments(log)
+        changed = {encoded(name): time for name, time in times.items()}
+        each = [_checked_time(changed.get(encoded(file.path), TIME_ABSENT)) for file in self.files]
+        numbers = self._numbers(self.defaults() if targets is None else targets)
+        found = self._session.stale(content, each, numbers)
+        return [self._stale_edge(*item) for item in found]
+
+    def _stale_edge(self, number: int, reason: int, place: int) -> StaleEdge:
+        edge, why = Edge._of(self, number), StaleReason(reason)
+        if why is StaleReason.UNKNOWN_INPUTS:
+            return StaleEdge(edge, why, None)
+        if why is StaleReason.STALE_INPUT:
+            return StaleEdge(edge, why, edge.inputs[place].file)
+        return StaleEdge(edge, why, edge.outputs[place])
+
     def commands(self, targets: Iterable[File]) -> list[Edge]:
         """The edges with commands that the targets need, each after all that it needs: the edges whose
         commands `ninja -t commands` lists."""
@@ -597,9 +647,9 @@ def _checked_time(time: SupportsIndex) -> int:
 
 
 def _log_arguments(log: object) -> tuple[bytes, int]:
-    """The bytes of a deps log as two arguments."""
+    """The bytes of a log as two arguments."""
     if not isinstance(log, bytes):
-        raise TypeError(f"the bytes of a deps log are needed, not {type(log).__name__}")
+        raise TypeError(f"the bytes of a log are needed, not {type(log).__name__}")
     return log, len(log)
 
 

@@ -17,7 +17,20 @@ from pathlib import Path
 from typing import Any, cast
 from unittest import mock
 
-from ninja_explain import BadDepsLog, BadMark, Edge, Fault, FaultKind, File, Graph, Kind, Place, run
+from ninja_explain import (
+    BadBuildLog,
+    BadDepsLog,
+    BadMark,
+    Edge,
+    Fault,
+    FaultKind,
+    File,
+    Graph,
+    Kind,
+    Place,
+    StaleReason,
+    run,
+)
 
 MANIFEST = """\
 rule cc
@@ -298,6 +311,78 @@ class Discovered(unittest.TestCase):
         with self.assertRaises(Fault) as caught:
             Graph.from_files(DEPFILE, deps_log=deps_log(4, "a.o", "app"), times={})
         self.assertEqual(caught.exception.kind, FaultKind.CYCLE)
+
+
+STALE = """\
+rule plain
+  command = make $out
+rule made
+  command = make $out
+  generator = 1
+build a.o: made a.c
+build b.o: plain b.c
+build app: made a.o b.o || order
+build all: phony app
+"""
+
+
+def build_log(version: int, *lines: "tuple[str, int]") -> bytes:
+    """A build log with outputs, the times that it has for them, and the hash of no command."""
+    texts = [f"0\t1\t{time}\t{output}\t0\n" for output, time in lines]
+    return "".join([f"# ninja log v{version}\n", *texts]).encode()
+
+
+class Stale(unittest.TestCase):
+    times = {"a.c": 1, "b.c": 1, "order": 9, "a.o": 2, "b.o": 2, "app": 3}
+
+    def stale(
+        self, target: str, log: bytes = b"", times: "dict[str, int] | None" = None
+    ) -> "list[tuple[str, StaleReason, str | None]]":
+        with graph_of(STALE) as graph:
+            found = graph.stale(log, {**self.times, **(times or {})}, [graph.target(target)])
+            return [
+                (each.edge.outputs[0].path, each.reason, each.file.path if each.file else None) for each in found
+            ]
+
+    def test_outputs(self) -> None:
+        self.assertEqual(self.stale("a.o"), [])
+        self.assertEqual(self.stale("a.o", build_log(7, ("a.o", 1))), [])
+        self.assertEqual(self.stale("a.o", times={"a.o": 0}), [("a.o", StaleReason.MISSING_OUTPUT, "a.o")])
+        self.assertEqual(self.stale("a.o", times={"a.c": 3}), [("a.o", StaleReason.OLDER_OUTPUT, "a.o")])
+        earlier = build_log(6, ("a.o", 0))
+        self.assertEqual(self.stale("a.o", earlier), [("a.o", StaleReason.EARLIER_BUILD, "a.o")])
+        self.assertEqual(self.stale("b.o"), [("b.o", StaleReason.NOT_LOGGED, "b.o")])
+        other = build_log(5, ("b.o", 2))
+        self.assertEqual(self.stale("b.o", other), [("b.o", StaleReason.OTHER_COMMAND, "b.o")])
+
+    def test_inputs(self) -> None:
+        self.assertEqual(self.stale("a.o", times={"a.c": 0}), [("a.o", StaleReason.STALE_INPUT, "a.c")])
+        needed = [("b.o", StaleReason.NOT_LOGGED, "b.o"), ("app", StaleReason.STALE_INPUT, "b.o")]
+        self.assertEqual(self.stale("app"), needed)
+        with graph_of(STALE) as graph:
+            found = graph.stale(b"", self.times)
+            self.assertEqual([each.edge.number for each in found], [1, 2])
+
+    def test_unknown(self) -> None:
+        with Graph.from_files({"build.ninja": DISCOVERING}, times={}) as graph:
+            (found,) = graph.stale(b"", {"a.c": 1, "a.o": 1}, [graph.target("a.o")])
+            self.assertEqual(found, (graph.edges[0], StaleReason.UNKNOWN_INPUTS, None))
+
+    def test_refused(self) -> None:
+        for log in b"#", build_log(4), deps_log(4, "a.o", "a.h"):
+            with self.assertRaises(BadBuildLog):
+                self.stale("all", log)
+        with self.assertRaises(TypeError):
+            self.stale("all", ".ninja_log")  # type: ignore[arg-type]
+        for time in -1, 1 << 64:
+            with self.assertRaises(ValueError):
+                self.stale("all", times={"a.c": time})
+        with graph_of(STALE) as graph, graph_of(STALE) as other:
+            with self.assertRaises(ValueError):
+                graph.stale(b"", {}, [other.target("all")])
+        with Graph.from_files({"build.ninja": b"build a\xff: phony b\n"}) as graph:
+            with self.assertRaises(ValueError):
+                graph.stale(b"", {})
 
 
 # A manifest that a generator makes again from its inputs, one of which is generated too.
