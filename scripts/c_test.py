@@ -281,7 +281,7 @@ def recipes(tests):
 
 def try_recipes(tests, name, folder, paths, chains):
     """Compares the output of the recipes with that of programs."""
-    database, affected, pages, sources, chain, _, users = recipes(tests)
+    database, affected, pages, sources, chain, _, _, users = recipes(tests)
     python = Program(sys.executable)
     wanted = tests.program.run(["-t", "compdb", "--directory", os.path.realpath(folder)], folder)
     found = python.run([str(database)], folder)
@@ -426,18 +426,29 @@ def would_run(folder):
         return firsts(edge for edge in graph.edges if f"] {edge.command}\n" in ran)
 
 
+def stale_now(folder):
+    """The first outputs of the stale edges, in the manifest's order."""
+    with Graph.load(folder=folder, joins_discovered=True) as graph:
+        there = [it.path for it in graph.files if (folder / it.path).exists()]
+        times = {path: (folder / path).stat().st_mtime_ns for path in there}
+        found = graph.stale((folder / ".ninja_log").read_bytes(), times)
+        return firsts(sorted((it.edge for it in found), key=lambda edge: edge.number))
+
+
 def try_dirty(tests, folder, path, wanted):
     """Compares the edges that a change makes dirty with what is known by hand, and with what Ninja would
-    run; it runs no edge because an output of it is newer."""
+    run; it runs no edge because an output of it is newer. The stale edges are those that it would run."""
     log = built(folder)
     with Graph.load(folder=folder, joins_discovered=True) as graph:
         tests.expect("discovered inputs", f"{path}, none", firsts(graph.dirtied([])), [])
         tests.expect("discovered inputs", f"{path}, read", graph.log_read, (len(log), True))
         tests.expect("discovered inputs", path, firsts(graph.dirtied([graph.target(path)])), wanted)
+    tests.expect("stale edges", f"{path}, none", stale_now(folder), [])
     time = (folder / deps.LOG).stat().st_mtime_ns + 10**9
     os.utime(folder / path, ns=(time, time))
     wanted = [output for output in wanted if output != path]
     tests.expect("discovered inputs", f"{path}, by ninja -n", would_run(folder), wanted)
+    tests.expect("stale edges", path, stale_now(folder), wanted)
 
 
 def try_unknown(tests, folder):
@@ -452,6 +463,10 @@ def try_unknown(tests, folder):
         tests.expect("discovered inputs", "unknown", unknown, ["alone.o"])
         tests.expect("discovered inputs", "unknown, dirty", firsts(graph.dirtied([])), ["alone.o"])
     tests.expect("discovered inputs", "unknown, by ninja -n", would_run(folder), ["alone.o"])
+    tests.expect("stale edges", "unknown", stale_now(folder), ["alone.o"])
+    recipe = [path for path in recipes(tests) if path.stem == "now"]
+    found = Program(sys.executable).run([str(recipe[0])], folder)
+    tests.expect("stale edges", "recipe", found, Ending(3, b"alone.o UNKNOWN_INPUTS \n", b""))
 
 
 def try_discovered(tests):
