@@ -42,7 +42,8 @@ pub use Rattle.nj_ask.specs.Inside.Reached.{warning_by, AreFilesAt, AreTables, A
 pub use Rattle.nj_ask.specs.SameFiles.{full_path_of}
 pub use Rattle.nj_graph.specs.Edges.{is_among, first_output, edge_at, outputs_of, inputs_of, maker_of}
 pub use Rattle.nj_ask.specs.ChosenTests.{AnswersTests, WritesTests, no_path_remark, no_test_remark, remarks, roots_of, MisusesTests}
-pub use Rattle.nj_ask.specs.ChosenTests.{asks_format, format_misuse, style_asked, list_misuse, program_misuse, style_misuse, unnamed_misuse, word_misuse}
+pub use Rattle.nj_ask.specs.ChosenTests.{asks_format, format_misuse, list_misuse, program_misuse, style_asked, style_misuse, unnamed_misuse}
+pub use Rattle.nj_ask.specs.ChosenTests.{word_misuse}
 pub use Rattle.nj_text.specs.Calls.{is_empty}
 pub use Rattle.nj_graph.specs.Files.{path_at}
 pub use Rattle.nj_scope.specs.Sources.{outcome_bytes, SourceState}

@@ -60,7 +60,7 @@ found-stale kept g log bytes times numbers unknown targets (Ok stale) was known 
   is,
   (λ entries of.
       subst (λ u. AreStaleEdges g.built.graph entries u log (given_times g times) (numbered numbers)
-          stale.items) us
+      stale.items) us
       (subst (λ t. AreStaleEdges g.built.graph entries unknown log (given_times g times) t stale.items) ts
       (found entries of))),
 )

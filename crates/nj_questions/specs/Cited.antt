@@ -1,8 +1,7 @@
 -- What the contracts of this crate cite: each name comes from the module in its line.
 pub use Rattle.clap.specs.Words.{app_of, with_rule, with_subcommand, new_app, first_of, rule_of, kind_of, subcommand_rows_of, fault_of}
 pub use Rattle.clap.specs.Words.{subcommand_of}
-pub use Rattle.nj_questions.specs.CommandLine.{command, flag, short_flag, short_option, long_option, repeated, number}
-pub use Rattle.nj_questions.specs.CommandLine.{word, words}
+pub use Rattle.nj_questions.specs.CommandLine.{command, flag, short_flag, short_option, long_option, repeated, number, word, words}
 pub use Rattle.nj_questions.specs.Inside.Held.{rule_at, without_subcommands, subcommand_in, rows_in, word_strings, rule_in, is_question}
 pub use Rattle.nj_questions.specs.Fields.{is_on, text_or, values_in, number_in, given_number}
 pub use Rattle.nj_questions.specs.ReadingLaws.{SubcommandIsRequired, TakenIsQuestion, FilesAfterDashes, KeysKeepOrder}

@@ -40,7 +40,8 @@ returns-in-Ok-clause-lacks g c =
     ∙ ap (full_path folder) c.as_bytes.ensures.value in
     let at = c.deref-in-Ok.ensures ∙ c.in_ok-tests.ensures in
     let targets_at = c.deref-in-Ok-2.ensures ∙ c.in_ok-targets.ensures in
-    err-as (FailsBy Fault (LacksLists c.deref.result.now c.deref-in-Ok.result.now c.deref-in-Ok-2.result.now before
+    err-as (FailsBy Fault (LacksLists c.deref.result.now c.deref-in-Ok.result.now c.deref-in-Ok-2.result.now
+        before
     after))
     (FailsBy Fault (LacksMeson folder dir before after)) c.read_lists.result
     (λ failure. fails-as Fault
@@ -49,7 +50,8 @@ returns-in-Ok-clause-lacks g c =
     (λ line lacks. no_lists
     (subst (λ b. LacksLists b (meson_tests_path dir) (meson_targets_path dir) before after line) build
     (subst (λ p. LacksLists c.deref.result.now p (meson_targets_path dir) before after line) at
-    (subst (λ p. LacksLists c.deref.result.now c.deref-in-Ok.result.now p before after line) targets_at lacks)))))
+    (subst (λ p. LacksLists c.deref.result.now c.deref-in-Ok.result.now p before after line) targets_at
+        lacks)))))
     c.read_lists.ensures.lacks
 
 pub returns-clause-lacks : goal.returns-clause-lacks
@@ -61,5 +63,6 @@ returns-clause-lacks g c =
     fails-as Fault (λ line. line ≡ program_line (dir ++ codes ": its full path is not UTF-8"))
     (LacksMeson folder dir state state) c.of_path.result
     (λ line said.
-    no_path (λ good. true≢false (sym (c.in-Err.ensures.succeeds (subst IsUtf8 (sym path_is) good)))) refl said)
+    no_path (λ good. true≢false (sym (c.in-Err.ensures.succeeds (subst IsUtf8 (sym path_is) good)))) refl
+        said)
     c.of_path.ensures

@@ -17,7 +17,14 @@ returns c =
     record {
       files = files-stay words _ _ c.run_words.result c.run_words.ensures;
       wanted = refl;
-      load = record { graph = refl; fault = refl; found = refl; mark = refl; stale = refl; log = refl;
-          unknown = refl };
+      load = record {
+        graph = refl;
+        fault = refl;
+        found = refl;
+        mark = refl;
+        stale = refl;
+        log = refl;
+        unknown = refl;
+      };
       runs = from-new words before after c.run_words.result c.requires c.run_words.ensures;
     }

@@ -21,7 +21,7 @@ pub returns : goal.returns
 returns c =
     let kept = c.args.kept.now in let g = c.in_ok-graph.graph.now in let numbers = c.args.targets.now in
     let bytes = c.args.bytes.now in let times = c.args.times.now in let given =
-        numbers_of c.deref-4.result.now in
+    numbers_of c.deref-4.result.now in
     let known : AreKnown g numbers = search rules in
     let count : length times ≡ length (files_of g) = search rules in
     let unknown : given ≡ unknown_edges kept g = search rules in

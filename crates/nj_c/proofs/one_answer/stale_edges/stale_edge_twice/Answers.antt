@@ -15,13 +15,13 @@ returns-clause-same c =
     let one = c.nx_stale_edge.new in
     let two = c.nx_stale_edge-2.new in
     passed (λ r s. SameAnswer r s ((one.edge ≡ two.edge) × (one.reason ≡ two.reason)
-        × (one.place ≡ two.place)))
+    × (one.place ≡ two.place)))
     fits fits2 (item-of-part c.args.one.now.kept c.args.other.now.kept c.requires c.nx_stale_edge.result
     c.nx_stale_edge-2.result (stale_at c.args.index)
     (λ (x : StaleEdge). (one.edge ≡ x.edge.0) × (one.reason ≡ reason_code x.reason)
-        × (one.place ≡ reason_place x.reason))
+    × (one.place ≡ reason_place x.reason))
     (λ (x : StaleEdge). (two.edge ≡ x.edge.0) × (two.reason ≡ reason_code x.reason)
-        × (two.place ≡ reason_place x.reason))
+    × (two.place ≡ reason_place x.reason))
     ((one.edge ≡ two.edge) × (one.reason ≡ two.reason) × (one.place ≡ two.place))
     (λ x v w. (v.0 ∙ sym w.0, v.1 ∙ sym w.1, v.2 ∙ sym w.2)) c.nx_stale_edge.ensures.stale
     c.nx_stale_edge-2.ensures.stale)

@@ -26,12 +26,12 @@ returns c =
     passed (λ r s. IfStated c.args.one.now.kept (SameChange Equal Equal r s c.nx_stale.new.session.kept
     c.nx_stale-2.new.session.kept)) fits fits2
     (if-stated c.args.one.now.kept (SameChange Equal Equal r s after after2)
-        (λ has. same-change Equal Equal before
+    (λ has. same-change Equal Equal before
     c.args.other.now.kept after after2 r s (known.kept ∙ c.requires)
     (λ kept new. ListsStale kept new log times targets)
     (λ kept new. ListsStale kept new log times targets)
     (λ kept new new2 status status2 at memory memory2 is also. stale-agree c.some_state_fits.ensures kept log
-        times
+    times
     targets (λ g there. has kept g (sym known.kept ∙ at) there)
     (λ g there. of-graph before kept g (λ h. IsAcyclic (makers_of_inputs (edges_of h)) (length (edges_of h)))
     at there known.edges) new new2 status status2 memory memory2 is also) c.nx_stale.ensures
