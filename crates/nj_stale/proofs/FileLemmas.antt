@@ -1,7 +1,7 @@
 -- Files by their numbers, and by their paths.
 use Rattle.std.proofs.Common.{◌≡◌, ℕ, zero, suc, ◌<◌, ◌+◌, Bool, true, false, Option, Some, None, List, []}
 use Rattle.std.proofs.Common.{◌∷◌, ◌++◌, length, take, refl, sym, ap, ap₂, ◌∙◌, arith, max, true≢false}
-use Rattle.std.specs.Prelude.{unwrap_or, slice_get, slice_index, bytes_eq, if◌then◌else◌}
+use Rattle.std.specs.Prelude.{unwrap_or, slice_get, slice_index, bytes_eq, if◌then◌else◌, ◌==◌}
 use Rattle.std.specs.Option.{option_or}
 use Rattle.std.specs.List.{IsDistinct, AllByRecursion}
 use Rattle.std.proofs.lemmas.List.{length-map}
@@ -9,7 +9,7 @@ use Rattle.std.proofs.lemmas.Option.{slice_get_within}
 use Rattle.std.proofs.lemmas.Slice.Eq.{bytes_eq-Decides}
 use Rattle.nj_names.specs.Files.{AreFiles, path_at}
 use Rattle.nj_names.specs.declared.files.FileNo.{FileNo}
-use Rattle.nj_stale.specs.States.{newest, first_reason}
+use Rattle.nj_stale.specs.States.{newest, first_reason, first_with}
 use Rattle.nj_stale.specs.Numbered.{time_of}
 use Rattle.nj_stale.specs.declared.reason.Reason.{Reason}
 
@@ -67,6 +67,22 @@ newest_by_path files time by_path same (number ∷ numbers) (path ∷ paths) are
     (same number (slice_get_within files number.0 path head)
     ∙ ap (λ (o : Option (List ℕ)). by_path (unwrap_or o [])) head)
     (newest_by_path files time by_path same numbers paths rest)
+
+pub first_by_path : (files : List (List ℕ)) (time : FileNo → ℕ) (by_path : List ℕ → ℕ)
+    → ((file : FileNo) → file.0 < length files → time file ≡ by_path (path_at files file))
+    → (wanted : ℕ) (numbers : List FileNo) (paths : List (List ℕ)) (place : ℕ)
+    → AreFiles files numbers paths
+    → first_with time wanted place numbers ≡ first_with by_path wanted place paths
+first_by_path files time by_path same wanted [] [] place are = refl
+first_by_path files time by_path same wanted [] (path ∷ paths) place are = absurd (cc)
+first_by_path files time by_path same wanted (number ∷ numbers) [] place are = absurd (cc)
+first_by_path files time by_path same wanted (number ∷ numbers) (path ∷ paths) place are =
+    let head : slice_get files number.0 ≡ Some path = cc in
+    let rest : AreFiles files numbers paths = cc in
+    ap₂ (λ (n : ℕ) (r : Option ℕ). if n == wanted then Some place else r)
+    (same number (slice_get_within files number.0 path head)
+    ∙ ap (λ (o : Option (List ℕ)). by_path (unwrap_or o [])) head)
+    (first_by_path files time by_path same wanted numbers paths (place + 1) rest)
 
 -- ---- times
 

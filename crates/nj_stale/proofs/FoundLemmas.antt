@@ -2,7 +2,7 @@
 use Rattle.std.proofs.Common.{◌≡◌, ◌≢◌, ℕ, ◌<◌, ◌≤◌, ◌+◌, Bool, false, Option, Some, None, inl, inr}
 use Rattle.std.proofs.Common.{List, [], ◌++◌, length, map, set, take, drop, refl, sym, ap, ap₂, ◌∙◌, subst}
 use Rattle.std.proofs.Common.{arith}
-use Rattle.std.specs.Prelude.{slice_index, slice_index_or, bytes_eq, if◌then◌else◌, ◌==◌}
+use Rattle.std.specs.Prelude.{slice_index, slice_index_or, bytes_eq, if◌then◌else◌, ◌==◌, unwrap_or}
 use Rattle.std.specs.List.{IsDistinct}
 use Rattle.std.specs.Option.{option_or}
 use Rattle.std.proofs.lemmas.Bool.{cases_lt}
@@ -18,15 +18,17 @@ use Rattle.nj_edges.specs.Edges.{EdgePaths, edge_at, counted_inputs_of, outputs_
 use Rattle.nj_build_log.specs.Logs.{LineModel, entry_of}
 use Rattle.nj_stale.specs.States.{Evidence, State, IsStateOf, is_stale_by, newest, newest_input, lent_time}
 use Rattle.nj_stale.specs.States.{first_reason, by_input, by_missing, by_output, by_discovery, by_outputs}
-use Rattle.nj_stale.specs.States.{by_files, facts_at, reason_of}
-use Rattle.nj_stale.specs.Numbered.{time_of, evidence_of, IsMakersFirst, AreReasonsOf}
+use Rattle.nj_stale.specs.States.{by_files, facts_at, first_with, newest_place, reason_of}
+use Rattle.nj_stale.specs.Numbered.{time_of, evidence_of, AreFound, AreLentBy, AreReasonsOf}
+use Rattle.nj_stale.specs.Numbered.{IsMakersFirst}
 use Rattle.nj_stale.specs.Inside.Held.{time_by, time_held, is_stale_held_by, input_held, missing_held}
 use Rattle.nj_stale.specs.Inside.Held.{output_held, lent_by, state_held, IsFound, IsNext}
 use Rattle.nj_stale.specs.declared.evidence.EdgeFacts.{EdgeFacts}
 use Rattle.nj_stale.specs.declared.reason.Reason.{Reason}
 use Rattle.nj_stale.specs.declared.reason.Reason.TheVariants.{StaleInput, MissingOutput}
-use Rattle.nj_stale.proofs.FileLemmas.{reasons_by_path, newest_by_path, time_at}
-use Rattle.nj_stale.proofs.StateLemmas.{SameEdge, SameInputs, same_inputs, same_reason, same_newest}
+use Rattle.nj_stale.proofs.FileLemmas.{first_by_path, reasons_by_path, newest_by_path, time_at}
+use Rattle.nj_stale.proofs.StateLemmas.{SameEdge, SameInputs, maker_within, same_inputs, same_reason}
+use Rattle.nj_stale.proofs.StateLemmas.{same_newest}
 
 -- ---- what is asked of files
 
@@ -272,3 +274,50 @@ all_found known order turn reasons lent end within found = λ s of_s k lt.
     let n = found.reason_count in
     slice_get-get_or reasons (slice_index order k) None (omega arith)
     ∙ ap Some (found.reason_of_each s of_s k (omega arith))
+
+-- so is what is found of all edges of an order
+pub found_all : (known : Evidence) (order : List ℕ) (turn : ℕ) (reasons : List (Option Reason))
+    (lent : List ℕ)
+    → length order ≤ turn → ((k : ℕ) → k < length order → slice_index order k < length known.edges)
+    → IsFound known order turn reasons lent → AreFound known order reasons lent
+found_all known order turn reasons lent end within found = record {
+  reasons_are = all_found known order turn reasons lent end within found;
+  lent_count = found.lent_count;
+  lent_are = λ s of_s k lt. found.lent_by_each s of_s k (omega arith);
+}
+
+-- ---- the newest input
+
+module _ (g : EdgeGraph) (times : List ℕ) (distinct : IsDistinct bytes_eq g.files)
+    (count : length times ≡ length g.files) (facts : List EdgeFacts) (lines : List LineModel) (s : State)
+    (of_s : IsStateOf (evidence_of g facts times lines) s) (lent : List ℕ) (lends : AreLentBy g.edges s lent)
+  where
+    -- the time that is held for a file is that of the state
+    held_time : (file : FileNo) → file.0 < length g.files
+        → time_held g times lent file ≡ s.time (path_at g.files file)
+    held_time file lt =
+        ap (λ t. time_by (maker_of g.edges path) t lent) (disk g times distinct count file lt)
+        ∙ by (maker_of g.edges path) refl
+      where
+        path : List ℕ
+        path = path_at g.files file
+
+        by : (m : Option ℕ) → maker_of g.edges path ≡ m
+            → time_by m (time_of g.files times path) lent ≡ s.time path
+        by None none = sym (of_s.source path none)
+        by (Some maker) made =
+            ap (λ n. if time_of g.files times path == 0 then n else time_of g.files times path)
+            (lends maker (maker_within g.edges path maker made))
+            ∙ sym (of_s.output path maker made)
+
+    pub newest_by_state : (numbers : List FileNo) (edge : EdgePaths)
+        → AreFiles g.files numbers (counted_inputs_of edge) → (wanted : ℕ)
+        → wanted ≡ unwrap_or (newest (time_held g times lent) numbers) 0
+        → first_with (time_held g times lent) wanted 0 numbers ≡ newest_place s edge
+    newest_by_state numbers edge are wanted is =
+        first_by_path g.files (time_held g times lent) s.time held_time wanted numbers
+        (counted_inputs_of edge) 0 are
+        ∙ ap (λ w. first_with s.time w 0 (counted_inputs_of edge))
+        (is ∙ ap (λ (n : Option ℕ). unwrap_or n 0)
+        (newest_by_path g.files (time_held g times lent) s.time held_time numbers (counted_inputs_of edge)
+        are))

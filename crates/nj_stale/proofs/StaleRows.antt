@@ -3,7 +3,7 @@ use Rattle.std.proofs.Common.{◌≡◌, ℕ, Bool, true, false, Option, Some, N
 use Rattle.std.specs.Prelude.{codes, pos, find, option_map, unwrap_or, bytes_eq}
 use Rattle.nj_edges.specs.Edges.{EdgePaths}
 use Rattle.nj_build_log.specs.Logs.{LineModel}
-use Rattle.nj_stale.specs.States.{reason_of, output_time}
+use Rattle.nj_stale.specs.States.{newest_place, reason_of, output_time}
 use Rattle.nj_stale.specs.declared.evidence.EdgeFacts.{EdgeFacts}
 use Rattle.nj_stale.specs.declared.reason.Reason.{Reason}
 use Rattle.nj_stale.specs.declared.reason.Reason.TheVariants.{UnknownInputs, StaleInput, MissingOutput}
@@ -152,3 +152,21 @@ own_time = refl
 
 lent_by_stale : phony_time (times_of 0 0 4 6 0) (Some UnknownInputs) ≡ 0
 lent_by_stale = refl
+
+-- ---- the newest input
+
+abbrev newest_of : EdgePaths → (times : List ℕ → ℕ) → Option ℕ
+newest_of edge times = newest_place (record { reason = λ edge. None; time = times }) edge
+
+newest_second : newest_of compiled (times_of 9 9 4 6 8) ≡ Some 1
+newest_second = refl
+
+-- the first of several
+newest_twice : newest_of compiled (times_of 9 9 6 6 8) ≡ Some 0
+newest_twice = refl
+
+newest_missing : newest_of compiled (times_of 9 9 0 0 8) ≡ Some 0
+newest_missing = refl
+
+newest_of_none : newest_of (edge_of (codes "o" ∷ []) (codes "g" ∷ []) [] false) (times_of 9 9 6 6 8) ≡ None
+newest_of_none = refl

@@ -3,7 +3,7 @@ use Rattle.std.specs.Prelude.{◌≡◌, ◌≢◌, ℕ, ◌<◌, if◌then◌el
 use Rattle.nj_edges.specs.EdgeGraphs.{EdgeGraph}
 use Rattle.nj_edges.specs.Edges.{EdgePaths, edge_at, counted_inputs_of, maker_of}
 use Rattle.nj_build_log.specs.Logs.{LineModel}
-use Rattle.nj_stale.specs.States.{Evidence, State, IsStateOf}
+use Rattle.nj_stale.specs.States.{Evidence, State, IsStateOf, lent_time}
 use Rattle.nj_stale.specs.declared.evidence.EdgeFacts.{EdgeFacts}
 use Rattle.nj_stale.specs.declared.reason.Reason.{Reason}
 
@@ -40,3 +40,18 @@ pub record IsOrderOfAll (edges : List EdgePaths) (order : List ℕ) : Type 0 whe
 abbrev pub AreReasonsOf : Evidence → (order : List ℕ) → (reasons : List (Option Reason)) → Type 0
 AreReasonsOf known order reasons = (s : State) → IsStateOf known s → (turn : ℕ) → turn < length order
     → slice_get reasons (slice_index order turn) ≡ Some (s.reason (slice_index order turn))
+
+-- each edge of the order has the time that it lends in the state of the build
+abbrev pub AreLentTimesOf : Evidence → (order : List ℕ) → (lent : List ℕ) → Type 0
+AreLentTimesOf known order lent = (s : State) → IsStateOf known s → (turn : ℕ) → turn < length order
+    → slice_index lent (slice_index order turn) ≡ lent_time s (edge_at known.edges (slice_index order turn)) (slice_index order turn)
+
+-- what is found of the edges of an order: why each is stale, and the time that it lends
+pub record AreFound (known : Evidence) (order : List ℕ) (reasons : List (Option Reason)) (lent : List ℕ) : Type 0 where
+  pub reasons_are : AreReasonsOf known order reasons
+  pub lent_count : length lent ≡ length known.edges
+  pub lent_are : AreLentTimesOf known order lent
+
+-- each edge has the time that it lends
+abbrev pub AreLentBy : List EdgePaths → State → (lent : List ℕ) → Type 0
+AreLentBy edges s lent = (edge : ℕ) → edge < length edges → slice_index lent edge ≡ lent_time s (edge_at edges edge) edge

@@ -59,6 +59,19 @@ newest time (file ∷ files) = Some (max (time file) (unwrap_or (newest time fil
 abbrev pub newest_input : State → EdgePaths → Option ℕ
 newest_input s edge = newest s.time (counted_inputs_of edge)
 
+-- the place of the first of the given files that has the wanted time, where the first file has this place
+abbrev pub first_with : {File : Type 0} → (time : File → ℕ) → (wanted : ℕ) → (place : ℕ) → (files : List File) → Option ℕ
+first_with time wanted place [] = None
+first_with time wanted place (file ∷ files) = if time file == wanted then Some place else first_with time wanted (place + 1) files
+
+-- the place of the newest of the given files, the first of several; `None` without files
+abbrev pub place_of_newest : {File : Type 0} → (time : File → ℕ) → (files : List File) → Option ℕ
+place_of_newest time files = first_with time (unwrap_or (newest time files) 0) 0 files
+
+-- the place of the newest of the inputs that count
+abbrev pub newest_place : State → EdgePaths → Option ℕ
+newest_place s edge = place_of_newest s.time (counted_inputs_of edge)
+
 -- a time is before the newest time
 abbrev pub is_before : ℤ → (newest : Option ℕ) → Bool
 is_before time None = false

@@ -1,7 +1,7 @@
 //! What is asked of the files of an edge.
 
 ghost use Rattle.std.specs.Prelude.{◌≡◌, ℕ, ◌<◌, All, length};
-ghost use Rattle.nj_stale.specs.Cited.{AreFiles, counted_inputs_of, edge_at, first_reason, input_held, is_stale_held, missing_held, newest, output_held, time_held};
+ghost use Rattle.nj_stale.specs.Cited.{AreFiles, counted_inputs_of, edge_at, first_reason, first_with, input_held, is_stale_held, missing_held, newest, output_held, time_held};
 
 use crate::evidence::EdgeFacts;
 use crate::judging::by_output;
@@ -51,6 +51,28 @@ pub(crate) fn newest_of(
         newest = Some(newest.unwrap_or(0).max(time));
     }
     newest
+}
+
+/// Returns the place of the first of the given files that has the wanted time, if any.
+pub(crate) fn first_with(
+    graph: &EdgeGraph,
+    times: &[u64],
+    lent: &[u64],
+    wanted: u64,
+    files: &[FileNo],
+) -> Option<usize>
+    requires times { length times.now ≡ length graph.now.files }
+    requires lent { length lent.now ≡ length graph.now.edges }
+    requires known { All (λ file. file.0 < length graph.now.files) files.now }
+    ensures { result
+        ≡ first_with (time_held graph.now times.now lent.now) wanted 0 files.now }
+{
+    'files: for index in 0..files.len() {
+        if time_of(graph, times, lent, files[index]) == wanted {
+            return Some(index);
+        }
+    }
+    None
 }
 
 // Returns the time of a file: its time on the disk, or the time that its maker lends.

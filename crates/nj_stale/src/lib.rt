@@ -20,4 +20,4 @@ pub use laws::{
 };
 pub use order::makers_first;
 pub use reason::Reason;
-pub use reasons::reasons_of;
+pub use reasons::{FoundEdges, found_edges, newest_place, reasons_of};

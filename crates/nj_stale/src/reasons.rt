@@ -1,15 +1,26 @@
 //! The reasons for which edges are stale.
 
 ghost use Rattle.std.specs.Prelude.{◌≡◌, ℕ, ◌<◌, ◌+◌, ◌==◌, List, [], length, map, bytes_eq, slice_index, IfOk};
-ghost use Rattle.nj_stale.specs.Cited.{AreReasonsOf, IsDistinct, IsFound, IsKnown, IsMakersFirst, IsNext, by_discovery, by_files, by_outputs, by_phony_outputs, edge_at, evidence_of, inputs_of, newest_input, reason_of, state_held};
+ghost use Rattle.nj_stale.specs.Cited.{AreFound, AreLentBy, AreReasonsOf, IsDistinct, IsStateOf, LineModel, State, newest_place, IsFound, IsKnown, IsMakersFirst, IsNext, by_discovery, by_files, by_outputs, by_phony_outputs, edge_at, evidence_of, inputs_of, newest_input, reason_of, state_held};
 
 use crate::evidence::EdgeFacts;
-use crate::files::{counted_inputs, first_missing, first_of_outputs, first_stale, newest_of};
+use crate::files::{
+    counted_inputs, first_missing, first_of_outputs, first_stale, first_with, newest_of,
+};
 use crate::judging::lent_by;
 use crate::reason::Reason;
 use nj_build_log::BuildLog;
 use nj_edges::{EdgeGraph, EdgeNo};
 use std::alloc::{AllocError, Global};
+
+/// What is found of the edges of an order.
+#[derive(Debug, Drop)]
+pub struct FoundEdges {
+    /// By edge number, why the edge is stale, or `None` if it is not stale.
+    pub reasons: Vec<Option<Reason>>,
+    /// By edge number, the time that the edge lends to its missing outputs.
+    pub lent: Vec<u64>,
+}
 
 /// Returns why each edge of an order is stale, by edge number, or `None` for an edge that is not
 /// stale. Items of other edges are unspecified.
@@ -34,6 +45,25 @@ pub fn reasons_of(
         (evidence_of graph.now facts.now times.now log.now.lines)
         (map (λ edge. edge.0) order.now) reasons.items) }
 {
+    let found = found_edges(alloc, graph, facts, times, log, order)?;
+    Ok(found.reasons)
+}
+
+/// The same, with the times that the edges lend to their missing outputs.
+pub fn found_edges(
+    alloc: Global,
+    graph: &EdgeGraph,
+    facts: &[EdgeFacts],
+    times: &[u64],
+    log: &BuildLog,
+    order: &[EdgeNo],
+) -> Result<FoundEdges, AllocError>
+    requires known { IsKnown graph.now facts.now times.now }
+    requires order { IsMakersFirst graph.now.edges (map (λ edge. edge.0) order.now) }
+    ensures { IfOk result (λ found. AreFound
+        (evidence_of graph.now facts.now times.now log.now.lines)
+        (map (λ edge. edge.0) order.now) found.reasons.items found.lent.items) }
+{
     // no path has two files
     let _file_count = graph.file_count();
     let mut reasons = vec![in alloc; None; graph.edge_count()]?;
@@ -49,7 +79,26 @@ pub fn reasons_of(
             &mut lent,
         );
     }
-    Ok(reasons)
+    Ok(FoundEdges { reasons, lent })
+}
+
+/// Returns the place of the newest input of an edge among its inputs that count, the first of
+/// several; `None` without such inputs. `lent` has the time that each edge lends to its missing
+/// outputs, as [`found_edges`] finds it.
+pub fn newest_place(graph: &EdgeGraph, times: &[u64], lent: &[u64], edge: EdgeNo) -> Option<usize>
+    requires times { length times.now ≡ length graph.now.files }
+    requires lent { length lent.now ≡ length graph.now.edges }
+    requires edge { edge.0 < length graph.now.edges }
+    ensures { (facts : List EdgeFacts) (lines : List LineModel) (s : State)
+        → IsStateOf (evidence_of graph.now facts times.now lines) s
+        → AreLentBy graph.now.edges s lent.now
+        → result ≡ newest_place s (edge_at graph.now.edges edge.0) }
+{
+    // no path has two files
+    let _file_count = graph.file_count();
+    let files = counted_inputs(graph, edge);
+    let newest = newest_of(graph, times, lent, files).unwrap_or(0);
+    first_with(graph, times, lent, newest, files)
 }
 
 // Finds the reason of an edge, and the time that it lends. The edges before it in the order have
