@@ -19,7 +19,7 @@ use Rattle.nj_needs.specs.Order.{needed_commands}
 use Rattle.nj_needs.proofs.Bridges.{row-paths}
 use Rattle.nj_stale.specs.Laws.{HasNoCycle, SomeStateFits}
 use Rattle.nj_stale.specs.Numbered.{evidence_of}
-use Rattle.nj_stale.specs.States.{IsStateOf}
+use Rattle.nj_stale.specs.States.{Evidence, IsStateOf}
 use Rattle.nj_state.specs.Facts.{facts_of, hash_version}
 use Rattle.nj_state.specs.FileTimesFound.{HasTime, HaveTimes, IsFirstUnanswered}
 use Rattle.nj_state.specs.Stale.{stale_among}
@@ -122,7 +122,9 @@ module _ (law : SomeStateFits) (known : DiscoveredGraph) (entries : List ReadSta
       ap (λ row. needed_commands (makers_of g) (count_of g) (is_phony g) row)
       (row-paths g one.files paths one.are_files ∙ sym (row-paths g other.files paths other.are_files)) in
       let fits = law one.are_stale.known (subst HasNoCycle (sym one.are_stale.is.known_is) graph.acyclic) in
-      one.are_stale.edges fits.0 fits.1 ∙ ap (stale_among fits.0) commands
+      one.are_stale.edges fits.0 fits.1
+      ∙ ap (λ (k : Evidence). stale_among k.edges fits.0 (commands_of g one.files)) evidence
+      ∙ ap (stale_among other.are_stale.known.edges fits.0) commands
       ∙ sym (other.are_stale.edges fits.0 (subst (λ k. IsStateOf k fits.0) evidence fits.1))
 
   timed-or-not : (paths : List (List ℕ)) (a : List StaleEdge) {n : ℕ}

@@ -1,6 +1,7 @@
 -- the definitions to believe
 pub mod Facts
 pub mod FileTimesFound
+pub mod Judged
 pub mod Stale
 pub mod StaleLines
 -- how the code does that

@@ -1,15 +1,14 @@
 //! The edges that Ninja would run.
 
-ghost use Rattle.std.specs.Prelude.{◌≡◌, ◌<◌, ◌++◌, All, IfErr, IfOk, None, OnOk, length, map, slice_index_or};
-ghost use Rattle.nj_state.specs.Cited.{AreHeld, AreStaleBy, AreStaleEdges, FaultsAt, IsKnown, OfStatements, commands_of, edges_of, evidence_of, files_of, stale_by};
+ghost use Rattle.std.specs.Prelude.{◌≡◌, ◌<◌, ◌++◌, All, IfErr, IfOk, IfSome, List, OnOk, length, map, option_to_list};
+ghost use Rattle.nj_state.specs.Cited.{AreStaleBy, AreStaleEdges, EdgeFacts, FaultsAt, HasCounts, IsJudged, IsStateOf, LineModel, OfStatements, State, commands_of, edges_of, evidence_of, files_of, stale_edge};
 
-use crate::facts::facts_of;
-use crate::file_times::times_of;
+use crate::judged::{JudgedBuild, judged_build, reason_at};
 use crate::state_fault::StateFault;
-use nj_build_log::{BuildLog, LogVersion};
+use nj_build_log::BuildLog;
 use nj_graph::{EdgeGraph, EdgeNo, FileNo, FileTimes, Graph};
 use nj_needs::Needs;
-use nj_stale::{EdgeFacts, Reason, makers_first, reasons_of};
+use nj_stale::{Reason, newest_place};
 use std::alloc::{AllocError, Global};
 
 /// An edge that Ninja would run, and the first reason for it.
@@ -17,6 +16,9 @@ use std::alloc::{AllocError, Global};
 pub struct StaleEdge {
     pub edge: EdgeNo,
     pub reason: Reason,
+    /// The place of its newest input among its inputs that count, which are the explicit, the
+    /// implicit and the discovered inputs: the first of several; `None` without such inputs.
+    pub newest: Option<usize>,
 }
 
 /// Returns the stale edges whose commands the targets need, in the order of their commands. The
@@ -43,74 +45,61 @@ pub fn stale_edges<T: FileTimes>(
         All (λ item. item.edge.0 < length (edges_of graph.now)) stale.items) }
     ensures fault { IfErr result (FaultsAt (T.times times.now) (files_of graph.now)) }
 {
-    let version = log.version().unwrap_or(LogVersion::Seven);
-    let facts = facts_of(alloc, graph, unknown, version)?;
-    let times = times_of(alloc, graph, times)?;
-    Ok(stale_in(alloc, graph, &facts, &times, log, targets)?)
+    let build = judged_build(alloc, graph, unknown, log, times)?;
+    Ok(stale_in(alloc, graph, &build, targets)?)
 }
 
-// Returns the stale edges, given what is known of edges and files.
-fn stale_in(
+/// Returns the same by a build that was judged.
+pub fn stale_in(
     alloc: Global,
     graph: &EdgeGraph,
-    facts: &[EdgeFacts],
-    times: &[u64],
-    log: &BuildLog,
+    build: &JudgedBuild,
     targets: &[FileNo],
 ) -> Result<Vec<StaleEdge>, AllocError>
-    requires known { IsKnown graph.now facts.now times.now }
+    requires counts { HasCounts graph.now build.now }
     requires targets { All (λ file. file.0 < length graph.now.files) targets.now }
-    ensures stale { IfOk result (λ stale. AreStaleBy
-        (evidence_of graph.now facts.now times.now log.now.lines)
+    ensures stale { IfOk result (λ stale. (facts : List EdgeFacts) (lines : List LineModel)
+        → IsJudged graph.now facts lines build.now
+        → AreStaleBy (evidence_of graph.now facts build.now.times.items lines)
         (commands_of graph.now targets.now) stale.items) }
     ensures known { IfOk result (λ stale.
         All (λ item. item.edge.0 < length graph.now.edges) stale.items) }
 {
-    let order = makers_first(alloc, graph)?;
-    let reasons = reasons_of(alloc, graph, facts, times, log, &order)?;
-    with_reasons(alloc, graph, &reasons, targets)
-}
-
-// Returns the edges that have a reason and whose commands the targets need.
-fn with_reasons(
-    alloc: Global,
-    graph: &EdgeGraph,
-    reasons: &[Option<Reason>],
-    targets: &[FileNo],
-) -> Result<Vec<StaleEdge>, AllocError>
-    requires { All (λ file. file.0 < length graph.now.files) targets.now }
-    ensures { IfOk result (λ stale. AreHeld (length graph.now.edges) reasons.now
-        (commands_of graph.now targets.now) stale.items) }
-{
     let mut stale = Vec::new(alloc);
     let mut needs = Needs::new(alloc, graph, targets)?;
     'commands: while let Some(edge) = needs.next() {
-        push_stale(&mut stale, edge, reason_at(reasons, edge))?;
+        push_found(&mut stale, stale_edge(graph, build, edge))?;
     }
     Ok(stale)
 }
 
-// Appends an edge with its reason, if any.
-fn push_stale(
-    stale: &mut Vec<StaleEdge>,
-    edge: EdgeNo,
-    reason: Option<Reason>,
-) -> Result<(), AllocError>
-    ensures { OnOk result (stale.new.items ≡ stale.old.items ++ stale_by edge.0 reason) }
+// Appends an edge that was found, if any.
+fn push_found(stale: &mut Vec<StaleEdge>, found: Option<StaleEdge>) -> Result<(), AllocError>
+    ensures { OnOk result (stale.new.items ≡ stale.old.items ++ option_to_list found) }
 {
-    match reason {
-        Some(reason) => stale.push(StaleEdge { edge, reason })?,
+    match found {
+        Some(found) => stale.push(found)?,
         None => {}
     }
     Ok(())
 }
 
-// Returns the reason of an edge, if any.
-fn reason_at(reasons: &[Option<Reason>], edge: EdgeNo) -> Option<Reason>
-    ensures { result ≡ slice_index_or reasons.now edge.0 None }
+// Returns an edge with its reason, if it is stale.
+fn stale_edge(graph: &EdgeGraph, build: &JudgedBuild, edge: EdgeNo) -> Option<StaleEdge>
+    requires counts { HasCounts graph.now build.now }
+    requires edge { edge.0 < length graph.now.edges }
+    ensures stale { (facts : List EdgeFacts) (lines : List LineModel) (s : State)
+        → IsJudged graph.now facts lines build.now
+        → IsStateOf (evidence_of graph.now facts build.now.times.items lines) s
+        → result ≡ stale_edge graph.now.edges s edge.0 }
+    ensures edge { IfSome result (λ found. found.edge ≡ edge) }
 {
-    match reasons.get(edge.0) {
-        Some(reason) => *reason,
+    match reason_at(&build.reasons, edge) {
+        Some(reason) => Some(StaleEdge {
+            edge,
+            reason,
+            newest: newest_place(graph, &build.times, &build.lent, edge),
+        }),
         None => None,
     }
 }

@@ -5,12 +5,14 @@
 mod commands;
 mod facts;
 mod file_times;
+mod judged;
 mod lines;
 mod state_fault;
 
-pub use commands::{StaleEdge, stale_edges};
+pub use commands::{StaleEdge, stale_edges, stale_in};
 pub use facts::facts_of;
 pub use file_times::times_of;
+pub use judged::{JudgedBuild, judged_build};
 pub use lines::{push_stale_line, stale_lines};
 pub use nj_stale::Reason;
 pub use state_fault::StateFault;

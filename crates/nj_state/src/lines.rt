@@ -1,7 +1,7 @@
 //! The lines about stale edges.
 
 ghost use Rattle.std.specs.Prelude.{◌≡◌, ◌<◌, ◌++◌, All, IfOk, List, OnOk, ℕ, length, option_map, slice_get};
-ghost use Rattle.nj_state.specs.Cited.{AreFiles, edge_at, flat_map, input_text, input_words, inputs_of, name_at, output_text, output_words, outputs_of, reason_text, stale_line, why_text};
+ghost use Rattle.nj_state.specs.Cited.{AreFiles, edge_at, flat_map, input_text, input_words, inputs_of, name_at, newest_path, newest_text, output_text, outputs_of, reason_text, stale_line, why_text};
 
 use crate::commands::StaleEdge;
 use nj_graph::{EdgeGraph, EdgeNo, FileNo};
@@ -59,44 +59,54 @@ fn push_why(
         return Ok(());
     }
     text.extend_from_slice(b": ")?;
-    push_reason(text, graph, stale.edge, stale.reason)
+    push_reason(text, graph, stale)
 }
 
-// Appends the reason of an edge.
-fn push_reason(
-    text: &mut Vec<u8>,
-    graph: &EdgeGraph,
-    edge: EdgeNo,
-    reason: Reason,
-) -> Result<(), AllocError>
-    requires { edge.0 < length graph.now.edges }
-    ensures { OnOk result (text.new.items ≡ text.old.items
-        ++ reason_text graph.now.edges (edge_at graph.now.edges edge.0) reason) }
+// Appends the reason of a stale edge.
+fn push_reason(text: &mut Vec<u8>, graph: &EdgeGraph, stale: StaleEdge) -> Result<(), AllocError>
+    requires { stale.edge.0 < length graph.now.edges }
+    ensures { OnOk result (text.new.items ≡ text.old.items ++ reason_text graph.now.edges
+        (edge_at graph.now.edges stale.edge.0) stale.newest stale.reason) }
 {
-    match reason {
+    let edge = stale.edge;
+    match stale.reason {
         Reason::UnknownInputs => text.extend_from_slice(b"its discovered inputs are not known"),
         Reason::StaleInput(place) => push_input(text, graph, edge, place),
-        Reason::MissingOutput(place)
-        | Reason::OlderOutput(place)
-        | Reason::OtherCommand(place)
-        | Reason::EarlierBuild(place)
-        | Reason::NotLogged(place) => {
-            push_output(text, graph, edge, place, output_words(reason))
+        Reason::MissingOutput(place) => push_output(text, graph, edge, place, b" is missing"),
+        Reason::OlderOutput(_) => push_newest(text, graph, stale, b" is newer"),
+        Reason::OtherCommand(_) => text.extend_from_slice(b"the command changed"),
+        Reason::EarlierBuild(_) => {
+            push_newest(text, graph, stale, b" is newer than the last build")
+        }
+        Reason::NotLogged(place) => {
+            push_output(text, graph, edge, place, b" is not in the build log")
         }
     }
 }
 
-// Returns the words about an output for a reason.
-fn output_words(reason: Reason) -> &'static [u8]
-    ensures { result.now ≡ output_words reason }
+// Appends the newest input of a stale edge, and the words about it.
+fn push_newest(
+    text: &mut Vec<u8>,
+    graph: &EdgeGraph,
+    stale: StaleEdge,
+    words: &[u8],
+) -> Result<(), AllocError>
+    requires { stale.edge.0 < length graph.now.edges }
+    ensures { OnOk result (text.new.items ≡ text.old.items
+        ++ newest_text (edge_at graph.now.edges stale.edge.0) stale.newest words.now) }
 {
-    match reason {
-        Reason::UnknownInputs | Reason::StaleInput(_) => b"",
-        Reason::MissingOutput(_) => b" is missing",
-        Reason::OlderOutput(_) => b" is older than an input",
-        Reason::OtherCommand(_) => b" was made by another command",
-        Reason::EarlierBuild(_) => b" was built before an input changed",
-        Reason::NotLogged(_) => b" is not in the build log",
+    text.extend_from_slice(newest_path(graph, stale.edge, stale.newest))?;
+    text.extend_from_slice(words)
+}
+
+// Returns the path of the newest input of an edge, given its place; empty without a place.
+fn newest_path(graph: &EdgeGraph, edge: EdgeNo, newest: Option<usize>) -> &[u8]
+    requires { edge.0 < length graph.now.edges }
+    ensures { result.now ≡ newest_path (edge_at graph.now.edges edge.0) newest }
+{
+    match newest {
+        Some(place) => path_in(graph, graph.inputs(edge), place),
+        None => b"",
     }
 }
 

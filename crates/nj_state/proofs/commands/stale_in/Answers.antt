@@ -1,42 +1,35 @@
-use Rattle.std.proofs.Common.{All, ◌<◌, List, Option, length, map, subst}
-use Rattle.std.proofs.lemmas.Result.{IfOk-weaker}
-use Rattle.std.proofs.lemmas.List.Elements.{All-from_recursion}
+use Rattle.std.proofs.Common.{◌≡◌, ◌<◌, ◌∙◌, Option, [], ◌∷◌, ◌++◌, ap, length, subst, sym, append_assoc}
+use Rattle.std.specs.Prelude.{IfSome, option_to_list}
+use Rattle.std.specs.List.{AllByRecursion}
+use Rattle.nj_edges.specs.EdgeGraphs.{EdgeGraph}
 use Rattle.nj_edges.specs.declared.edges.EdgeNo.{EdgeNo}
-use Rattle.nj_needs.specs.Walks.{commands_of}
-use Rattle.nj_stale.specs.declared.reason.Reason.{Reason}
-use Rattle.nj_stale.specs.Numbered.{AreReasonsOf, evidence_of}
 use Rattle.nj_state.specs.declared.commands.StaleEdge.{StaleEdge}
-use Rattle.nj_state.specs.Inside.ReasonsHeld.{AreHeld}
-use Rattle.nj_state.specs.Stale.{AreStaleBy}
-use Rattle.nj_state.proofs.ReasonLemmas.{all_stale}
+use Rattle.nj_state.proofs.ReasonLemmas.{known_more, more_stale}
 use Rattle.nj_state.proofs.commands.stale_in.Goals as goal
 
-pub returns-clause-stale : goal.returns-clause-stale
-returns-clause-stale c =
-    let g = c.args.graph.now in
-    let facts = c.args.facts.now in
-    let times = c.args.times.now in
-    let lines = c.args.log.now.lines in
-    let known = evidence_of g facts times lines in
-    let order = map (λ (edge : EdgeNo). edge.0) c.in_ok-order.order.items in
-    let reasons = c.in_ok-reasons.reasons.items in
-    let edges = commands_of g c.args.targets.now in
-    let are = subst (λ (o : List EdgeNo). AreReasonsOf known (map (λ (edge : EdgeNo). edge.0) o) reasons)
-    c.deref.ensures.value c.in_ok-reasons.ensures in
-    IfOk-weaker c.with_reasons.result (λ stale. AreHeld (length g.edges) c.deref-2.result.now edges
-    stale.items)
-    (λ stale. AreStaleBy known edges stale.items)
-    (λ stale held. all_stale g facts times lines order reasons edges stale.items c.in_ok-order.ensures are
-    (subst (λ (rs : List (Option Reason)). AreHeld (length g.edges) rs edges stale.items)
-    c.deref-2.ensures.value
-    held)) c.with_reasons.ensures
-
-pub returns-clause-known : goal.returns-clause-known
-returns-clause-known c =
-    let g = c.args.graph.now in
-    IfOk-weaker c.with_reasons.result
-    (λ stale. AreHeld (length g.edges) c.deref-2.result.now (commands_of g c.args.targets.now) stale.items)
-    (λ stale. All (λ (item : StaleEdge). item.edge.0 < length g.edges) stale.items)
-    (λ stale held. All-from_recursion (λ (item : StaleEdge). item.edge.0 < length g.edges) stale.items
-    held.known)
-    c.with_reasons.ensures
+pub commands-preserved : goal.commands-preserved
+commands-preserved c =
+    let i = c.commands.invariant in
+    let edge = c.in-Some.edge.0 in
+    let edges = c.args.graph.now.edges in
+    let count = length edges in
+    let stale = c.commands.stale.items in
+    let found = c.stale_edge.result in
+    let lt : edge < count = subst (λ (g : EdgeGraph). edge < length g.edges) i.graph c.in-Some.ensures.known
+    in
+    record {
+      before = i.before ++ edge ∷ [];
+      graph = c.in-Some.ensures.same.graph ∙ i.graph;
+      split = append_assoc i.before (edge ∷ []) c.next.new.self.left
+          ∙ ap (λ left. i.before ++ left) (sym c.in-Some.ensures.next.first) ∙ i.split;
+      known = subst (AllByRecursion (λ (item : StaleEdge). item.edge.0 < count))
+          (sym c.in_ok-push_found.ensures)
+          (known_more count stale edge found i.known lt (λ item is.
+          ap (λ (e : EdgeNo). e.0) (subst (λ (o : Option StaleEdge). IfSome o (λ f. f.edge ≡ c.in-Some.edge))
+          is c.stale_edge.ensures.edge)));
+      stale_are = λ facts lines judged s fits.
+          c.in_ok-push_found.ensures
+          ∙ ap (λ (f : Option StaleEdge). stale ++ option_to_list f)
+          (c.stale_edge.ensures.stale facts lines s judged fits)
+          ∙ more_stale edges s i.before stale edge (i.stale_are facts lines judged s fits);
+    }
