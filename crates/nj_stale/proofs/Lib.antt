@@ -8,3 +8,5 @@ pub mod NeededLemmas
 pub mod OrderLemmas
 pub mod TouchLemmas
 pub mod StaleRows
+pub mod WorkLemmas
+pub mod MissingLemmas

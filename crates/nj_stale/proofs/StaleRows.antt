@@ -3,7 +3,9 @@ use Rattle.std.proofs.Common.{◌≡◌, ℕ, Bool, true, false, Option, Some, N
 use Rattle.std.specs.Prelude.{codes, pos, find, option_map, unwrap_or, bytes_eq}
 use Rattle.nj_edges.specs.Edges.{EdgePaths}
 use Rattle.nj_build_log.specs.Logs.{LineModel}
+use Rattle.nj_stale.specs.Missing.{first_lost}
 use Rattle.nj_stale.specs.States.{newest_place, reason_of, output_time}
+use Rattle.nj_stale.specs.Work.{is_idle}
 use Rattle.nj_stale.specs.declared.evidence.EdgeFacts.{EdgeFacts}
 use Rattle.nj_stale.specs.declared.reason.Reason.{Reason}
 use Rattle.nj_stale.specs.declared.reason.Reason.TheVariants.{UnknownInputs, StaleInput, MissingOutput}
@@ -170,3 +172,31 @@ newest_missing = refl
 
 newest_of_none : newest_of (edge_of (codes "o" ∷ []) (codes "g" ∷ []) [] false) (times_of 9 9 6 6 8) ≡ None
 newest_of_none = refl
+
+-- ---- missing sources
+
+abbrev lost : (is_stated : List ℕ → Bool) → (times : List ℕ → ℕ) → List (List ℕ) → Option (List ℕ)
+lost is_stated times paths =
+    first_lost (record { edges = compiled ∷ []; facts = []; disk_time = times; lines = [] }) is_stated paths
+
+lost_first : lost (λ path. true) (times_of 5 5 4 0 0) (codes "c" ∷ codes "h" ∷ codes "g" ∷ [])
+    ≡ Some (codes "h")
+lost_first = refl
+
+-- what an edge makes is not a source
+lost_output : lost (λ path. true) (times_of 0 5 4 5 3) (codes "o" ∷ codes "c" ∷ []) ≡ None
+lost_output = refl
+
+-- the manifest does not name the source
+lost_unnamed : lost (λ path. false) (times_of 5 5 4 0 3) (codes "h" ∷ []) ≡ None
+lost_unnamed = refl
+
+-- phony edges without any input
+idle : is_idle (edge_of (codes "o" ∷ []) [] [] true) ≡ true
+idle = refl
+
+idle_order_only : is_idle (edge_of (codes "o" ∷ []) (codes "g" ∷ []) [] true) ≡ false
+idle_order_only = refl
+
+idle_command : is_idle (edge_of (codes "o" ∷ []) [] [] false) ≡ false
+idle_command = refl

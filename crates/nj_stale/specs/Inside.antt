@@ -1,2 +1,4 @@
 -- How the code meets the definitions beside this directory. Contracts of public calls do not need these definitions.
 pub mod Held
+pub mod WorkHeld
+pub mod MissingHeld

@@ -2,6 +2,8 @@
 pub mod States
 pub mod Laws
 pub mod Touches
+pub mod Work
+pub mod Missing
 pub mod Needed
 pub mod Numbered
 -- how the code does that

@@ -44,8 +44,8 @@ pub fn makers_first(alloc: Global, graph: &EdgeGraph) -> Result<Vec<EdgeNo>, All
     Ok(order)
 }
 
-// Returns the numbers of the edges in that order.
-fn edge_numbers(alloc: Global, graph: &EdgeGraph) -> Result<Vec<usize>, AllocError>
+/// Returns the numbers of the edges in that order.
+pub(crate) fn edge_numbers(alloc: Global, graph: &EdgeGraph) -> Result<Vec<usize>, AllocError>
     ensures { IfOk result (λ order.
         AreAfterNeeds (makers_of_inputs graph.now.edges) (length graph.now.edges) order.items) }
 {

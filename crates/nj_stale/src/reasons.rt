@@ -221,8 +221,8 @@ fn by_phony_outputs(graph: &EdgeGraph, times: &[u64], edge: EdgeNo) -> Option<Re
     }
 }
 
-// Whether an edge has no input of any kind.
-fn has_no_input(graph: &EdgeGraph, edge: EdgeNo) -> bool
+/// Whether an edge has no input of any kind.
+pub(crate) fn has_no_input(graph: &EdgeGraph, edge: EdgeNo) -> bool
     requires { edge.0 < length graph.now.edges }
     ensures { result ≡ (length (inputs_of (edge_at graph.now.edges edge.0)) == 0) }
 {
