@@ -2,3 +2,4 @@ pub mod FactLemmas
 pub mod TimeLemmas
 pub mod ReasonLemmas
 pub mod LineLemmas
+pub mod LawLemmas

@@ -11,6 +11,7 @@ pub use Rattle.nj_stale.specs.Numbered.{evidence_of, IsKnown}
 pub use Rattle.nj_state.specs.Inside.Flags.{AreFlags}
 pub use Rattle.nj_graph.specs.Handles.{OfEdge, edge_of}
 pub use Rattle.nj_state.specs.Facts.{edge_hash, facts_by, facts_of, has_value, hash_version}
+pub use Rattle.nj_state.specs.Laws.{ListedEdgesAreTheStale}
 pub use Rattle.nj_names.specs.Files.{AreFiles}
 pub use Rattle.nj_edges.specs.Edges.{edge_at, inputs_of, outputs_of}
 pub use Rattle.std.specs.List.{flat_map}

@@ -2,6 +2,7 @@
 pub mod Facts
 pub mod FileTimesFound
 pub mod Judged
+pub mod Laws
 pub mod Stale
 pub mod StaleLines
 -- how the code does that
