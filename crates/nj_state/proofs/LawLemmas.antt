@@ -1,11 +1,9 @@
 -- The listed edges are the stale ones among the needed commands.
-use Rattle.std.proofs.Common.{◌≡◌, ◌<◌, ℕ, zero, suc, true, Option, Some, None, List, [], ◌∷◌, length, map}
+use Rattle.std.proofs.Common.{◌≡◌, ℕ, zero, suc, true, Option, Some, None, List, [], ◌∷◌, length, map}
 use Rattle.std.proofs.Common.{refl, sym, ap, subst, ◌∙◌, arith, true≢false}
 use Rattle.std.specs.Prelude.{Contains, is_some, option_map}
 use Rattle.std.specs.List.{cons_option}
-use Rattle.nj_edges.specs.EdgeGraphs.{EdgeGraph}
 use Rattle.nj_edges.specs.Edges.{EdgePaths, edge_at, maker_of}
-use Rattle.nj_graph.specs.declared.FileNo.{FileNo}
 use Rattle.nj_names.specs.Files.{path_at}
 use Rattle.nj_needs.specs.Graphs.{count_of, is_phony, makers_of, row_of}
 use Rattle.nj_needs.specs.Laws.{CommandsAreTheReached}

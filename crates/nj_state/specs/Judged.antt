@@ -1,5 +1,5 @@
 -- What is found of a whole build.
-use Rattle.std.specs.Prelude.{◌≡◌, ◌<◌, ℕ, Option, None, List, length, slice_index_or}
+use Rattle.std.specs.Prelude.{◌≡◌, ◌<◌, ℕ, None, List, length, slice_index_or}
 use Rattle.nj_edges.specs.EdgeGraphs.{EdgeGraph}
 use Rattle.nj_build_log.specs.Logs.{LineModel}
 use Rattle.nj_stale.specs.States.{State, IsStateOf}

@@ -1,4 +1,4 @@
-use Rattle.std.proofs.Common.{ℕ, length, map, refl, subst, sym}
+use Rattle.std.proofs.Common.{length, map, refl, subst, sym}
 use Rattle.nj_edges.specs.EdgeGraphs.{EdgeGraph}
 use Rattle.nj_edges.specs.declared.edges.EdgeNo.{EdgeNo}
 use Rattle.nj_needs.specs.Walks.{commands_of}

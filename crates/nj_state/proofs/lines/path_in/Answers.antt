@@ -1,4 +1,4 @@
-use Rattle.std.proofs.Common.{[], Some, None, List, ℕ, Option, ap, sym, ◌∙◌}
+use Rattle.std.proofs.Common.{[], List, ℕ, Option, ap, sym, ◌∙◌}
 use Rattle.std.specs.Prelude.{unwrap_or}
 use Rattle.nj_state.proofs.LineLemmas.{none_at_place, some_at_place}
 use Rattle.nj_state.proofs.lines.path_in.Goals as goal
