@@ -10,7 +10,7 @@ use Rattle.nj_cycles.specs.Cycles.{IsAcyclic}
 use Rattle.nj_edges.specs.Needs.{makers_of_inputs}
 use Rattle.nj_discovered.specs.Times.{IsTimeOf}
 use Rattle.nj_discovered.specs.Times.IsTimeOf.{asked, not_asked}
-use Rattle.nj_discovered.specs.declared.times.TimeFound.TheVariants.{Time, NoAnswer}
+use Rattle.nj_discovered.specs.declared.times.TimeFound.TheVariants.{Time}
 use Rattle.nj_build_log.specs.Logs.{BuildLogModel, build_log_of}
 use Rattle.nj_graph.specs.Graph.{GraphModel, IsGraphOf, edges_of, files_of}
 use Rattle.nj_needs.specs.Walks.{commands_of}

@@ -15,7 +15,7 @@ use Rattle.nj_state.specs.declared.commands.StaleEdge.{StaleEdge}
 use Rattle.nj_state.specs.declared.state_fault.StateFault.TheVariants.{NoTime}
 use Rattle.nj_c.specs.declared.session_state.Kept.{Kept}
 use Rattle.nj_c.specs.declared.status.Status.{Status}
-use Rattle.nj_c.specs.declared.status.Status.TheVariants.{Done, BadLog, NotUtf8, OutOfMemory}
+use Rattle.nj_c.specs.declared.status.Status.TheVariants.{Done}
 use Rattle.nj_c.specs.DirtyEdges.{unknown_edges}
 use Rattle.nj_c.specs.Inside.StaleHeld.{FindsStale, LogRefused, TimesRefused}
 use Rattle.nj_c.specs.Pages.{numbered, AreKnown, AreRefused}

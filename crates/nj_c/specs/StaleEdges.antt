@@ -1,5 +1,5 @@
 -- The edges that Ninja would run, and why.
-use Rattle.std.specs.Prelude.{◌≡◌, ◌≢◌, ◌⊎◌, ◌==◌, ◌<◌, if◌then◌else◌, ℕ, ℤ, pos, List, length, position, slice_get, bytes_eq, Option, Some, None, option_and_then, Result, Ok, Err, ⊤}
+use Rattle.std.specs.Prelude.{◌≡◌, ◌≢◌, ◌⊎◌, ◌==◌, ◌<◌, if◌then◌else◌, ℕ, ℤ, pos, List, length, position, slice_get, bytes_eq, Option, Some, None, option_and_then, Ok, Err, ⊤}
 use Rattle.std.specs.Str.{IsUtf8}
 use Rattle.nj_names.specs.NameTables.{name_at}
 use Rattle.nj_discovered.specs.Times.{DeclaredTimes}

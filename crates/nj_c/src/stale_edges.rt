@@ -83,7 +83,7 @@ fn give_stale(
     }
 }
 
-/// The number of a reason.
+// The number of a reason.
 fn reason_number(reason: Reason) -> i32
     ensures { result ≡ reason_code reason }
 {
@@ -98,7 +98,7 @@ fn reason_number(reason: Reason) -> i32
     }
 }
 
-/// The place of the input or the output that a reason is about.
+// The place of the input or the output that a reason is about.
 fn reason_place(reason: Reason) -> usize
     ensures { result ≡ reason_place reason }
 {

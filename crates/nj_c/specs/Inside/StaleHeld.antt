@@ -1,13 +1,12 @@
 -- How stale edges are found and kept.
 use Rattle.std.specs.Prelude.{◌≡◌, ◌⊎◌, ℕ, List, Result, Ok, Err}
 use Rattle.std.specs.Global.{Vec}
-use Rattle.nj_build_log.specs.Logs.{BuildLogModel}
 use Rattle.nj_graph.specs.Graph.{GraphModel}
 use Rattle.nj_state.specs.declared.commands.StaleEdge.{StaleEdge}
 use Rattle.nj_c.specs.declared.session_state.Kept.{Kept}
 use Rattle.nj_c.specs.declared.status.Status.{Status}
 use Rattle.nj_c.specs.declared.status.Status.TheVariants.{BadLog, NotUtf8, OutOfMemory}
-use Rattle.nj_c.specs.StaleEdges.{AreStaleIn, AreStaleOf, HasPathNotUtf8, IsNoBuildLog, StaleRefused}
+use Rattle.nj_c.specs.StaleEdges.{AreStaleOf, HasPathNotUtf8, IsNoBuildLog, StaleRefused}
 
 -- stale edges of a session, or the status that says why there is no list of them
 abbrev pub FindsStale : Kept → (bytes times targets : List ℕ) → Result (Vec StaleEdge) Status → Type 0

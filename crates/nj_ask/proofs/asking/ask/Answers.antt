@@ -42,7 +42,7 @@ returns-in-Ok-read_files g c =
     let reads = subst (λ known. ReadsFiles question times c.args.folder.now old new known list) same
     c.in-Ok-read_files.ensures.read in
     let all = subst (λ tests. ReadsFiles question times c.args.folder.now old new c.deref.result.now
-        (map test_model tests))
+    (map test_model tests))
     (sym c.deref-in-Ok-read_files.ensures.value) reads in
     let stated = subst (λ known. HasStatements known.graph) same c.in-Ok-read_files.ensures.stated in
     asks-told _ _ _ _ _ _ c.answer_by-told.result _ (task-taken _ task asks) (task-unlisted _ task asks)

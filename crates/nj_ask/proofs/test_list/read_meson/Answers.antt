@@ -1,4 +1,4 @@
-use Rattle.std.proofs.Common.{◌≡◌, ◌++◌, true≢false, refl, sym, ap, subst, ◌∙◌, codes, map, string_bytes}
+use Rattle.std.proofs.Common.{◌≡◌, ◌++◌, true≢false, refl, sym, ap, subst, ◌∙◌, codes, map}
 use Rattle.std.specs.Str.{IsUtf8}
 use Rattle.nj_changes.specs.FullPaths.{full_path}
 use Rattle.nj_tests.specs.Tests.{test_model}
@@ -41,7 +41,7 @@ returns-in-Ok-clause-lacks g c =
     let at = c.deref-in-Ok.ensures ∙ c.in_ok-tests.ensures in
     let targets_at = c.deref-in-Ok-2.ensures ∙ c.in_ok-targets.ensures in
     err-as (FailsBy Fault (LacksLists c.deref.result.now c.deref-in-Ok.result.now c.deref-in-Ok-2.result.now
-        before
+    before
     after))
     (FailsBy Fault (LacksMeson folder dir before after)) c.read_lists.result
     (λ failure. fails-as Fault
@@ -51,7 +51,7 @@ returns-in-Ok-clause-lacks g c =
     (subst (λ b. LacksLists b (meson_tests_path dir) (meson_targets_path dir) before after line) build
     (subst (λ p. LacksLists c.deref.result.now p (meson_targets_path dir) before after line) at
     (subst (λ p. LacksLists c.deref.result.now c.deref-in-Ok.result.now p before after line) targets_at
-        lacks)))))
+    lacks)))))
     c.read_lists.ensures.lacks
 
 pub returns-clause-lacks : goal.returns-clause-lacks
@@ -64,5 +64,5 @@ returns-clause-lacks g c =
     (LacksMeson folder dir state state) c.of_path.result
     (λ line said.
     no_path (λ good. true≢false (sym (c.in-Err.ensures.succeeds (subst IsUtf8 (sym path_is) good)))) refl
-        said)
+    said)
     c.of_path.ensures
