@@ -560,7 +560,7 @@ class Graph:
         edges among those that `commands` lists, in its order.
 
         `log` has the bytes of a build log, which Ninja keeps as `.ninja_log` in the build directory; no
-        bytes stand for a log without lines. `times` tells of each file by its path when it was last
+        bytes stand for a log without lines. `times` maps the path of a file to when it was last
         changed, in nanoseconds since 1970; a file without a time, or with 0, does not exist. Load the
         graph with discovered inputs first: without them, no edge counts as unknown.
 

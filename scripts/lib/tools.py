@@ -318,7 +318,7 @@ GRAPH_RUNS = {
         "keys --take 2 d",
         "keys --resume 0.1.0 --take 1 d",
         "keys --resume 0.2 d",
-        "keys --base /w a b1^",
+        "keys --base /w --with gcc a b1^",
         "keys d^",
         "stale",
         "stale --why --no-manifest b1 a^",

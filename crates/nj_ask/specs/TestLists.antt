@@ -42,10 +42,11 @@ pub data LacksList (path : List ℕ) (before after : SourceState) : (line : List
 abbrev pub info_path : (dir name : List ℕ) → List ℕ
 info_path dir name = dir ++ codes "/meson-info/" ++ name
 
--- those of its lists of tests and of targets
+-- the path of its list of tests
 abbrev pub meson_tests_path : (dir : List ℕ) → List ℕ
 meson_tests_path dir = info_path dir (codes "intro-tests.json")
 
+-- the path of its list of targets
 abbrev pub meson_targets_path : (dir : List ℕ) → List ℕ
 meson_targets_path dir = info_path dir (codes "intro-targets.json")
 
@@ -98,6 +99,7 @@ named_list (Some path) meson = path
 named_list None (Some dir) = meson_tests_path dir
 named_list None None = []
 
+-- the path of the list of tests that the options name
 abbrev pub list_path : TestsModel → List ℕ
 list_path options = named_list options.ctest options.meson
 

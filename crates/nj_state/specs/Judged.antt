@@ -17,9 +17,3 @@ pub record IsJudged (g : EdgeGraph) (facts : List EdgeFacts) (lines : List LineM
   pub reasons_are : (s : State) → IsStateOf (evidence_of g facts build.times.items lines) s
       → (edge : ℕ) → edge < length g.edges → slice_index_or build.reasons.items edge None ≡ s.reason edge
   pub lent_are : (s : State) → IsStateOf (evidence_of g facts build.times.items lines) s → AreLentBy g.edges s build.lent.items
-
--- a build that is judged by the given times of files
-pub record IsJudgedBy (g : EdgeGraph) (facts : List EdgeFacts) (lines : List LineModel) (times : List ℕ) (build : JudgedBuild) : Type 0 where
-  pub times_are : build.times.items ≡ times
-  pub counts : HasCounts g build
-  pub judged : IsJudged g facts lines build
