@@ -1,7 +1,7 @@
 //! The answer to `tests`.
 
-ghost use Rattle.std.specs.Prelude.{◌≡◌, ◌++◌, IfOk, OnOk, false, not, map, string_bytes};
-ghost use Rattle.nj_ask.specs.Cited.{AnswersTests, AreGlobsAsked, Gives, HasEdges, IsReach, OfStatements, WritesTests, change_model, edge_numbers, is_empty, no_path_remark, no_test_remark, remarks, roots_of, test_model, tests_model, texts};
+ghost use Rattle.std.specs.Prelude.{◌≡◌, ◌++◌, codes, IfOk, OnOk, false, not, map, string_bytes};
+ghost use Rattle.nj_ask.specs.Cited.{AnswersTests, AreGlobsAsked, Gives, HasEdges, IsReach, OfStatements, WritesTests, change_model, edge_numbers, is_empty, no_path_remark, no_test_remark, program_line, remarks, roots_of, test_model, tests_model, texts};
 
 use crate::affected::{NO_PATH, change_of};
 use crate::answer::Answer;
@@ -183,10 +183,16 @@ fn push_no_test(
 {
     if tests.is_empty() {
         let path = list_path(alloc, options)?;
-        push_line(
-            text,
-            &in_words(alloc, b"", path.as_bytes(), b": there is no test in it")?,
-        )?;
+        return push_no_test_in(alloc, path.as_bytes(), text);
     }
     Ok(())
+}
+
+/// Appends that the list at a path has no test.
+fn push_no_test_in(alloc: Global, path: &[u8], text: &mut Vec<u8>) -> Result<(), AllocError>
+    ensures { OnOk result (text.new.items
+        ≡ text.old.items ++ program_line (path.now ++ codes ": there is no test in it")) }
+{
+    let said = in_words(alloc, b"", path, b": there is no test in it")?;
+    push_line(text, &said)
 }
