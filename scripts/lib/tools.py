@@ -11,6 +11,8 @@ from typing import NamedTuple
 EXPLAIN, GRAPH = "ninja-explain", "ninja-graph"
 # A list of tests, as CTest writes it.
 LIST = Path(__file__).with_name("tests.json")
+# A build directory of Meson, as far as its lists.
+MESON = Path(__file__).with_name("meson_lists")
 # What begins the changed paths of a run, which its standard input has as lines.
 CHANGED = "<"
 MARK = rb"mark v?(?:start|\d+(?:\.\d+)*)\n"
@@ -443,13 +445,14 @@ GRAPH_NESTED = (
     "draw --limit 9 --inputs 1 --fold all",
     "draw --affected d",
     "json -C . -f build.ninja",
-    "keys --base /w --take 1",
+    "keys --base /w --with gcc --take 1",
     "keys --resume 0 all",
     "stale --why",
     "stale --no-manifest all",
     f"tests --ctest {LIST} --source-dir . -z --ignore none --ignore-unknown --allow-empty < d",
     f"tests --ctest {LIST} --format lines --why --unnamed skip < d",
     f"tests --ctest {LIST} --json < d",
+    f"tests --meson {MESON} --format meson < d",
     "why --validations --no-order-only all d",
     "why v d",
 )

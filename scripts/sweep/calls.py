@@ -93,10 +93,15 @@ def dyndep_of(runs):
     return names[0] if names and (JOINING | {"stale"}) & {*runs.words} else None
 
 
-def list_of(runs):
-    """The list of tests that a run reads, before all others, or `None`."""
-    found = re.search(r"--ctest[ =](\S+)", " ".join(map(str, runs.words)))
-    return found[1] if found else None
+def lists_of(runs):
+    """The lists of tests and of targets that a run reads, before all other files."""
+    words = " ".join(map(str, runs.words))
+    of_meson = (
+        f"{folder}/meson-info/intro-{name}.json"
+        for folder in re.findall(r"--meson[ =](\S+)", words)
+        for name in ("tests", "targets")
+    )
+    return [*re.findall(r"--ctest[ =](\S+)", words), *of_meson]
 
 
 def opened_files(runs):
@@ -109,8 +114,7 @@ def opened_files(runs):
     log = log_of(runs)
     others = [log, *depfiles_of(runs)] if log else []
     others += [it for it in [build_log_of(runs)] if it]
-    lists = [(it, None) for it in [list_of(runs)] if it]
-    return [*lists, *places, *((name, None) for name in others)]
+    return [*((name, None) for name in lists_of(runs)), *places, *((name, None) for name in others)]
 
 
 def fault_of_file(runs, number, text, text_of_log):
@@ -189,7 +193,7 @@ def wanted_statx(runs, path):
     or a depfile is not known before it is read. A dyndep file is not joined. An output counts as one that is newer
     than its record, with a caveat."""
     log = log_of(runs)
-    if path in {log, list_of(runs), build_log_of(runs), *depfiles_of(runs)} - {None}:
+    if path in {log, *lists_of(runs), build_log_of(runs), *depfiles_of(runs)} - {None}:
         return runs.usual
     if path == dyndep_of(runs):
         return runs.run_with(path, None)

@@ -16,8 +16,9 @@ from lib.programs import DONE, LOOK, STOPPED, Ending, shown
 from lib.projects import MAIN, write_files
 from lib.random_builds import deps_log
 from lib.sweeps import Sweep, lacks_runs
-from lib.tools import EXPLAIN, GRAPH, LIST, run_of
+from lib.tools import EXPLAIN, GRAPH, LIST, MESON, run_of
 from smoke import audit, draw, edge_objects
+from smoke.keys import with_additions
 
 EDGES = 100_000
 HALF = EDGES // 2
@@ -285,6 +286,12 @@ def keys_of(kind, others=()):
     return found
 
 
+def with_gcc(line):
+    """A line of `keys` as `--with gcc` has it."""
+    digits, name = line.split()
+    return f"{with_additions(bytes.fromhex(digits), ['gcc']).hex()} {name}"
+
+
 def chains(line_of, kind, most, least=0):
     """The lines of `why` from one edge down to another."""
     numbers = range(most, least, -1)
@@ -331,6 +338,7 @@ def graph_of_chain():
     yield "json -C . -f build.ninja", done(objects_of_chain)
     yield "keys", done(lines(keys))
     yield f"keys --base /w e{HALF}", done(lines(keys[: HALF + 1]))
+    yield f"keys --with gcc e{HALF}", done(lines(map(with_gcc, keys[: HALF + 1])))
     yield f"keys --take {EDGES}", done(lines(keys))
     yield "keys --take 0", (LOOK, "", "mark start\n")
     for taken in HALF, FEWEST:
@@ -346,6 +354,7 @@ def graph_of_chain():
     yield f"{tests} {words} < e7", done("counts\tunnamed\nalways\tunnamed\n")
     yield f"{tests} -z < e7", (LOOK, "counts\nalways\n", "e7\n\n")
     yield f"{tests} --json --unnamed skip < e7", done("")
+    yield f"tests --meson {MESON} --format meson < e7", done(":counts\n:always\n")
     yield f"why {LAST} e0", done(partial(chains, line_of_chain, "explicit", ALL[-1]))
     yield f"why e{HALF} e7", done(chains(line_of_chain, "explicit", HALF, 7))
     yield f"why --no-order-only e{HALF} e7", done(chains(line_of_chain, "explicit", HALF, 7))
