@@ -85,11 +85,12 @@ def faults(graph, folder):
 
 @check
 def folders(graph, folder):
-    """A run with `-C` is one in that directory, and `-f` is taken from there."""
+    """A run with `-C`, before or after the subcommand, is one in that directory, and so is `-f`."""
     for name, (_, words) in SUBCOMMANDS.items():
         wanted = run(graph, PROJECT, [name, *words])
         status = LOOK if name in LOOKS else DONE
         yield from expect(f"{name}, answer", (wanted.status, wanted.output == ""), (status, False))
+        yield from expect(f"-C {name}", run(graph, folder, ["-C", str(PROJECT), name, *words]), wanted)
         ran = run(graph, folder, [name, "-C", str(PROJECT), "-f", ".//build.ninja", *words])
         found = ran._replace(output=ran.output.replace(".//build.ninja", "build.ninja"))
         yield from expect(name, found, wanted)

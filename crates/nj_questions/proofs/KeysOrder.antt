@@ -278,7 +278,8 @@ pub keys-keep_order : KeysKeepOrder
 keys-keep_order bases targets =
     let words = map base_word bases ++ codes "--" ∷ targets in
     let reads = all_words [] bases targets in
-    of_taken (codes "keys" ∷ words) (asked bases targets)
+    of_taken (codes "keys" ∷ words) (codes "keys" ∷ words) (asked bases targets)
     (Some (codes "keys", finished shape.rules (run (based []) words).held))
-    (no_old bases targets) (taken words (asked bases targets) reads) (sym (met words ∙ entered-keys words))
+    (no_old bases targets) refl (taken words (asked bases targets) reads)
+        (sym (met words ∙ entered-keys words))
     (ap (λ question. ok_or question unparsed) reads.meant)

@@ -4,7 +4,8 @@ use Rattle.std.proofs.Common.{refl, sym, ap, ap₂, inl, inr}
 use Rattle.clap.specs.Words.{Row, fault_of, subcommand_of}
 use Rattle.nj_questions.specs.CommandLine.{command}
 use Rattle.nj_questions.specs.Questions.{QuestionModel}
-use Rattle.nj_questions.specs.QuestionOf.{RefusalModel, asked, has_old_option, old_option, question_of}
+use Rattle.nj_questions.specs.QuestionOf.{RefusalModel, asked, folder_second, has_old_option, old_option}
+use Rattle.nj_questions.specs.QuestionOf.{parsed, question_of}
 use Rattle.nj_questions.specs.QuestionOf.{refusal_model, refused_by}
 use Rattle.nj_questions.specs.declared.refusals.Refusal.{Refusal}
 use Rattle.nj_questions.specs.declared.refusals.Refusal.TheVariants.{OutOfMemory}
@@ -13,24 +14,29 @@ pub of_old : (words : List (List ℕ)) → has_old_option words ≡ true → que
 unfolding question_of
 of_old words old = rw old refl
 
-of_new : (words : List (List ℕ)) → has_old_option words ≡ false
-    → question_of words ≡ asked (refused_by (fault_of command words)) (subcommand_of command words)
+of_new : (words moved : List (List ℕ)) → has_old_option words ≡ false → moved ≡ folder_second words
+    → question_of words ≡ parsed moved
 unfolding question_of
-of_new words new = rw new refl
+of_new words moved new is = rw new (ap parsed (sym is))
 
-pub of_taken : (words : List (List ℕ)) (question : QuestionModel) (subcommand : Option (List ℕ × List Row))
-    → has_old_option words ≡ false → fault_of command words ≡ [] → subcommand ≡ subcommand_of command words
+pub of_taken : (words moved : List (List ℕ)) (question : QuestionModel)
+    (subcommand : Option (List ℕ × List Row))
+    → has_old_option words ≡ false → moved ≡ folder_second words → fault_of command moved ≡ []
+    → subcommand ≡ subcommand_of command moved
     → asked None subcommand ≡ Ok question → question_of words ≡ Ok question
-of_taken words question subcommand new taken met is = of_new words new
-    ∙ ap₂ (λ kinds named. asked (refused_by kinds) named) taken (sym met) ∙ is
+of_taken words moved question subcommand new is taken met asks = of_new words moved new is
+    ∙ ap₂ (λ kinds named. asked (refused_by kinds) named) taken (sym met) ∙ asks
 
-of_refused : (words : List (List ℕ)) (refused : RefusalModel) → has_old_option words ≡ false
-    → refused_by (fault_of command words) ≡ Some refused → question_of words ≡ Err refused
-of_refused words refused new is = of_new words new
-    ∙ ap (λ cause. asked cause (subcommand_of command words)) is
+of_refused : (words moved : List (List ℕ)) (refused : RefusalModel) → has_old_option words ≡ false
+    → moved ≡ folder_second words → refused_by (fault_of command moved) ≡ Some refused
+    → question_of words ≡ Err refused
+of_refused words moved refused new is why = of_new words moved new is
+    ∙ ap (λ cause. asked cause (subcommand_of command moved)) why
 
-pub of_refusal : (words : List (List ℕ)) (refusal : Refusal) → has_old_option words ≡ false
-    → (refusal ≡ OutOfMemory) ⊎ (refused_by (fault_of command words) ≡ Some (refusal_model refusal))
+pub of_refusal : (words moved : List (List ℕ)) (refusal : Refusal) → has_old_option words ≡ false
+    → moved ≡ folder_second words
+    → (refusal ≡ OutOfMemory) ⊎ (refused_by (fault_of command moved) ≡ Some (refusal_model refusal))
     → (refusal ≡ OutOfMemory) ⊎ (question_of words ≡ Err (refusal_model refusal))
-of_refusal words refusal new (inl memory) = inl memory
-of_refusal words refusal new (inr is) = inr (of_refused words (refusal_model refusal) new is)
+of_refusal words moved refusal new is (inl memory) = inl memory
+of_refusal words moved refusal new is (inr why) =
+    inr (of_refused words moved (refusal_model refusal) new is why)

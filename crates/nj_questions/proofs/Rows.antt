@@ -108,6 +108,33 @@ stale_options_row : question_of (codes "stale" ∷ codes "app" ∷ codes "--no-m
 unfolding question_of command clap_on_literals
 stale_options_row = refl
 
+-- ---- a directory before the subcommand
+
+folder_first_row : question_of (codes "-C" ∷ codes "build" ∷ codes "json" ∷ [])
+    ≡ Ok (record { folder = Some (codes "build"); graph = plain; subject = json })
+unfolding question_of command clap_on_literals
+folder_first_row = refl
+
+folder_joined_row : question_of (codes "-Cbuild" ∷ codes "json" ∷ [])
+    ≡ Ok (record { folder = Some (codes "build"); graph = plain; subject = json })
+unfolding question_of command clap_on_literals
+folder_joined_row = refl
+
+folder_twice_row : question_of (codes "-C" ∷ codes "a" ∷ codes "json" ∷ codes "-C" ∷ codes "b" ∷ [])
+    ≡ Err unparsed
+unfolding question_of command clap_on_literals
+folder_twice_row = refl
+
+folder_alone_row : question_of (codes "-C" ∷ codes "build" ∷ []) ≡ Err unparsed
+unfolding question_of command clap_on_literals
+folder_alone_row = refl
+
+folder_before_help_row : question_of (codes "-C" ∷ codes "build" ∷ codes "--help" ∷ []) ≡ Err shows_help
+unfolding question_of command clap_on_literals
+folder_before_help_row = refl
+
+-- ---- `tests`
+
 tests_row : question_of (codes "tests" ∷ codes "--ctest" ∷ codes "list" ∷ [])
     ≡ asks (tests listed)
 unfolding question_of command clap_on_literals

@@ -1,5 +1,5 @@
 -- The question of a command line's arguments.
-use Rattle.std.specs.Prelude.{ℕ, ◌||◌, ◌&&◌, Bool, true, false, not, if◌then◌else◌, List, [], ◌∷◌, codes, nat_eq}
+use Rattle.std.specs.Prelude.{ℕ, ◌||◌, ◌&&◌, Bool, true, false, not, if◌then◌else◌, List, [], ◌∷◌, ◌++◌, take, drop, codes, nat_eq}
 use Rattle.std.specs.Prelude.{Option, Some, None, option_map, ok_or, Result, Err}
 use Rattle.std.specs.List.{starts_with}
 use Rattle.std.specs.Str.{bytes_eq}
@@ -157,6 +157,22 @@ abbrev pub refused_by : Kinds → Option RefusalModel
 refused_by [] = None
 refused_by (kind ∷ kinds) = Some (if is_help kind then shows_help else unparsed)
 
+-- ---- `-C` before the subcommand
+
+-- how many of the arguments name a directory before the subcommand: `-C DIR` or `-CDIR`
+abbrev pub folder_word_count : (words : List (List ℕ)) → ℕ
+folder_word_count [] = 0
+folder_word_count (word ∷ words) = if bytes_eq word (codes "-C") then 2 else if starts_with nat_eq word (codes "-C") then 1 else 0
+
+-- a subcommand, with the arguments before it as its first ones; nothing if there is none
+abbrev pub subcommand_first : (folder words : List (List ℕ)) → List (List ℕ)
+subcommand_first folder [] = []
+subcommand_first folder (subcommand ∷ words) = subcommand ∷ folder ++ words
+
+-- the arguments with the directory after the subcommand, where `clap` takes it
+abbrev pub folder_second : (words : List (List ℕ)) → List (List ℕ)
+folder_second words = subcommand_first (take (folder_word_count words) words) (drop (folder_word_count words) words)
+
 -- ---- the question
 
 -- the question of a subcommand, unless the arguments are refused; a subcommand is required
@@ -165,8 +181,10 @@ asked (Some refused) subcommand = Err refused
 asked None None = Err unparsed
 asked None (Some subcommand) = ok_or (question_in subcommand.0 subcommand.1) unparsed
 
+-- the question that `clap` reads
+abbrev pub parsed : (words : List (List ℕ)) → Result QuestionModel RefusalModel
+parsed words = asked (refused_by (fault_of command words)) (subcommand_of command words)
+
 -- The old option is refused before `clap` reads the arguments. Memory never runs out here.
 unfoldable pub question_of : (words : List (List ℕ)) → Result QuestionModel RefusalModel
-question_of words =
-    if has_old_option words then Err old_option
-    else asked (refused_by (fault_of command words)) (subcommand_of command words)
+question_of words = if has_old_option words then Err old_option else parsed (folder_second words)

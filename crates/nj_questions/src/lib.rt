@@ -3,6 +3,7 @@
 
 mod command_line;
 mod fields;
+mod folder_first;
 mod forms;
 mod laws;
 mod old_option;

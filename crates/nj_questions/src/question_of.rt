@@ -6,6 +6,7 @@ ghost use Rattle.clap.specs.declared.error.kind.ErrorKind.TheVariants as kind;
 
 use crate::command_line::command;
 use crate::fields::{is_on, text_in, text_or};
+use crate::folder_first::folder_second;
 use crate::old_option::has_old_option;
 use crate::questions::{GraphOptions, Question};
 use crate::refusals::Refusal;
@@ -30,7 +31,8 @@ pub fn read_words(alloc: Global, words: &[String]) -> Result<Question, Refusal>
     if has_old_option(words) {
         return Err(Refusal::OldOption);
     }
-    match parse(alloc, words) {
+    let moved = folder_second(alloc, words)?;
+    match parse(alloc, &moved) {
         Ok(matches) => Ok(asked(alloc, &matches)?),
         Err(refusal) => Err(refusal),
     }
@@ -39,12 +41,12 @@ pub fn read_words(alloc: Global, words: &[String]) -> Result<Question, Refusal>
 // Returns the matches of `clap` for the arguments. The description of the command line takes much
 // of the stack, and is gone before a file is read.
 #[inline(never)]
-fn parse<'w>(alloc: Global, words: &'w [String]) -> Result<ArgMatches<'w>, Refusal>
-    ensures ok { OnOk result (fault_of command (map string_bytes words.entry.now) ≡ []) }
+fn parse<'w>(alloc: Global, words: &'w [&'w str]) -> Result<ArgMatches<'w>, Refusal>
+    ensures ok { OnOk result (fault_of command (map (λ word. word.now) words.entry.now) ≡ []) }
     ensures rows { IfOk result (λ matches. subcommand_rows_of matches
-        ≡ subcommand_of command (map string_bytes words.entry.now)) }
+        ≡ subcommand_of command (map (λ word. word.now) words.entry.now)) }
     ensures err { IfErr result (λ refusal. (refusal ≡ OutOfMemory)
-        ⊎ (refused_by (fault_of command (map string_bytes words.entry.now))
+        ⊎ (refused_by (fault_of command (map (λ word. word.now) words.entry.now))
         ≡ Some (refusal_model refusal))) }
     ensures question { IfOk result (λ matches.
         is_question (subcommand_rows_of matches) ≡ true) }

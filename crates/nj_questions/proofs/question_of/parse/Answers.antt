@@ -1,5 +1,5 @@
 use Rattle.std.proofs.Common.{◌≡◌, ℕ, List, [], ap, sym, ◌∙◌}
-use Rattle.std.specs.Prelude.{map, string_bytes}
+use Rattle.std.specs.Prelude.{map}
 use Rattle.clap.specs.Words.{is_simple, is_simple_and_free, fault_of, kind_of, subcommand_of}
 use Rattle.clap.specs.Words.{subcommand_rows_of}
 use Rattle.nj_questions.specs.CommandLine.{command}
@@ -10,7 +10,7 @@ use Rattle.nj_questions.proofs.question_of.parse.Goals as goal
 
 pub returns-in-Ok : goal.returns-in-Ok
 returns-in-Ok c =
-    let words : List (List ℕ) = map string_bytes c.args.words.now in
+    let words : List (List ℕ) = map (λ word. word.now) c.args.words.now in
     let made = c.in_ok-made.ensures in
     let none : fault_of command words ≡ [] =
     ap (λ app. fault_of app words) (sym made)
@@ -21,7 +21,7 @@ returns-in-Ok c =
 
 pub returns-in-Err-clause-err : goal.returns-in-Err-clause-err
 returns-in-Err-clause-err c =
-    let words : List (List ℕ) = map string_bytes c.args.words.now in
+    let words : List (List ℕ) = map (λ word. word.now) c.args.words.now in
     let kinds = c.in-Err.ensures.kinds (ap is_simple_and_free c.in_ok-made.ensures ∙ simple_and_free) in
     reported words (kind_of c.in-Err.error) c.refusal_of.result (rw (← c.in_ok-made.ensures) kinds)
     c.refusal_of.ensures.memory c.refusal_of.ensures.other
