@@ -6,19 +6,21 @@ installed.
 """
 
 import os
+import pty
 import random
 import re
 import resource
 import subprocess
 
 from lib.checks import check, expect
-from lib.programs import EXAMPLES, ROOT, Program
+from lib.programs import EXAMPLES, ROOT, SECONDS, Ending, Program, all_bytes, memory_file, wait_for
 from lib.projects import write_cmake, write_files
 from lib.random_builds import HEADERS, SOURCES, deps_log, random_build, some
 from smoke.graph import DONE, FAULT, LOOK, OUTPUT_FAILED, SUBCOMMANDS, USAGE
 
 PROJECT, CMAKE = EXAMPLES / "project", EXAMPLES / "cmake"
 NO_PATH = "ninja-graph: no changed path was given\n"
+WAITING = b"ninja-graph: reading changed paths from this terminal, a line each; end them with Ctrl-D\n"
 NO_GLOB = "ninja-graph: 'a[' of --ignore has an unclosed [ at byte 1\n"
 # How many edges lead to the manifest.
 LINKS = 10_000
@@ -78,6 +80,31 @@ def told(paths):
 
 def run(graph, folder, words, paths):
     return graph.run(["affected", *words], folder, lines(paths).encode()).as_text()
+
+
+def run_at_terminal(program, words, folder, text):
+    """Runs a program at a terminal, where the text and Ctrl-D are typed; its outputs go to files."""
+    keyboard, terminal = pty.openpty()
+    try:
+        os.write(keyboard, text + b"\x04")
+        with memory_file() as out, memory_file() as err:
+            how = {"stdin": terminal, "stdout": out, "stderr": err, "cwd": folder}
+            status = wait_for(subprocess.Popen([program.path, *words], **how), SECONDS)
+            return Ending(status, all_bytes(out), all_bytes(err))
+    finally:
+        os.close(keyboard)
+        os.close(terminal)
+
+
+@check
+def terminal(graph):
+    """At a terminal a line says what the program waits for, and the answer is the usual one."""
+    words, text = ["affected", "--rule", "check"], b"text/words.c\n"
+    usual = graph.run(words, PROJECT, text)
+    found = run_at_terminal(graph, words, PROJECT, text)
+    yield from expect("the answer", found, usual._replace(error=WAITING + usual.error))
+    found = run_at_terminal(graph, ["json"], PROJECT, b"")
+    yield from expect("a question without changed paths", found, graph.run(["json"], PROJECT))
 
 
 @check

@@ -7,9 +7,12 @@ use nj_ask::{
 use nj_disk::{DiskFiles, DiskTimes};
 use nj_questions::{Question, Refusal, read_words};
 use nj_tools::WriteSink;
-use std::io::{ErrorKind, Read};
+use std::io::{ErrorKind, IsTerminal, Read, Write};
 use std::process::ExitCode;
 use std::{env, io, mem};
+
+const WAITING: &[u8] =
+    b"ninja-graph: reading changed paths from this terminal, a line each; end them with Ctrl-D\n";
 
 fn main(rt: HostRuntime) -> ExitCode {
     ExitCode::from(run(rt).code())
@@ -46,6 +49,7 @@ fn take(rt: HostRuntime, read: &Result<Question, Refusal>) -> Result<(String, Ve
         }
     }
     if question.takes_input() {
+        tell_waiting(rt);
         if let Err(error) = rt.reader().read_to_end(&mut input) {
             return Err(refuse_input(rt.alloc(), &mut err, error));
         }
@@ -61,6 +65,13 @@ fn take(rt: HostRuntime, read: &Result<Question, Refusal>) -> Result<(String, Ve
         }
     }
     Ok((folder, input))
+}
+
+/// Says at a terminal what the program waits for. A line that cannot be written is none.
+fn tell_waiting(rt: HostRuntime) {
+    if rt.stdin().is_terminal() {
+        let _ = rt.stderr().write_all(WAITING);
+    }
 }
 
 /// The program's arguments, without its name. Fails if any of them is not UTF-8.
