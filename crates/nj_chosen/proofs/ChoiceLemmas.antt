@@ -142,7 +142,8 @@ chosen-all tests reasons first affected chosen firsts affects chooses = (
 
 -- by the tables of a change
 pub chosen-in : {E : Type 0} (build : List ℕ) (paths : ChangedPaths) (skips : Bool) (tests : List TestModel)
-    (tables : PathTables) (result : Result ChosenModel E) → kinds_in tables ≡ kinds_of (change_by build paths)
+    (tables : PathTables) (result : Result ChosenModel E)
+    → kinds_in tables ≡ kinds_of (change_by build paths) tests
     → IfOk result (AreChosenBy (kinds_in tables) build skips tests)
     → IfOk result (AreChosen (change_by build paths) skips tests)
 chosen-in build paths skips tests tables (Ok m) same are = record {

@@ -2,19 +2,22 @@
 use Rattle.std.proofs.Common.{◌≡◌, ◌<◌, ◌+◌, ◌||◌, ◌&&◌, ◌==◌, ℕ, Bool, true, false, cond, List, [], ◌∷◌}
 use Rattle.std.proofs.Common.{◌++◌}
 use Rattle.std.proofs.Common.{map, length, take, drop, get_or, refl, sym, ap, ◌∙◌, nat_eq, append_assoc}
-use Rattle.std.proofs.Common.{append-nil, Some}
+use Rattle.std.proofs.Common.{append-nil, not, subst, Some}
 use Rattle.std.specs.Prelude.{bytes_eq, slice_get}
 use Rattle.std.specs.Cmp.Lexicographic.{pointwise}
-use Rattle.std.specs.List.{list_any}
+use Rattle.std.specs.List.{flat_map, list_any}
+use Rattle.std.proofs.lemmas.List.Elements.{filter-append}
 use Rattle.std.proofs.lemmas.Cmp.{nat_eq_equiv}
 use Rattle.std.proofs.lemmas.List.{map-append, take_more}
-use Rattle.std.proofs.lemmas.List.Folds.{list_any-append, list_any_more}
+use Rattle.std.proofs.lemmas.List.Folds.{list_any-append}
 use Rattle.std.proofs.lemmas.Option.{get_or_from_slice_get}
 use Rattle.nj_text.specs.Paths.{is_absolute}
 use Rattle.nj_names.specs.NameTables.{is_among}
 use Rattle.nj_changes.specs.Tables.{HasMore}
 use Rattle.nj_chosen.specs.Directories.{is_below}
+use Rattle.nj_chosen.specs.Reasons.{without}
 use Rattle.nj_chosen.specs.Inside.Folders.{folders_of, AreFoldersOf}
+use Rattle.nj_chosen.proofs.NameLemmas.{more-none, without-one}
 
 flip-eq : (m n : ℕ) → nat_eq m n ≡ nat_eq n m
 flip-eq m n = nat_eq_equiv.symm m n
@@ -124,15 +127,41 @@ pub folders-step : (path : List ℕ) (i : ℕ) → i < length path
 folders-step path i below =
     ap folders_of (take_more path i 0 below) ∙ folders-more (take i path) (get_or path i 0)
 
--- the directories above one more path
-pub folders-next : (paths : List (List ℕ)) (i : ℕ) (path : List ℕ) (old new : List (List ℕ))
-    → i < length paths
-    → slice_get paths i ≡ Some path → AreFoldersOf (take i paths) old → HasMore old (folders_of path) new
-    → AreFoldersOf (take (i + 1) paths) new
-folders-next paths i path old new below at are more folder =
-    more folder ∙ list_any-append (bytes_eq folder) old (folders_of path)
-    ∙ ap (λ t. t || is_among (folders_of path) folder) (are folder)
-    ∙ ap (λ t. list_any (is_below folder) (take i paths) || t) (folders-are folder path)
-    ∙ ap (λ p. list_any (is_below folder) (take i paths) || is_below folder p)
-    (sym (get_or_from_slice_get paths i path [] at))
-    ∙ sym (list_any_more (is_below folder) paths i [] below)
+-- the directories above some paths
+above-are : (paths : List (List ℕ)) (folder : List ℕ)
+    → is_among (flat_map folders_of paths) folder ≡ list_any (is_below folder) paths
+above-are [] folder = refl
+above-are (path ∷ paths) folder =
+    list_any-append (bytes_eq folder) (folders_of path) (flat_map folders_of paths)
+    ∙ ap (λ t. t || is_among (flat_map folders_of paths) folder) (folders-are folder path)
+    ∙ ap (λ t. is_below folder path || t) (above-are paths folder)
+
+-- a path that is among others has no directory that counts
+pub above-none : (others : List (List ℕ)) (path : List ℕ) (folders : List (List ℕ))
+    → is_among others path ≡ true → HasMore folders (flat_map folders_of (without others (path ∷ []))) folders
+above-none others path folders is =
+    subst (λ paths. HasMore folders (flat_map folders_of paths) folders)
+    (sym (without-one others path true is)) (more-none folders)
+
+-- and any other path has its own
+pub above-one : (others : List (List ℕ)) (path : List ℕ) → is_among others path ≡ false
+    → flat_map folders_of (without others (path ∷ [])) ≡ folders_of path
+above-one others path is =
+    ap (flat_map folders_of) (without-one others path false is) ∙ append-nil (folders_of path)
+
+-- the directories above one more path, unless it is among others
+pub folders-next : (others paths : List (List ℕ)) (i : ℕ) (path : List ℕ) (old new : List (List ℕ))
+    → i < length paths → slice_get paths i ≡ Some path → AreFoldersOf (without others (take i paths)) old
+    → HasMore old (flat_map folders_of (without others (path ∷ []))) new
+    → AreFoldersOf (without others (take (i + 1) paths)) new
+folders-next others paths i path old new below at are more folder =
+    let first = without others (take i paths) in
+    let next = without others (path ∷ []) in
+    more folder ∙ list_any-append (bytes_eq folder) old (flat_map folders_of next)
+    ∙ ap (λ t. t || is_among (flat_map folders_of next) folder) (are folder)
+    ∙ ap (λ t. list_any (is_below folder) first || t) (above-are next folder)
+    ∙ sym (list_any-append (is_below folder) first next)
+    ∙ ap (list_any (is_below folder)) (sym (filter-append (λ p. not (is_among others p)) (take i paths)
+    (path ∷ []))
+    ∙ ap (λ p. without others (take i paths ++ p ∷ [])) (sym (get_or_from_slice_get paths i path [] at))
+    ∙ ap (without others) (sym (take_more paths i [] below)))

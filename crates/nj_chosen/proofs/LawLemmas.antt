@@ -10,7 +10,7 @@ use Rattle.nj_chosen.specs.declared.reason.Link.{Link}
 use Rattle.nj_chosen.specs.declared.reason.Link.TheVariants.{AffectedOutput, ChangedFile, Directory}
 use Rattle.nj_chosen.specs.declared.reason.Link.TheVariants.{NeedsAffected}
 use Rattle.nj_chosen.specs.TestPaths.{names_of_test}
-use Rattle.nj_chosen.specs.Reasons.{PathKinds, first_named, has_below, kinds_of, link_of}
+use Rattle.nj_chosen.specs.Reasons.{PathKinds, counted, first_named, has_below, kinds_of, link_of}
 use Rattle.nj_chosen.specs.Reasons.{named}
 use Rattle.nj_chosen.specs.Chosen.{IsChosen, IsTestAffected}
 use Rattle.nj_chosen.specs.Chosen.IsBrought.{by_itself, by_other}
@@ -47,11 +47,12 @@ chain false false false true none = absurd (cc)
 chain false false false false none = (refl, refl, refl, refl)
 
 pub others-name-nothing : OthersNameNothing
-others-name-nothing c skips test path none has =
-    let first = none-first (first_named (kinds_of c) (names_of_test c.build test)) _ none in
-    let no = none-named (kinds_of c) (names_of_test c.build test) path first.0 has in
-    let all = chain (is_among c.affected path) (is_among c.changed path) (has_below c.roots c.noticed path)
-    (is_among c.needing path) no in
+others-name-nothing c tests skips test path none has =
+    let kinds = kinds_of c tests in
+    let first = none-first (first_named kinds (names_of_test c.build test)) _ none in
+    let no = none-named kinds (names_of_test c.build test) path first.0 has in
+    let all = chain (is_among c.affected path) (is_among c.changed path)
+    (has_below c.roots (counted c tests) path) (is_among c.needing path) no in
     record { no_affected_output = all.0; no_changed_file = all.1; no_directory = all.2; needs_none = all.3 }
 
 -- ---- fixtures and order

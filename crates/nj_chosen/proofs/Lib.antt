@@ -4,6 +4,7 @@ pub mod RowLemmas
 pub mod FindLemmas
 pub mod AnswerLemmas
 pub mod BringLemmas
+pub mod ProgramLemmas
 pub mod LawLemmas
 pub mod TableLemmas
 pub mod ReasonLemmas

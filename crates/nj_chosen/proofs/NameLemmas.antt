@@ -1,12 +1,14 @@
 -- Tables of names, one name after another.
-use Rattle.std.proofs.Common.{◌≡◌, ℕ, ◌||◌, Bool, true, false, cond, List, [], ◌∷◌, ◌++◌, map}
+use Rattle.std.proofs.Common.{◌≡◌, ℕ, ◌||◌, Bool, true, false, not, cond, List, [], ◌∷◌, ◌++◌, map}
 use Rattle.std.proofs.Common.{refl, sym, ap, ◌∙◌, append_assoc}
 use Rattle.std.specs.Prelude.{bytes_eq}
-use Rattle.std.specs.List.{list_any}
+use Rattle.std.specs.List.{filter, list_any}
 use Rattle.std.proofs.lemmas.List.Folds.{list_any-append}
 use Rattle.std.proofs.lemmas.Slice.Eq.{bytes_eq-Decides}
 use Rattle.nj_names.specs.NameTables.{is_among, with_name}
-use Rattle.nj_changes.specs.Tables.{HasMore}
+use Rattle.std.proofs.Math.Path.{fun_ext}
+use Rattle.nj_changes.specs.Tables.{HasMore, SameNames}
+use Rattle.nj_chosen.specs.Reasons.{without}
 
 or-none : (b : Bool) → (b || false) ≡ b
 or-none true = refl
@@ -50,6 +52,22 @@ more-then old mid new xs ys zs is a b path =
     ∙ ap (λ t. t || is_among ys path) (a path)
     ∙ sym (list_any-append (bytes_eq path) (old ++ xs) ys)
     ∙ ap (λ ns. is_among ns path) (append_assoc old xs ys ∙ ap (λ ns. old ++ ns) (sym is))
+
+-- ---- names that are not among others
+
+pub without-none : (paths : List (List ℕ)) → without [] paths ≡ paths
+without-none [] = refl
+without-none (p ∷ ps) = ap (λ qs. p ∷ qs) (without-none ps)
+
+pub without-same : (others same paths : List (List ℕ)) → SameNames others same
+    → without others paths ≡ without same paths
+without-same others same paths are =
+    ap (λ (among : List ℕ → Bool). filter (λ path. not (among path)) paths) (fun_ext are)
+
+pub without-one : (others : List (List ℕ)) (path : List ℕ) (is : Bool) → is_among others path ≡ is
+    → without others (path ∷ []) ≡ cond is [] (path ∷ [])
+without-one others path true among = ap (λ b. cond (not b) (path ∷ []) []) among
+without-one others path false among = ap (λ b. cond (not b) (path ∷ []) []) among
 
 pub any-map : {X Y : Type 0} (p : Y → Bool) (f : X → Y) (xs : List X)
     → list_any (λ x. p (f x)) xs ≡ list_any p (map f xs)

@@ -6,7 +6,7 @@ use Rattle.nj_tests.specs.Tests.{TestModel}
 use Rattle.nj_chosen.specs.declared.reason.Link.TheVariants.{AffectedOutput, ChangedFile, Directory}
 use Rattle.nj_chosen.specs.declared.reason.Link.TheVariants.{NeedsAffected}
 use Rattle.nj_chosen.specs.declared.brought.Way.TheVariants.{Needed}
-use Rattle.nj_chosen.specs.TestPaths.{has_lost_bytes}
+use Rattle.nj_chosen.specs.TestPaths.{has_lost_bytes, program_of_test}
 use Rattle.nj_chosen.specs.Directories.{is_below, is_telling}
 use Rattle.nj_chosen.specs.Reasons.{BuildChange, reason_of}
 use Rattle.nj_chosen.specs.Reasons.Why.{Named, UnknownCommand, Unnamed}
@@ -62,22 +62,23 @@ test command texts = record {
 abbrev script : TestModel
 script = test (Some (codes "py" ∷ codes "/s/t.py" ∷ codes "--x=p" ∷ [])) []
 
-program_of_a_script : reason_of (change (codes "/b/p" ∷ []) [] [] []) false script
+program_of_a_script : reason_of (change (codes "/b/p" ∷ []) [] [] []) [] false script
     ≡ Some (Named AffectedOutput (codes "/b/p"))
 unfolding clean_path_of without_leftmost_pair
 program_of_a_script = refl
 
-changed_script : reason_of (change [] [] (codes "/s/t.py" ∷ []) []) false script
+changed_script : reason_of (change [] [] (codes "/s/t.py" ∷ []) []) [] false script
     ≡ Some (Named ChangedFile (codes "/s/t.py"))
 unfolding clean_path_of without_leftmost_pair
 changed_script = refl
 
-plugin_of_the_program : reason_of (change [] (codes "/b/p" ∷ []) [] []) false script
+plugin_of_the_program : reason_of (change [] (codes "/b/p" ∷ []) [] []) [] false script
     ≡ Some (Named NeedsAffected (codes "/b/p"))
 unfolding clean_path_of without_leftmost_pair
 plugin_of_the_program = refl
 
-nothing_of_a_script : reason_of (change (codes "/b/l/o" ∷ []) [] [] (codes "/b/l/o" ∷ [])) false script ≡ None
+nothing_of_a_script : reason_of (change (codes "/b/l/o" ∷ []) [] [] (codes "/b/l/o" ∷ [])) [] false script
+    ≡ None
 unfolding clean_path_of without_leftmost_pair
 nothing_of_a_script = refl
 
@@ -85,36 +86,73 @@ nothing_of_a_script = refl
 abbrev by_directory : TestModel
 by_directory = test (Some (codes "sh" ∷ [])) (codes "P=/b/l:/b" ∷ [])
 
-library_in_a_directory : reason_of (change (codes "/b/l/o" ∷ []) [] [] (codes "/b/l/o" ∷ [])) false
+library_in_a_directory : reason_of (change (codes "/b/l/o" ∷ []) [] [] (codes "/b/l/o" ∷ [])) [] false
     by_directory
     ≡ Some (Named Directory (codes "/b/l"))
 unfolding clean_path_of without_leftmost_pair
 library_in_a_directory = refl
 
--- what is not noticed there, as the program of another test
-program_in_a_directory : reason_of (change (codes "/b/l/o" ∷ []) [] [] []) false by_directory ≡ None
+-- what is not noticed there, as an object
+object_in_a_directory : reason_of (change (codes "/b/l/o" ∷ []) [] [] []) [] false by_directory ≡ None
+unfolding clean_path_of without_leftmost_pair
+object_in_a_directory = refl
+
+-- what is in a directory and changes
+abbrev in_a_directory : BuildChange
+in_a_directory = change (codes "/b/l/o" ∷ []) [] [] (codes "/b/l/o" ∷ [])
+
+-- another test whose program is in the directory
+abbrev by_program : TestModel
+by_program = test (Some (codes "./l/o" ∷ codes "--fast" ∷ [])) []
+
+program_of_a_test : program_of_test (codes "/b") by_program ≡ Some (codes "/b/l/o")
+unfolding clean_path_of without_leftmost_pair
+program_of_a_test = refl
+
+program_in_a_directory : reason_of in_a_directory (by_directory ∷ by_program ∷ []) false by_directory ≡ None
 unfolding clean_path_of without_leftmost_pair
 program_in_a_directory = refl
 
+-- it chooses its own test
+program_of_its_own_test : reason_of in_a_directory (by_directory ∷ by_program ∷ []) false by_program
+    ≡ Some (Named AffectedOutput (codes "/b/l/o"))
+unfolding clean_path_of without_leftmost_pair
+program_of_its_own_test = refl
+
+-- what another program runs is not the program of a test
+run_by_another_program : reason_of in_a_directory
+    (test (Some (codes "py" ∷ codes "/b/l/o" ∷ [])) [] ∷ []) false by_directory
+    ≡ Some (Named Directory (codes "/b/l"))
+unfolding clean_path_of without_leftmost_pair
+run_by_another_program = refl
+
+-- a script that no edge makes is a changed file like any other
+script_in_a_directory : reason_of (change [] [] (codes "/s/t/x" ∷ []) (codes "/s/t/x" ∷ []))
+    (test (Some (codes "/s/t/x" ∷ [])) [] ∷ []) false (test (Some (codes "/b/p" ∷ codes "/s/t" ∷ [])) [])
+    ≡ Some (Named Directory (codes "/s/t"))
+unfolding clean_path_of without_leftmost_pair
+script_in_a_directory = refl
+
 -- the build directory has everything below it
-build_directory : reason_of (change (codes "/b/p" ∷ []) [] [] (codes "/b/p" ∷ [])) false by_directory ≡ None
+build_directory : reason_of (change (codes "/b/p" ∷ []) [] [] (codes "/b/p" ∷ [])) [] false by_directory
+    ≡ None
 unfolding clean_path_of without_leftmost_pair
 build_directory = refl
 
 -- a definition on a command line
-definition : reason_of (change (codes "/b/p" ∷ []) [] [] []) false
+definition : reason_of (change (codes "/b/p" ∷ []) [] [] []) [] false
     (test (Some (codes "cmake" ∷ codes "-DP:FILEPATH=p" ∷ [])) [])
     ≡ Some (Named AffectedOutput (codes "/b/p"))
 unfolding clean_path_of without_leftmost_pair
 definition = refl
 
-never_built : reason_of (change [] [] [] []) false (test None []) ≡ Some UnknownCommand
+never_built : reason_of (change [] [] [] []) [] false (test None []) ≡ Some UnknownCommand
 never_built = refl
 
-never_built_is_skipped : reason_of (change [] [] [] []) true (test None []) ≡ None
+never_built_is_skipped : reason_of (change [] [] [] []) [] true (test None []) ≡ None
 never_built_is_skipped = refl
 
-names_nothing : reason_of (change [] [] [] []) false (test (Some (codes "x" ∷ [])) []) ≡ Some Unnamed
+names_nothing : reason_of (change [] [] [] []) [] false (test (Some (codes "x" ∷ [])) []) ≡ Some Unnamed
 unfolding clean_path_of without_leftmost_pair
 names_nothing = refl
 

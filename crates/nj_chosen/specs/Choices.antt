@@ -40,6 +40,6 @@ why_chosen m number = why_by (slice_index_or m.reasons number None) (has m.affec
 
 -- The chosen tests of a list in a change.
 pub record AreChosen (c : BuildChange) (skips_unnamed : Bool) (tests : List TestModel) (m : ChosenModel) : Type 0 where
-  pub reasons : m.reasons ≡ map (reason_of c skips_unnamed) tests
+  pub reasons : m.reasons ≡ map (reason_of c tests skips_unnamed) tests
   pub affected : (number : ℕ) → Contains m.affected number ↔ IsTestAffected tests (HasReason m.reasons) number
   pub chosen : (number : ℕ) → Contains m.chosen number ↔ IsChosen tests (HasReason m.reasons) number

@@ -1,26 +1,38 @@
 -- Laws of chosen tests.
-use Rattle.std.specs.Prelude.{◌≡◌, ℕ, Bool, true, false, None, List, Contains, Some, slice_get}
+use Rattle.std.specs.Prelude.{◌≡◌, ◌⊎◌, ℕ, Bool, true, false, None, List, ◌∷◌, ◌++◌, Contains, Some, slice_get}
 use Rattle.nj_names.specs.NameTables.{is_among}
 use Rattle.nj_tests.specs.Tests.{TestModel}
 use Rattle.nj_chosen.specs.declared.brought.Way.{Way}
 use Rattle.nj_chosen.specs.declared.brought.Way.TheVariants.{Later, Needed}
 use Rattle.nj_chosen.specs.TestPaths.{names_of_test}
-use Rattle.nj_chosen.specs.Reasons.{BuildChange, has_below, reason_of}
+use Rattle.nj_chosen.specs.Reasons.{BuildChange, counted, has_below, reason_of}
 use Rattle.nj_chosen.specs.Chosen.{IsChosen, brings}
 
 -- ---- reasons
 
--- a path has nothing to do with a change
-pub record IsUnlinked (c : BuildChange) (path : List ℕ) : Type 0 where
+-- a path has nothing to do with a change, for the tests of a list
+pub record IsUnlinked (c : BuildChange) (tests : List TestModel) (path : List ℕ) : Type 0 where
   pub no_affected_output : is_among c.affected path ≡ false
   pub no_changed_file : is_among c.changed path ≡ false
-  pub no_directory : has_below c.roots c.noticed path ≡ false
+  pub no_directory : has_below c.roots (counted c tests) path ≡ false
   pub needs_none : is_among c.needing path ≡ false
 
 -- If a test has no reason, none of its words names a path that has to do with the change.
 abbrev pub OthersNameNothing : Type 0
-OthersNameNothing = (c : BuildChange) (skips_unnamed : Bool) (test : TestModel) (path : List ℕ)
-    → reason_of c skips_unnamed test ≡ None → Contains (names_of_test c.build test) path → IsUnlinked c path
+OthersNameNothing = (c : BuildChange) (tests : List TestModel) (skips_unnamed : Bool) (test : TestModel) (path : List ℕ)
+    → reason_of c tests skips_unnamed test ≡ None → Contains (names_of_test c.build test) path → IsUnlinked c tests path
+
+-- what is noticed is affected or changed
+abbrev pub NoticesTheChange : BuildChange → Type 0
+NoticesTheChange c = (path : List ℕ) → is_among c.noticed path ≡ true
+    → (is_among c.affected path ≡ true) ⊎ (is_among c.changed path ≡ true)
+
+-- For a test it makes no difference whether its own program counts in a directory: its reason is the same if only the programs of the
+-- other tests of the list do not count.
+abbrev pub OwnProgramsChooseAnyway : Type 0
+OwnProgramsChooseAnyway = (c : BuildChange) (before after : List TestModel) (skips_unnamed : Bool) (test : TestModel)
+    → NoticesTheChange c
+    → reason_of c (before ++ test ∷ after) skips_unnamed test ≡ reason_of c (before ++ after) skips_unnamed test
 
 -- ---- fixtures and order
 

@@ -1,6 +1,6 @@
 -- Why a test is chosen by itself.
-use Rattle.std.specs.Prelude.{ℕ, Bool, ◌&&◌, ◌||◌, if◌then◌else◌, Option, Some, None, List, [], ◌∷◌}
-use Rattle.std.specs.List.{list_any}
+use Rattle.std.specs.Prelude.{ℕ, Bool, ◌&&◌, ◌||◌, not, if◌then◌else◌, Option, Some, None, List, [], ◌∷◌}
+use Rattle.std.specs.List.{filter, filter_map, list_any}
 use Rattle.std.specs.Option.{option_or}
 use Rattle.nj_names.specs.NameTables.{is_among}
 use Rattle.nj_tests.specs.Tests.{TestModel}
@@ -9,14 +9,14 @@ use Rattle.nj_chosen.specs.declared.reason.Link.TheVariants.{AffectedOutput, Cha
 use Rattle.nj_chosen.specs.declared.reason.Reason.{Reason}
 use Rattle.nj_chosen.specs.declared.reason.Reason.TheVariants as given
 use Rattle.nj_chosen.specs.Directories.{is_below, is_telling}
-use Rattle.nj_chosen.specs.TestPaths.{names_of_test, is_unknown}
+use Rattle.nj_chosen.specs.TestPaths.{names_of_test, is_unknown, program_of_test}
 
 -- ---- what changed
 
 -- A change of files in a build, by full paths. `roots`: the build directory and those of the sources; `outputs`: the outputs of all
 -- edges; `made`: those of edges with a command; `affected`: those of affected edges; `needing`: those of edges that need an affected
 -- output or a changed file, by inputs of any kind; `changed`: the changed files; `noticed`: the affected outputs and changed files that
--- count in a directory.
+-- count in a directory, unless they are programs of tests.
 pub record BuildChange : Type 0 where
   pub build : List ℕ
   pub roots : List (List ℕ)
@@ -27,6 +27,19 @@ pub record BuildChange : Type 0 where
   pub changed : List (List ℕ)
   pub noticed : List (List ℕ)
 
+-- the paths in a list that are not among others
+abbrev pub without : (others paths : List (List ℕ)) → List (List ℕ)
+without others paths = filter (λ path. not (is_among others path)) paths
+
+-- the programs of tests that are outputs
+abbrev pub programs_of : (build : List ℕ) → (outputs : List (List ℕ)) → List TestModel → List (List ℕ)
+programs_of build outputs tests = filter (is_among outputs) (filter_map (program_of_test build) tests)
+
+-- What counts in a directory for the tests of a list: no program of a test. Nor does a test's own program, which is among the words
+-- that choose the test anyway: by the law OwnProgramsChooseAnyway the reasons are those for the programs of the other tests alone.
+abbrev pub counted : BuildChange → List TestModel → List (List ℕ)
+counted c tests = without (programs_of c.build c.outputs tests) c.noticed
+
 -- What a path may be, test by test.
 pub record PathKinds : Type 0 where
   pub is_output : (path : List ℕ) → Bool
@@ -34,21 +47,21 @@ pub record PathKinds : Type 0 where
   pub is_changed : (path : List ℕ) → Bool
   pub needs_affected : (path : List ℕ) → Bool
   pub has_outputs : (folder : List ℕ) → Bool
-  pub has_noticed : (folder : List ℕ) → Bool
+  pub has_counted : (folder : List ℕ) → Bool
 
 -- a telling directory has one of the given paths below it
 abbrev pub has_below : (roots paths : List (List ℕ)) → (folder : List ℕ) → Bool
 has_below roots paths folder = is_telling roots folder && list_any (is_below folder) paths
 
--- what a path is in a change
-abbrev pub kinds_of : BuildChange → PathKinds
-kinds_of c = record {
+-- what a path is in a change, for the tests of a list
+abbrev pub kinds_of : BuildChange → List TestModel → PathKinds
+kinds_of c tests = record {
   is_output = is_among c.outputs;
   is_affected = is_among c.affected;
   is_changed = is_among c.changed;
   needs_affected = is_among c.needing;
   has_outputs = has_below c.roots c.made;
-  has_noticed = has_below c.roots c.noticed;
+  has_counted = has_below c.roots (counted c tests);
 }
 
 -- ---- reasons
@@ -70,7 +83,7 @@ abbrev pub link_of : PathKinds → (path : List ℕ) → Option Link
 link_of kinds path =
     if kinds.is_affected path then Some AffectedOutput
     else if kinds.is_changed path then Some ChangedFile
-    else if kinds.has_noticed path then Some Directory
+    else if kinds.has_counted path then Some Directory
     else if kinds.needs_affected path then Some NeedsAffected else None
 
 -- a named path as a reason, if it has a link
@@ -99,6 +112,6 @@ reason_by kinds build skips_unnamed test =
     option_or (first_named kinds (names_of_test build test))
     (if skips_unnamed then None else without_link kinds test (names_of_test build test))
 
--- the same in a change
-abbrev pub reason_of : BuildChange → (skips_unnamed : Bool) → TestModel → Option Why
-reason_of c skips_unnamed test = reason_by (kinds_of c) c.build skips_unnamed test
+-- the same in a change, for a test of a list
+abbrev pub reason_of : BuildChange → (tests : List TestModel) → (skips_unnamed : Bool) → TestModel → Option Why
+reason_of c tests skips_unnamed test = reason_by (kinds_of c tests) c.build skips_unnamed test

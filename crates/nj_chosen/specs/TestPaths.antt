@@ -1,8 +1,9 @@
 -- The paths that a test may name.
-use Rattle.std.specs.Prelude.{ℕ, Bool, false, ◌||◌, Option, Some, None, unwrap_or, List, [], ◌∷◌, ◌++◌, nat_eq, is_none}
+use Rattle.std.specs.Prelude.{ℕ, Bool, false, ◌||◌, if◌then◌else◌, Option, Some, None, option_map, unwrap_or, List, [], ◌∷◌, ◌++◌, nat_eq, is_none}
 use Rattle.std.specs.List.{flat_map, list_any, starts_with}
+use Rattle.nj_text.specs.Calls.{is_empty}
 use Rattle.nj_tests.specs.Tests.{TestModel}
-use Rattle.nj_tests.specs.Words.{names_of}
+use Rattle.nj_tests.specs.Words.{names_of, path_of}
 
 -- the words of a test: those of its command, if that is known, and its other texts
 abbrev pub words_of_test : TestModel → List (List ℕ)
@@ -11,6 +12,17 @@ words_of_test test = unwrap_or test.command [] ++ test.texts
 -- The full paths that the words of a test may name. Spellings of the same path are not distinguished.
 abbrev pub names_of_test : (build : List ℕ) → TestModel → List (List ℕ)
 names_of_test build test = flat_map (names_of build test.folder) (words_of_test test)
+
+-- ---- the program of a test
+
+-- the first of some words, unless it is empty
+abbrev pub first_word : (words : List (List ℕ)) → Option (List ℕ)
+first_word [] = None
+first_word (word ∷ words) = if is_empty word then None else Some word
+
+-- the program of a test: the first word of its command, as a path; none if the command is not known
+abbrev pub program_of_test : (build : List ℕ) → TestModel → Option (List ℕ)
+program_of_test build test = option_map (path_of build test.folder) (first_word (unwrap_or test.command []))
 
 -- ---- tests of which too little is known
 

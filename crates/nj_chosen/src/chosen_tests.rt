@@ -84,8 +84,9 @@ impl ChosenTests {
 
 /// Returns the tests of a list that a change of files reaches: tests with a reason of their own,
 /// tests that follow them, and tests that any of them needs to run. Tests of which too little is
-/// known have a reason, unless they are skipped. `build` is the absolute path of the build
-/// directory. The tables of paths that are made have the given keys.
+/// known have a reason, unless they are skipped. Programs of tests do not count in a directory.
+/// `build` is the absolute path of the build directory. The tables of paths that are made have the
+/// given keys.
 ///
 /// Takes time in proportion to the paths of the change, and to the tests with their words and names.
 /// Fails only if an allocation fails.
@@ -100,7 +101,7 @@ pub fn choose(
     ensures { IfOk result (AreChosen (change_by build.now paths) skips_unnamed
         (map test_model tests.now)) }
 {
-    let tables = PathTables::new(alloc, keys, paths)?;
+    let tables = PathTables::new(alloc, keys, build, paths, tests)?;
     chosen_by(alloc, keys, &tables, build, skips_unnamed, tests)
 }
 

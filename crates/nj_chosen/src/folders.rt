@@ -1,24 +1,37 @@
 //! The directories above paths.
 
 ghost use Rattle.std.specs.Prelude.{◌<◌, ◌==◌, ◌∷◌, [], if◌then◌else◌, length, slice_index, take, IfOk, OnOk};
-ghost use Rattle.nj_chosen.specs.Cited.{HasMore, folders_of, AreFoldersOf};
+ghost use Rattle.nj_chosen.specs.Cited.{flat_map, without, HasMore, folders_of, AreFoldersOf};
 
 use nj_names::{HashKeys, Names};
 use std::alloc::{AllocError, Global};
 
-/// Returns a table of the directories above the given paths, with the given keys.
+/// Returns a table of the directories above the given paths that are not among others, with the
+/// given keys.
 pub(crate) fn folders_above(
     alloc: Global,
     keys: HashKeys,
     paths: &Names,
+    others: &Names,
 ) -> Result<Names, AllocError>
-    ensures { IfOk result (λ folders. AreFoldersOf paths.now folders) }
+    ensures { IfOk result (λ folders. AreFoldersOf (without others.now paths.now) folders) }
 {
     let mut folders = Names::new(alloc, keys);
     'paths: for number in 0..paths.count() {
-        add_folders(&mut folders, paths.name(number))?;
+        add_unless(&mut folders, others, paths.name(number))?;
     }
     Ok(folders)
+}
+
+/// Adds the directories above a path, unless it is among others.
+fn add_unless(folders: &mut Names, others: &Names, path: &[u8]) -> Result<(), AllocError>
+    ensures { OnOk result (HasMore folders.old
+        (flat_map folders_of (without others.now (path.now ∷ []))) folders.new) }
+{
+    if others.number(path).is_some() {
+        return Ok(());
+    }
+    add_folders(folders, path)
 }
 
 /// Adds the directories above a path.

@@ -1,11 +1,13 @@
 //! The full paths of a change, in tables.
 
-ghost use Rattle.std.specs.Prelude.{◌≡◌, ◌&&◌, ℕ, List, IfOk, map};
-ghost use Rattle.nj_chosen.specs.Cited.{is_at_or_above, is_below, is_telling, change_by, kinds_in, is_of_outputs, kinds_of, link_of, is_among, is_absolute};
+ghost use Rattle.std.specs.Prelude.{◌≡◌, ◌&&◌, IfOk, map};
+ghost use Rattle.nj_chosen.specs.Cited.{test_model, counted, AreFoldersOf, is_at_or_above, is_below, is_telling, change_by, kinds_in, is_of_outputs, kinds_of, link_of, is_among, is_absolute};
 
 use crate::folders::folders_above;
+use crate::programs::programs_of;
 use crate::reason::Link;
 use nj_names::{HashKeys, Names};
+use nj_tests::Test;
 use std::alloc::{AllocError, Global};
 
 /// A change of files in a build, by full paths.
@@ -23,7 +25,8 @@ pub struct ChangedPaths {
     pub needing: Names,
     /// The changed files.
     pub changed: Names,
-    /// The affected outputs and changed files that count in a directory.
+    /// The affected outputs and changed files that count in a directory, unless they are programs
+    /// of tests.
     pub noticed: Names,
 }
 
@@ -33,26 +36,29 @@ pub(crate) struct PathTables {
     pub(crate) paths: ChangedPaths,
     /// The directories above the outputs of edges with a command.
     pub(crate) made_folders: Names,
-    /// The directories above the noticed paths.
-    pub(crate) noticed_folders: Names,
+    /// The directories above the noticed paths that are not programs of tests.
+    pub(crate) counted_folders: Names,
 }
 
 impl PathTables {
-    /// Returns the tables of a change.
+    /// Returns the tables of a change for the given tests.
     pub(crate) fn new(
         alloc: Global,
         keys: HashKeys,
+        build: &[u8],
         paths: ChangedPaths,
+        tests: &[Test],
     ) -> Result<PathTables, AllocError>
-        ensures { IfOk result (λ tables. (build : List ℕ)
-            → kinds_in tables ≡ kinds_of (change_by build paths)) }
+        ensures { IfOk result (λ tables. kinds_in tables
+            ≡ kinds_of (change_by build.now paths) (map test_model tests.now)) }
     {
-        let made_folders = folders_above(alloc, keys, &paths.made)?;
-        let noticed_folders = folders_above(alloc, keys, &paths.noticed)?;
+        let none = Names::new(alloc, keys);
+        let made_folders = folders_above(alloc, keys, &paths.made, &none)?;
+        let counted_folders = counted_folders(alloc, keys, build, &paths, tests)?;
         Ok(PathTables {
             paths,
             made_folders,
-            noticed_folders,
+            counted_folders,
         })
     }
 
@@ -66,7 +72,7 @@ impl PathTables {
         if has(&self.paths.changed, path) {
             return Some(Link::ChangedFile);
         }
-        if has_folder(&self.noticed_folders, &self.paths.roots, path) {
+        if has_folder(&self.counted_folders, &self.paths.roots, path) {
             return Some(Link::Directory);
         }
         if has(&self.paths.needing, path) {
@@ -82,6 +88,22 @@ impl PathTables {
         has(&self.paths.outputs, path) || has_folder(&self.made_folders, &self.paths.roots, path)
     }
 }
+
+/// The directories above the noticed paths that are not programs of the given tests.
+fn counted_folders(
+    alloc: Global,
+    keys: HashKeys,
+    build: &[u8],
+    paths: &ChangedPaths,
+    tests: &[Test],
+) -> Result<Names, AllocError>
+    ensures { IfOk result (AreFoldersOf
+        (counted (change_by build.now paths.now) (map test_model tests.now))) }
+{
+    let programs = programs_of(alloc, keys, build, &paths.outputs, tests)?;
+    folders_above(alloc, keys, &paths.noticed, &programs)
+}
+
 /// Whether a path is in a table.
 fn has(names: &Names, path: &[u8]) -> bool
     ensures { result ≡ is_among names.now path.now }

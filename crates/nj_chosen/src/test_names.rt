@@ -25,7 +25,7 @@ pub(crate) fn names_of_test(
 }
 
 /// The bytes of a text, if any.
-fn bytes_of(text: &Option<String>) -> Option<&[u8]>
+pub(crate) fn bytes_of(text: &Option<String>) -> Option<&[u8]>
     ensures { option_copied result ≡ option_map string_bytes text.now }
 {
     match text {

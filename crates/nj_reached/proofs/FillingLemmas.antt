@@ -9,7 +9,8 @@ use Rattle.nj_graph.specs.Edges.{outputs_of}
 use Rattle.nj_graph.specs.Graph.{GraphModel, edges_of}
 use Rattle.nj_graph.specs.ReadingList.{ReadStatement}
 use Rattle.nj_reached.specs.GraphChanges.{IsChangeOf, full_paths, is_compiled, noticed_outputs, outputs_at}
-use Rattle.nj_reached.specs.GraphChanges.{outputs_made, without}
+use Rattle.nj_reached.specs.GraphChanges.{outputs_made}
+use Rattle.nj_chosen.specs.Reasons.{without}
 use Rattle.nj_reached.specs.Inside.Filling.{Fills, IsUnfilled}
 
 from-none : (old more new : List (List ℕ)) → old ≡ [] → HasMore old more new → SameNames new more

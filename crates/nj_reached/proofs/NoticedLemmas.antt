@@ -12,7 +12,7 @@ use Rattle.nj_graph.specs.ReadingList.{ReadStatement}
 use Rattle.nj_names.specs.NameTables.{is_among}
 use Rattle.nj_changes.specs.Tables.{SameNames}
 use Rattle.nj_reached.specs.GraphChanges.{full_paths, has_deps, is_compiled, is_object, noticed_outputs}
-use Rattle.nj_reached.specs.GraphChanges.{without}
+use Rattle.nj_chosen.specs.Reasons.{without}
 use Rattle.nj_reached.specs.Inside.Handles.{full_compiled, full_paths_in, full_unused, is_unused}
 
 filter-all : {X : Type 0} (p : X → Bool) → ((x : X) → p x ≡ true) → (xs : List X) → filter p xs ≡ xs

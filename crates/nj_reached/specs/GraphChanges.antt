@@ -2,10 +2,9 @@
 use Rattle.std.specs.Prelude.{◌≡◌, ◌↔◌, ℕ, Bool, ◌&&◌, not, if◌then◌else◌, List, [], ◌++◌, Contains, map, codes}
 use Rattle.std.specs.List.{filter, flat_map, list_any}
 use Rattle.nj_text.specs.Calls.{is_empty}
-use Rattle.nj_names.specs.NameTables.{is_among}
 use Rattle.nj_changes.specs.FullPaths.{full_path}
 use Rattle.nj_changes.specs.Tables.{SameNames}
-use Rattle.nj_chosen.specs.Reasons.{BuildChange}
+use Rattle.nj_chosen.specs.Reasons.{BuildChange, without}
 use Rattle.nj_graph.specs.Changes.{IsAffected}
 use Rattle.nj_graph.specs.Edges.{EdgePaths, edge_at, outputs_of, users_of}
 use Rattle.nj_graph.specs.Graph.{GraphModel, edges_of, late_text_of}
@@ -25,7 +24,7 @@ outputs_made e = if e.is_phony then [] else outputs_of e
 abbrev pub outputs_at : List EdgePaths → (numbers : List ℕ) → List (List ℕ)
 outputs_at edges numbers = flat_map (λ edge. outputs_of (edge_at edges edge)) numbers
 
--- ---- what counts in a directory
+-- ---- what counts in a directory, unless it is a program of a test
 
 -- an edge has a value of `deps`: a compiler discovers its inputs
 abbrev pub has_deps : List ReadStatement → (edge : ℕ) → Bool
@@ -43,10 +42,6 @@ noticed_outputs entries edges edge =
 -- a file is compiled: an edge with a value of `deps` has it as an input
 abbrev pub is_compiled : List ReadStatement → List EdgePaths → (file : List ℕ) → Bool
 is_compiled entries edges file = list_any (has_deps entries) (users_of edges file)
-
--- the paths in a list that are not among others
-abbrev pub without : (others paths : List (List ℕ)) → List (List ℕ)
-without others paths = filter (λ path. not (is_among others path)) paths
 
 -- ---- a change
 

@@ -2,7 +2,9 @@
 #![tactic(auto)]
 
 mod full_names;
+mod laws;
 mod noticed;
 mod reached_paths;
 
+pub use laws::graphs_notice_the_change;
 pub use reached_paths::changed_paths;

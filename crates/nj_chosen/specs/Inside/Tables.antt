@@ -19,5 +19,5 @@ kinds_in t =
       is_changed = is_among t.paths.changed;
       needs_affected = is_among t.paths.needing;
       has_outputs = has_folder roots t.made_folders;
-      has_noticed = has_folder roots t.noticed_folders;
+      has_counted = has_folder roots t.counted_folders;
     }

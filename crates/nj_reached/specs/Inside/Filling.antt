@@ -3,12 +3,13 @@ use Rattle.std.specs.Prelude.{◌≡◌, ◌↔◌, ℕ, List, [], ◌++◌, Con
 use Rattle.std.specs.Global.{Vec}
 use Rattle.std.specs.List.{filter, flat_map}
 use Rattle.nj_changes.specs.Tables.{HasMore}
+use Rattle.nj_chosen.specs.Reasons.{without}
 use Rattle.nj_chosen.specs.declared.tables.ChangedPaths.{ChangedPaths}
 use Rattle.nj_graph.specs.Changes.{IsAffected}
 use Rattle.nj_graph.specs.Edges.{outputs_of}
 use Rattle.nj_graph.specs.Graph.{GraphModel, edges_of}
 use Rattle.nj_graph.specs.ReadingList.{ReadStatement}
-use Rattle.nj_reached.specs.GraphChanges.{full_paths, is_compiled, noticed_outputs, outputs_at, outputs_made, without}
+use Rattle.nj_reached.specs.GraphChanges.{full_paths, is_compiled, noticed_outputs, outputs_at, outputs_made}
 
 -- paths of outputs are not known yet
 pub record IsUnfilled (roots : Vec (Vec ℕ)) (changed : List (List ℕ)) (paths : ChangedPaths) : Type 0 where

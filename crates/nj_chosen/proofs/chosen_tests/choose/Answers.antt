@@ -5,4 +5,4 @@ use Rattle.nj_chosen.proofs.chosen_tests.choose.Goals as goal
 
 pub returns : goal.returns
 returns c = chosen-in c.args.build.now c.args.paths c.args.skips_unnamed (map test_model c.args.tests.now)
-    c.in_ok-tables.tables c.chosen_by.result (c.in_ok-tables.ensures c.args.build.now) c.chosen_by.ensures
+    c.in_ok-tables.tables c.chosen_by.result c.in_ok-tables.ensures c.chosen_by.ensures

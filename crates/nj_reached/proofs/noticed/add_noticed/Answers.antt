@@ -5,7 +5,8 @@ use Rattle.nj_changes.specs.Tables.{HasMore}
 use Rattle.nj_graph.specs.declared.EdgeNo.{EdgeNo}
 use Rattle.nj_graph.specs.Files.{path_at}
 use Rattle.nj_graph.specs.Graph.{edges_of, files_of}
-use Rattle.nj_reached.specs.GraphChanges.{full_paths, is_compiled, noticed_outputs, without}
+use Rattle.nj_chosen.specs.Reasons.{without}
+use Rattle.nj_reached.specs.GraphChanges.{full_paths, is_compiled, noticed_outputs}
 use Rattle.nj_reached.proofs.NoticedLemmas.{without-same}
 use Rattle.nj_reached.proofs.TableLemmas.{has-both}
 use Rattle.nj_reached.proofs.noticed.add_noticed.Goals as goal

@@ -5,7 +5,7 @@ use Rattle.std.proofs.lemmas.Option.{same_Some, slice_get-get_or}
 use Rattle.std.specs.Prelude.{not}
 use Rattle.nj_names.specs.NameTables.{is_among}
 use Rattle.nj_changes.specs.Tables.{HasMore}
-use Rattle.nj_reached.specs.GraphChanges.{without}
+use Rattle.nj_chosen.specs.Reasons.{without}
 use Rattle.nj_reached.proofs.TableLemmas.{has-both, has-none}
 use Rattle.nj_reached.proofs.noticed.add_others.Goals as goal
 
