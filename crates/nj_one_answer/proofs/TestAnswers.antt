@@ -3,7 +3,7 @@ use Rattle.std.proofs.Common.{◌≡◌, ◌+◌, ℕ, Bool, true, false, cond, 
 use Rattle.std.proofs.Common.{map, refl, sym, ap, subst, ◌∙◌}
 use Rattle.std.proofs.Math.Path.{fun_ext}
 use Rattle.std.specs.Prelude.{◌↔◌, Contains, None, bytes_eq, nat_eq, not, is_some, slice_index_or}
-use Rattle.std.specs.List.{filter, flat_map, list_any}
+use Rattle.std.specs.List.{filter, filter_map, flat_map, list_any}
 use Rattle.std.proofs.lemmas.List.Folds.{Any-from_list_any, list_any-append, list_any_at}
 use Rattle.std.proofs.lemmas.Map.Views.{Contains-from_any}
 use Rattle.std.proofs.lemmas.Slice.Eq.{bytes_eq-Decides}
@@ -20,9 +20,10 @@ use Rattle.nj_tests.specs.Tests.{TestModel}
 use Rattle.nj_chosen.specs.Choices.{HasReason, why_by, why_chosen}
 use Rattle.nj_chosen.specs.Chosen.{IsChosen, IsTestAffected}
 use Rattle.nj_chosen.specs.Directories.{is_below, is_telling}
-use Rattle.nj_chosen.specs.Reasons.{PathKinds, has_below, kinds_of, reason_by}
+use Rattle.nj_chosen.specs.Reasons.{PathKinds, counted, has_below, kinds_of, programs_of, reason_by, without}
+use Rattle.nj_chosen.specs.TestPaths.{program_of_test}
 use Rattle.nj_reached.specs.GraphChanges.{full_paths, is_compiled, noticed_affected, noticed_changed}
-use Rattle.nj_reached.specs.GraphChanges.{outputs_at, without}
+use Rattle.nj_reached.specs.GraphChanges.{outputs_at}
 use Rattle.nj_test_texts.specs.TestTexts.{tests_text, written, written_from}
 use Rattle.nj_questions.specs.Questions.{TestsModel}
 use Rattle.nj_ask.specs.declared.discovered.DiscoveredGraph.{DiscoveredGraph}
@@ -117,7 +118,7 @@ kinds o a c n h m = record {
   is_changed = c;
   needs_affected = n;
   has_outputs = h;
-  has_noticed = m;
+  has_counted = m;
 }
 
 kinds-same : {o a c n h m o2 a2 c2 n2 h2 m2 : List ℕ → Bool} → o ≡ o2 → a ≡ a2 → c ≡ c2 → n ≡ n2 → h ≡ h2
@@ -167,19 +168,38 @@ module _ (known : DiscoveredGraph) (entries : List ReadStatement) (q : ChangeMod
   names-same : (xs ys : List (List ℕ)) → SameNames xs ys → is_among xs ≡ is_among ys
   names-same xs ys same = fun_ext same
 
+  same-outputs : is_among is.change.outputs ≡ is_among also.change.outputs
+  same-outputs =
+      names-same is.change.outputs also.change.outputs
+      (λ name. is.is_change.outputs name ∙ sym (also.is_change.outputs name))
+
+  same-build : is.change.build ≡ also.change.build
+  same-build = is.is_change.build ∙ sym also.is_change.build
+
+  same-programs : programs_of is.change.build is.change.outputs tests
+      ≡ programs_of also.change.build also.change.outputs tests
+  same-programs =
+      ap (λ build. programs_of build is.change.outputs tests) same-build
+      ∙ ap (λ among. filter among (filter_map (program_of_test also.change.build) tests)) same-outputs
+
+  same-counted : SameNames (counted is.change tests) (counted also.change tests)
+  same-counted name =
+      ap (λ programs. is_among (without programs is.change.noticed) name) same-programs
+      ∙ same-left (programs_of also.change.build also.change.outputs tests) is.change.noticed
+      also.change.noticed same-noticed name
+
   below-same : (roots others xs ys : List (List ℕ)) → roots ≡ others → SameNames xs ys
       → has_below roots xs ≡ has_below others ys
   below-same roots others xs ys are same =
       ap (λ rs. has_below rs xs) are
       ∙ fun_ext (λ folder. ap (λ b. is_telling others folder && b) (any-names (is_below folder) xs ys same))
 
-  same-kinds : kinds_of is.change ≡ kinds_of also.change
+  same-kinds : kinds_of is.change tests ≡ kinds_of also.change tests
   same-kinds =
       let a = is.change in
       let b = also.change in
       let roots = is.is_change.roots ∙ sym also.is_change.roots in
-      kinds-same
-      (names-same a.outputs b.outputs (λ name. is.is_change.outputs name ∙ sym (also.is_change.outputs name)))
+      kinds-same same-outputs
       (names-same a.affected b.affected
       (λ name. is.is_change.affected name ∙ sym (also.is_change.affected name)))
       (ap is_among is.is_change.changed ∙ names-same is.sought also.sought same-sought
@@ -187,15 +207,14 @@ module _ (known : DiscoveredGraph) (entries : List ReadStatement) (q : ChangeMod
       (names-same a.needing b.needing same-needing)
       (below-same a.roots b.roots a.made b.made roots
       (λ name. is.is_change.made name ∙ sym (also.is_change.made name)))
-      (below-same a.roots b.roots a.noticed b.noticed roots same-noticed)
+      (below-same a.roots b.roots (counted a tests) (counted b tests) roots same-counted)
 
   same-reasons : is.chosen.reasons ≡ also.chosen.reasons
   same-reasons =
       let skips = is_some options.unnamed in
       is.are_chosen.reasons
       ∙ ap (λ kinds. map (reason_by kinds is.change.build skips) tests) same-kinds
-      ∙ ap (λ build. map (reason_by (kinds_of also.change) build skips) tests)
-      (is.is_change.build ∙ sym also.is_change.build)
+      ∙ ap (λ build. map (reason_by (kinds_of also.change tests) build skips) tests) same-build
       ∙ sym also.are_chosen.reasons
 
   same-affected : (number : ℕ) → has is.chosen.affected number ≡ has also.chosen.affected number
