@@ -35,8 +35,8 @@ without others paths = filter (λ path. not (is_among others path)) paths
 abbrev pub programs_of : (build : List ℕ) → (outputs : List (List ℕ)) → List TestModel → List (List ℕ)
 programs_of build outputs tests = filter (is_among outputs) (filter_map (program_of_test build) tests)
 
--- What counts in a directory for the tests of a list: no program of a test. Nor does a test's own program, which is among the words
--- that choose the test anyway: by the law OwnProgramsChooseAnyway the reasons are those for the programs of the other tests alone.
+-- What counts in a directory for the tests of a list: what is noticed, apart from the programs of the tests. A test's own program is
+-- left out as well, since the first word of its command chooses the test anyway (law OwnProgramsChooseAnyway).
 abbrev pub counted : BuildChange → List TestModel → List (List ℕ)
 counted c tests = without (programs_of c.build c.outputs tests) c.noticed
 

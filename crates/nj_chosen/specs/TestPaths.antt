@@ -20,7 +20,7 @@ abbrev pub first_word : (words : List (List ℕ)) → Option (List ℕ)
 first_word [] = None
 first_word (word ∷ words) = if is_empty word then None else Some word
 
--- the program of a test: the first word of its command, as a path; none if the command is not known
+-- the program of a test: the first word of its command, as a path; none if the command is not known, or the word is empty
 abbrev pub program_of_test : (build : List ℕ) → TestModel → Option (List ℕ)
 program_of_test build test = option_map (path_of build test.folder) (first_word (unwrap_or test.command []))
 
