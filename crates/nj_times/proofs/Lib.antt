@@ -1,0 +1,5 @@
+pub mod CostLemmas
+pub mod OrderLemmas
+pub mod PathLemmas
+pub mod SlowestLemmas
+pub mod TimesRows

@@ -1,0 +1,2 @@
+-- How the code meets the definitions beside this directory. Contracts of public calls do not need these definitions.
+pub mod CostsHeld

@@ -1,0 +1,26 @@
+-- Laws of critical paths: there is one, and what it means for a build.
+use Rattle.std.specs.Prelude.{◌≡◌, ℕ, ◌+◌, ◌≤◌, Option, List, ◌∷◌}
+use Rattle.nj_cycles.specs.Cycles.{Needs}
+use Rattle.nj_edges.specs.Edges.{EdgePaths}
+use Rattle.nj_edges.specs.Distances.{IsNeeded}
+use Rattle.nj_edges.specs.Needs.{makers_of_inputs}
+use Rattle.nj_times.specs.Times.{sum_of, time_at}
+use Rattle.nj_times.specs.Critical.{IsCriticalPath}
+
+-- When each edge ends in a build of the files that began at 0, if each takes its duration and starts after the makers of its inputs end.
+-- How many edges run at once is left open.
+pub record AreEnds (edges : List EdgePaths) (files : List (List ℕ)) (durations : List (Option ℕ)) (ends : ℕ → ℕ) : Type 0 where
+  pub alone : (edge : ℕ) → IsNeeded edges files edge → time_at durations edge ≤ ends edge
+  pub after : (edge maker : ℕ) → IsNeeded edges files edge → Needs (makers_of_inputs edges) edge maker
+      → ends maker + time_at durations edge ≤ ends edge
+
+-- however many edges run at once, the last edge of the critical path does not end before the sum of the path
+abbrev pub BuildsTakeTheCriticalPath : Type 0
+BuildsTakeTheCriticalPath = (edges : List EdgePaths) (files : List (List ℕ)) (durations : List (Option ℕ)) (ends : ℕ → ℕ)
+    (last : ℕ) (path : List ℕ) → IsCriticalPath edges files durations (last ∷ path) → AreEnds edges files durations ends
+    → sum_of durations (last ∷ path) ≤ ends last
+
+-- the files that are needed, and the durations, determine the critical path
+abbrev pub OnePathIsCritical : Type 0
+OnePathIsCritical = (edges : List EdgePaths) (files : List (List ℕ)) (durations : List (Option ℕ)) (path other : List ℕ)
+    → IsCriticalPath edges files durations path → IsCriticalPath edges files durations other → path ≡ other

@@ -1,0 +1,9 @@
+-- the definitions to believe
+pub mod Times
+pub mod Slowest
+pub mod Critical
+pub mod Laws
+-- how the code does that
+pub mod Inside
+-- what the contracts cite
+pub mod Cited

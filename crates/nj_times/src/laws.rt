@@ -1,0 +1,14 @@
+//! Laws of critical paths.
+
+ghost use Rattle.nj_times.specs.Cited.{BuildsTakeTheCriticalPath, OnePathIsCritical};
+
+/// However many edges run at once, a build in which each edge takes its duration and starts after
+/// the makers of its inputs end takes at least the sum of the critical path.
+pub fn builds_take_the_critical_path()
+    ensures { BuildsTakeTheCriticalPath }
+{}
+
+/// Files that are needed, and durations, have one critical path.
+pub fn one_path_is_critical()
+    ensures { OnePathIsCritical }
+{}

@@ -1,0 +1,15 @@
+//! Where the time of a build went: how long its commands took, by its log, and the chain of edges
+//! whose durations sum to the most.
+#![tactic(auto)]
+
+mod costs;
+mod edge_times;
+mod laws;
+mod order;
+mod path;
+mod slow_edges;
+
+pub use edge_times::{durations, sum_of, unknown_of};
+pub use laws::{builds_take_the_critical_path, one_path_is_critical};
+pub use path::critical_path;
+pub use slow_edges::slowest;
