@@ -23,7 +23,7 @@ _ninja_graph_options() {
         draw) echo '--affected --fold --limit --inputs' ;;
         why) echo '--validations --no-order-only' ;;
         audit) echo '--all --only --except --json --list' ;;
-        keys) echo '--base --with --take --resume' ;;
+        keys) echo '--base --with --with-file --take --resume' ;;
         stale) echo '--why --no-manifest' ;;
         tests)
             echo '--ctest --meson --source-dir -z --ignore --ignore-unknown --allow-empty --format --why --json --unnamed'
@@ -67,8 +67,8 @@ _ninja_graph_words() {
         case $option in
             --) ended=yes ;;
             -C | -f | --deps-log-file | --source-dir | --ignore | --rule | --prefix | --only | --except | \
-                --base | --with | --take | --resume | --limit | --inputs | --ctest | --meson | --format | \
-                --unnamed)
+                --base | --with | --with-file | --take | --resume | --limit | --inputs | --ctest | --meson | \
+                --format | --unnamed)
                 [[ ${COMP_WORDS[index + 1]} == '=' ]] && ((index++))
                 if ((++index >= COMP_CWORD)); then
                     wanted=$option
@@ -99,7 +99,7 @@ _ninja_graph_offer_value() {
     [[ $current == '=' ]] && current=''
     case $wanted in
         -C | --source-dir | --base | --meson) offer=(-d) ;;
-        -f | --deps-log-file | --ctest) offer=(-f) ;;
+        -f | --deps-log-file | --ctest | --with-file) offer=(-f) ;;
         --rule) _ninja_graph_offer_lines < <(_ninja_graph_rules) ;;
         --only | --except) offer=(-W "$(_ninja_graph_kinds)") ;;
         --format) offer=(-W 'lines ctest meson') ;;

@@ -123,6 +123,8 @@ complete -c ninja-graph -n '__ninja_graph_is audit' -l list -d 'List the kinds'
 complete -c ninja-graph -n '__ninja_graph_is keys' -l base -x -d 'Let a number stand for this directory' \
     -a '(__fish_complete_directories)'
 complete -c ninja-graph -n '__ninja_graph_is keys' -l with -x -d 'Let this text go into every key'
+complete -c ninja-graph -n '__ninja_graph_is keys' -l with-file -r -F \
+    -d 'Let the contents of this file go into every key'
 complete -c ninja-graph -n '__ninja_graph_is keys' -l take -x -d 'Stop after so many commands'
 complete -c ninja-graph -n '__ninja_graph_is keys' -l resume -x -d 'Write the rest after this mark'
 

@@ -278,7 +278,10 @@ GRAPH_TOOLS = {
     ),
     "draw": Tool({"--affected": None, "--fold": None, "--limit": "N", "--inputs": "K"}),
     "json": Tool({}),
-    "keys": Tool({"--base": "DIR", "--with": "TEXT", "--take": "N", "--resume": "MARK"}, looks=((ANYTHING, MARK),)),
+    "keys": Tool(
+        {"--base": "DIR", "--with": "TEXT", "--with-file": "FILE", "--take": "N", "--resume": "MARK"},
+        looks=((ANYTHING, MARK),),
+    ),
     "stale": Tool({"--why": None, "--no-manifest": None}, looks=((LINES, ANYTHING), (NOTHING, LINES))),
     "tests": Tool(
         {
@@ -321,6 +324,8 @@ GRAPH_RUNS = {
         "keys --resume 0.1.0 --take 1 d",
         "keys --resume 0.2 d",
         "keys --base /w --with gcc a b1^",
+        "keys --with-file build.ninja --take 1 d",
+        "keys --with-file nothing d",
         "keys d^",
         "stale",
         "stale --why --no-manifest b1 a^",
@@ -445,7 +450,7 @@ GRAPH_NESTED = (
     "draw --limit 9 --inputs 1 --fold all",
     "draw --affected d",
     "json -C . -f build.ninja",
-    "keys --base /w --with gcc --take 1",
+    "keys --base /w --with gcc --with-file build.ninja --take 1",
     "keys --resume 0 all",
     "stale --why",
     "stale --no-manifest all",

@@ -138,8 +138,13 @@ def with_additions(key, additions):
     """A key into which texts go, by the man page."""
     if not additions:
         return key
-    text = b"%d:" % len(additions) + b"".join(field(it.encode()) for it in additions)
+    text = b"%d:" % len(additions) + b"".join(map(field, additions))
     return hashlib.sha256(b":" + hashlib.sha256(text).digest() + key).digest()
+
+
+def of_content(content):
+    """What stands for the contents of a file among texts, by the man page."""
+    return b"\0" + hashlib.sha256(content).digest()
 
 
 def run(graph, folder, words):
@@ -206,12 +211,29 @@ def keys_with_texts(graph, folder):
     keys, found = Keys(LISTED + PHONY), set()
     for additions in ["gcc 13"], ["gcc 13", "CPATH="], ["CPATH=", "gcc 13"], ["gcc 13CPATH="], [""], ["é\n"]:
         words = [f"--with={text}" for text in additions]
-        whole = keys.lines((edge.outputs[0] for edge in LISTED), additions)
+        whole = keys.lines((edge.outputs[0] for edge in LISTED), [text.encode() for text in additions])
         yield from expect(additions, run(graph, folder, words), (DONE, whole, ""))
         rest = run(graph, folder, [*words, "--resume", "0"]).output
         yield from expect(f"{additions}, a page", whole.endswith(rest), True)
         found |= {whole}
     yield from expect("each has its keys", len(found), 6)
+
+
+@check
+def keys_with_files(graph, folder):
+    """Contents of files go into every key, in their order and after the texts."""
+    contents = {"cc": b"\x7fELF\0\xff\n", "env": b"", "large": bytes(range(256)) * 4096}
+    write_files(folder, {**FILES, **contents})
+    keys, found = Keys(LISTED + PHONY), set()
+    for names in ["cc"], ["env"], ["cc", "env"], ["env", "cc"], ["large"]:
+        words = [*(f"--with-file={name}" for name in names), "--with", "gcc"]
+        additions = [b"gcc", *(of_content(contents[name]) for name in names)]
+        whole = keys.lines((edge.outputs[0] for edge in LISTED), additions)
+        yield from expect(names, run(graph, folder, words), (DONE, whole, ""))
+        found |= {whole}
+    yield from expect("each has its keys", len(found), 5)
+    missing = "ninja-graph: none: there is no such file\n"
+    yield from expect("missing", run(graph, folder, ["--with-file", "none"]), (FAULT, "", missing))
 
 
 @check

@@ -21,7 +21,6 @@ use Rattle.nj_questions.specs.declared.questions.KeysOptions.{KeysOptions}
 use Rattle.nj_questions.specs.declared.questions.StaleOptions.{StaleOptions}
 use Rattle.nj_questions.specs.declared.questions.TestsOptions.{TestsOptions}
 use Rattle.nj_questions.specs.declared.questions.WhyOptions.{WhyOptions}
-use Rattle.nj_tests.specs.Tests.{TestModel}
 use Rattle.nj_graph.specs.ReadingList.{ReadStatement}
 use Rattle.nj_ask.specs.declared.discovered.DiscoveredGraph.{DiscoveredGraph}
 use Rattle.nj_ask.specs.declared.answer.Told.{Told}
@@ -46,6 +45,7 @@ use Rattle.nj_ask.specs.ChosenTests.{AnswersTests}
 use Rattle.nj_ask.specs.Endings.{Ends, Reported, Sinks, answered}
 use Rattle.nj_ask.specs.Endings.Ends.{ended, output_fails}
 use Rattle.nj_ask.specs.KnownGraphs.{Sources, sources_of}
+use Rattle.nj_ask.specs.OptionFiles.{NamedFiles}
 use Rattle.nj_ask.specs.Stales.{AnswersStale}
 use Rattle.nj_ask.specs.Inside.Asking.{IsTask, LeavesAnswer, LeavesTold}
 use Rattle.nj_ask.specs.Inside.Asking.LeavesAnswer.{answers, lacks_log, lacks_memory as no_memory}
@@ -132,53 +132,56 @@ none-listed (why options) is = refl
 
 -- what is answered to the task is answered to its subject
 module _ (known : DiscoveredGraph) (entries : List ReadStatement) (log : BuildLogModel)
-    (times : DeclaredTimes) (folder : List ℕ) (list : List TestModel)
+    (times : DeclaredTimes) (folder : List ℕ) (named : NamedFiles)
     (input : List ℕ) (old new : SinkState) (reported : Result Told Failure) (subject : SubjectModel)
     (asked : Task) where
   pub affected-returns : (options : Bor AffectedOptions) (globs : Vec (List GlobPart))
       → asked ≡ task.Affected options globs
       → IsTask subject asked
       → Returns (AnswersAffected known entries folder (affected_model options.now) input) old new reported
-      → Returns (Answers known entries log times folder subject list input) old new reported
+      → Returns (Answers known entries log times folder subject named input) old new reported
   affected-returns options globs same is returns = rw (subst (IsTask subject) same is).0 returns
 
   pub audit-returns : (options : Bor AuditOptions) (kinds : Kinds) → asked ≡ task.Audit options kinds
       → IsTask subject asked
       → Returns (AnswersAudit known entries times folder (audit_model options.now)) old new reported
-      → Returns (Answers known entries log times folder subject list input) old new reported
+      → Returns (Answers known entries log times folder subject named input) old new reported
   audit-returns options kinds same is returns = rw (subst (IsTask subject) same is).0 returns
 
   pub draw-returns : (options : Bor DrawOptions) → asked ≡ task.Draw options → IsTask subject asked
       → Returns (AnswersDraw known entries (draw_model options.now)) old new reported
-      → Returns (Answers known entries log times folder subject list input) old new reported
+      → Returns (Answers known entries log times folder subject named input) old new reported
   draw-returns options same is returns = rw (subst (IsTask subject) same is) returns
 
   pub why-returns : (options : Bor WhyOptions) → asked ≡ task.Why options → IsTask subject asked
       → Returns (AnswersWhy known entries (why_model options.now)) old new reported
-      → Returns (Answers known entries log times folder subject list input) old new reported
+      → Returns (Answers known entries log times folder subject named input) old new reported
   why-returns options same is returns = rw (subst (IsTask subject) same is) returns
 
   pub stale-returns : (options : Bor StaleOptions) → asked ≡ task.Stale options → IsTask subject asked
       → Returns (AnswersStale known entries log times (stale_model options.now)) old new reported
-      → Returns (Answers known entries log times folder subject list input) old new reported
+      → Returns (Answers known entries log times folder subject named input) old new reported
   stale-returns options same is returns = rw (subst (IsTask subject) same is) returns
 
   pub keys-returns : (options : Bor KeysOptions) (page : PageAsked) → asked ≡ task.Keys options page
       → IsTask subject asked
-      → Returns (AnswersKeys known entries (keys_model options.now) page.mark) old new reported
-      → Returns (Answers known entries log times folder subject list input) old new reported
+      → Returns (AnswersKeys known entries (keys_model options.now) named.additions page.mark) old new
+      reported
+      → Returns (Answers known entries log times folder subject named input) old new reported
   keys-returns options page same is returns =
       let asks = subst (IsTask subject) same is in
       rw asks.0
-      (subst (λ mark. Returns (AnswersKeys known entries (keys_model options.now) (unwrap_or mark [])) old new
+      (subst (λ mark. Returns (AnswersKeys known entries (keys_model options.now) named.additions
+      (unwrap_or mark [])) old new
       reported)
       (sym asks.1.mark) returns)
 
   pub tests-returns : (options : Bor TestsOptions) (globs : Vec (List GlobPart))
       → asked ≡ task.Tests options globs
       → IsTask subject asked
-      → Returns (AnswersTests known entries folder (tests_model options.now) list input) old new reported
-      → Returns (Answers known entries log times folder subject list input) old new reported
+      → Returns (AnswersTests known entries folder (tests_model options.now) named.tests input) old new
+      reported
+      → Returns (Answers known entries log times folder subject named input) old new reported
   tests-returns options globs same is returns = rw (subst (IsTask subject) same is).0 returns
 
 -- ---- questions
@@ -205,9 +208,9 @@ module _ (question : QuestionModel) (times : DeclaredTimes) (folder input : List
       reported
       → ConcludesTold reported old.sinks.error new.sinks.error status
       → Asks question times folder input old new status
-  asks-told reported status taken unlisted (tells {known} {entries} {log} {list} knows returns) concludes =
+  asks-told reported status taken unlisted (tells {known} {entries} {log} {named} knows returns) concludes =
       by_graph taken unlisted knows
-      (ends-concluded (Answers known entries log times folder question.subject list input) old.sinks
+      (ends-concluded (Answers known entries log times folder question.subject named input) old.sinks
       new.sinks reported
       status
       returns concludes)
@@ -232,35 +235,35 @@ tells-lacking question times folder input old new out OutOfMemory fails = tells_
 -- where there is one
 pub tells-answer : (question : QuestionModel) (times : DeclaredTimes) (folder input : List ℕ)
     (old new : Sources) (between : SourceState) (out out_new : SinkState) (known : DiscoveredGraph)
-    (entries : List ReadStatement) (list : List TestModel) (reported : Result Told Failure)
-    → ReadsFiles question times folder old (sources_of new.files between) known list
+    (entries : List ReadStatement) (named : NamedFiles) (reported : Result Told Failure)
+    → ReadsFiles question times folder old (sources_of new.files between) known named
     → IsGraphOf known.graph entries
-    → LeavesAnswer known entries times folder question.subject list input between new.built out out_new
+    → LeavesAnswer known entries times folder question.subject named input between new.built out out_new
     reported
     → LeavesTold question times folder input old new out out_new reported
-tells-answer question times folder input old new between out out_new known entries list reported reads is
+tells-answer question times folder input old new between out out_new known entries named reported reads is
     (answers log takes returns) =
-    tells {known = known} {entries = entries} {log = log} {list = list}
+    tells {known = known} {entries = entries} {log = log} {named = named}
     (record { between = between; files = reads; is = is; takes = takes }) returns
-tells-answer question times folder input old new between out out_new known entries list reported reads is
+tells-answer question times folder input old new between out out_new known entries named reported reads is
     (lacks_log takes lacks same) = tells_why (no_build_log takes reads is lacks) same
-tells-answer question times folder input old new between out out_new known entries list reported reads is
+tells-answer question times folder input old new between out out_new known entries named reported reads is
     (no_memory same) = tells_memory same
 
 -- where there is no build log
 pub leaves-lacking : (known : DiscoveredGraph) (entries : List ReadStatement) (times : DeclaredTimes)
     (folder : List ℕ)
-    (subject : SubjectModel) (list : List TestModel) (input : List ℕ) (before after : SourceState)
+    (subject : SubjectModel) (named : NamedFiles) (input : List ℕ) (before after : SourceState)
     (out : SinkState) (takes : Bool)
     (failure : Failure) → takes ≡ takes_build_log subject
     → FailsBy Fault (λ line. (takes ≡ true) × LacksBuildLog entries before after line) failure
-    → LeavesAnswer known entries times folder subject list input before after out out (Err failure)
-leaves-lacking known entries times folder subject list input before after out takes (Refused line given) same
+    → LeavesAnswer known entries times folder subject named input before after out out (Err failure)
+leaves-lacking known entries times folder subject named input before after out takes (Refused line given) same
     fails =
-    subst (λ s. LeavesAnswer known entries times folder subject list input before after out out
+    subst (λ s. LeavesAnswer known entries times folder subject named input before after out out
     (Err (Refused line s)))
     (sym fails.1) (lacks_log (sym same ∙ fails.0.0) fails.0.1 refl)
-leaves-lacking known entries times folder subject list input before after out takes Write same fails =
+leaves-lacking known entries times folder subject named input before after out takes Write same fails =
     absurd fails
-leaves-lacking known entries times folder subject list input before after out takes OutOfMemory same fails =
+leaves-lacking known entries times folder subject named input before after out takes OutOfMemory same fails =
     no_memory refl

@@ -17,12 +17,14 @@ use Rattle.nj_ask.specs.Inside.AnswerParts.{IsPageOf, SaysErr}
 use Rattle.nj_ask.specs.Pages.{mark_line}
 use Rattle.nj_ask.specs.Shape.{caveat_text}
 
-module _ (known : DiscoveredGraph) (entries : List ReadStatement) (options : KeysModel) (mark : List ℕ) where
+module _ (known : DiscoveredGraph) (entries : List ReadStatement) (options : KeysModel)
+    (contents : List (List ℕ))
+    (mark : List ℕ) where
   abbrev Targets : (paths : List (List ℕ)) → Type 0
   Targets paths = asked_targets known.graph options.targets ≡ Ok paths
 
   abbrev Refuses : (line : List ℕ) → Type 0
-  Refuses line = AnswersKeys known entries options mark [] (refused line Fault)
+  Refuses line = AnswersKeys known entries options contents mark [] (refused line Fault)
 
   pub keys-no-target : (line : List ℕ) → SaysErr (asked_targets known.graph options.targets) line
       → Refuses line
@@ -41,14 +43,14 @@ module _ (known : DiscoveredGraph) (entries : List ReadStatement) (options : Key
 
   pub keys-page : (files : GraphFiles) → files.graph ≡ known.graph → Targets files.paths
       → IsClear known files.paths → (folders : List (List ℕ)) → folders ≡ map clean_path_of options.bases
-      → (additions : List (List ℕ)) → additions ≡ options.additions
+      → (additions : List (List ℕ)) → additions ≡ options.additions ++ contents
       → (written : Page) → IsPageOf files entries additions folders mark options.take written
       → (output : List ℕ) (looks : Bool) (warnings : List ℕ)
       → output ≡ written.lines.items → looks ≡ false
       → warnings ≡ mark_line written.mark ++ caveat_text known entries
-      → AnswersKeys known entries options mark output (answered looks warnings)
+      → AnswersKeys known entries options contents mark output (answered looks warnings)
   keys-page files same are clear folders bases additions added written is output looks warnings o l w =
-      let there = subst (λ g. IsPageOf (files_at g files.paths) entries options.additions
+      let there = subst (λ g. IsPageOf (files_at g files.paths) entries (options.additions ++ contents)
       (map clean_path_of options.bases) mark options.take written) same
       (subst (λ texts. IsPageOf files entries texts (map clean_path_of options.bases) mark options.take
       written) added

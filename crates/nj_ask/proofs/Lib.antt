@@ -10,6 +10,7 @@ mod FaultLemmas
 mod InputLemmas
 mod JsonLemmas
 mod OpenedLemmas
+mod OptionFileLemmas
 mod FlagLemmas
 mod NeedLemmas
 mod ManifestLemmas

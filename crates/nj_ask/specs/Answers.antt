@@ -140,23 +140,25 @@ asked_targets g words = targets_or (defaults_in_force g.built.defaults (edges_of
 abbrev pub files_at : GraphModel → (paths : List (List ℕ)) → GraphFiles
 files_at g paths = record { graph = g; paths = paths }
 
--- `keys` from a mark on: the lines of the commands that are left there, up to the limit, and the mark after them
-pub data AnswersKeys (known : DiscoveredGraph) (entries : List ReadStatement) (options : KeysModel) (mark : List ℕ) :
+-- `keys` from a mark on: the lines of the commands that are left there, up to the limit, and the mark after them. The additions are the
+-- texts of the options, and after them `contents`, those for the contents of files.
+pub data AnswersKeys (known : DiscoveredGraph) (entries : List ReadStatement) (options : KeysModel) (contents : List (List ℕ))
+    (mark : List ℕ) :
     (output : List ℕ) → Ending → Type 0 where
   no_target : {fault : GraphFault} → asked_targets known.graph options.targets ≡ Err fault
-      → AnswersKeys known entries options mark [] (refused (fault_line fault) Fault)
+      → AnswersKeys known entries options contents mark [] (refused (fault_line fault) Fault)
   no_depfile : {paths : List (List ℕ)} {line : List ℕ} → asked_targets known.graph options.targets ≡ Ok paths
-      → HasDepfileFault known paths line → AnswersKeys known entries options mark [] (refused line Fault)
+      → HasDepfileFault known paths line → AnswersKeys known entries options contents mark [] (refused line Fault)
   out_of_range : {paths : List (List ℕ)} → asked_targets known.graph options.targets ≡ Ok paths → IsClear known paths
       → leads (files_at known.graph paths) mark ≡ false
-      → AnswersKeys known entries options mark [] (refused (program_line (codes "mark out of range")) Fault)
+      → AnswersKeys known entries options contents mark [] (refused (program_line (codes "mark out of range")) Fault)
   page : {paths : List (List ℕ)} {lines : List ℕ} {walk : WalkState} (rest : Option (List ℕ))
       → asked_targets known.graph options.targets ≡ Ok paths → IsClear known paths
       → leads (files_at known.graph paths) mark ≡ true
-      → ListsKeys options.additions (map clean_path_of options.bases) (edges_of known.graph) entries
+      → ListsKeys (options.additions ++ contents) (map clean_path_of options.bases) (edges_of known.graph) entries
       (written options.take (left_at (files_at known.graph paths) mark)) lines
       → BeginsAfter (files_at known.graph paths) mark walk → StopsAt walk options.take rest
-      → AnswersKeys known entries options mark lines (answered false (mark_line rest ++ caveat_text known entries))
+      → AnswersKeys known entries options contents mark lines (answered false (mark_line rest ++ caveat_text known entries))
 
 -- ---- `json`
 

@@ -3,7 +3,6 @@ use Rattle.std.specs.Prelude.{◌≡◌, ℕ, Bool, true, false, unwrap_or, Opti
 use Rattle.nj_scope.specs.Sources.{SourceState}
 use Rattle.nj_build_log.specs.Logs.{BuildLogModel}
 use Rattle.nj_discovered.specs.Times.{DeclaredTimes}
-use Rattle.nj_tests.specs.Tests.{TestModel}
 use Rattle.nj_graph.specs.ReadingList.{ReadStatement}
 use Rattle.nj_graph.specs.Graph.{IsGraphOf}
 use Rattle.nj_tools.specs.Sinks.{SinkState}
@@ -21,27 +20,27 @@ use Rattle.nj_ask.specs.ChosenTests.{AnswersTests, MisusesTests, TakesTests}
 use Rattle.nj_ask.specs.Endings.{Ending, Ends, Reported, Sinks, answered, memory_line, program_line, refused}
 use Rattle.nj_ask.specs.Given.{MisusesAffected, TakesAffected}
 use Rattle.nj_ask.specs.KnownGraphs.{KnowsGraph, LacksGraph, Sources, sources_of}
+use Rattle.nj_ask.specs.OptionFiles.{LacksNamedFiles, NamedFiles, ReadsNamedFiles}
 use Rattle.nj_ask.specs.Stales.{AnswersStale}
-use Rattle.nj_ask.specs.TestLists.{LacksTests, ReadsTests}
 
 -- ---- by its graph
 
--- by its subcommand; `log` is the build log, and `list` has the tests that it is about
+-- by its subcommand; `log` is the build log, and `named` has what was read from the files that its options name
 abbrev pub Answers : DiscoveredGraph → List ReadStatement → (log : BuildLogModel) → DeclaredTimes → (folder : List ℕ) → SubjectModel
-    → (list : List TestModel) → (input : List ℕ) → (output : List ℕ) → Ending → Type 0
-Answers known entries log times folder (affected options) list input output ending =
+    → (named : NamedFiles) → (input : List ℕ) → (output : List ℕ) → Ending → Type 0
+Answers known entries log times folder (affected options) named input output ending =
     AnswersAffected known entries folder options input output ending
-Answers known entries log times folder (audit options) list input output ending =
+Answers known entries log times folder (audit options) named input output ending =
     AnswersAudit known entries times folder options output ending
-Answers known entries log times folder (draw options) list input output ending = AnswersDraw known entries options output ending
-Answers known entries log times folder json list input output ending = AnswersJson known entries output ending
-Answers known entries log times folder (keys options) list input output ending =
-    AnswersKeys known entries options (unwrap_or (asked_mark options) []) output ending
-Answers known entries log times folder (stale options) list input output ending =
+Answers known entries log times folder (draw options) named input output ending = AnswersDraw known entries options output ending
+Answers known entries log times folder json named input output ending = AnswersJson known entries output ending
+Answers known entries log times folder (keys options) named input output ending =
+    AnswersKeys known entries options named.additions (unwrap_or (asked_mark options) []) output ending
+Answers known entries log times folder (stale options) named input output ending =
     AnswersStale known entries log times options output ending
-Answers known entries log times folder (tests options) list input output ending =
-    AnswersTests known entries folder options list input output ending
-Answers known entries log times folder (why options) list input output ending = AnswersWhy known entries options output ending
+Answers known entries log times folder (tests options) named input output ending =
+    AnswersTests known entries folder options named.tests input output ending
+Answers known entries log times folder (why options) named input output ending = AnswersWhy known entries options output ending
 
 -- its options are refused before anything is read, and a line says why
 abbrev pub Misuses : SubjectModel → (line : List ℕ) → Type 0
@@ -95,17 +94,18 @@ sinks_of output error = record { output = output; error = error }
 abbrev pub around : (files built : SourceState) → (output error : SinkState) → Around
 around files built output error = record { sources = sources_of files built; sinks = sinks_of output error }
 
--- the files of a question were read: its list of tests, and then its graph
+-- the files of a question were read: those that its options name beside its graph, and then its graph
 pub record ReadsFiles (question : QuestionModel) (times : DeclaredTimes) (folder : List ℕ) (old new : Sources) (known : DiscoveredGraph)
-    (list : List TestModel) : Type 0 where
+    (named : NamedFiles) : Type 0 where
   pub between : SourceState
-  pub tests : ReadsTests question.subject folder old.files between list
+  pub options : ReadsNamedFiles question.subject folder old.files between named
   pub graph : KnowsGraph question.graph (seeks_undeclared question.subject) times (sources_of between old.built) new known
 
--- they were not: its list of tests is not there, or else there is no graph
+-- they were not: one that its options name is not there, or else there is no graph
 pub data LacksFiles (question : QuestionModel) (times : DeclaredTimes) (folder : List ℕ) (old new : Sources) (line : List ℕ) : Type 0 where
-  no_tests : LacksTests question.subject folder old.files new.files line → new.built ≡ old.built → LacksFiles question times folder old new line
-  no_graph : {between : SourceState} (list : List TestModel) → ReadsTests question.subject folder old.files between list
+  no_option_files : LacksNamedFiles question.subject folder old.files new.files line → new.built ≡ old.built
+      → LacksFiles question times folder old new line
+  no_graph : {between : SourceState} (named : NamedFiles) → ReadsNamedFiles question.subject folder old.files between named
       → LacksGraph question.graph times (sources_of between old.built) new line → LacksFiles question times folder old new line
 
 -- nothing is output, and a line says why, with this status
@@ -125,20 +125,20 @@ abbrev pub TakesBuildLog : (takes : Bool) → List ReadStatement → (before aft
 TakesBuildLog true entries before after log = ReadsBuildLog entries before after log
 TakesBuildLog false entries before after log = (after ≡ before) × (log ≡ no_lines)
 
--- what the files of a question come to: its list of tests, a graph and its statements, and then a build log
+-- what the files of a question come to: those that its options name, a graph and its statements, and then a build log
 pub record Knows (question : QuestionModel) (times : DeclaredTimes) (folder : List ℕ) (old new : Sources) (known : DiscoveredGraph)
-    (entries : List ReadStatement) (log : BuildLogModel) (list : List TestModel) : Type 0 where
+    (entries : List ReadStatement) (log : BuildLogModel) (named : NamedFiles) : Type 0 where
   pub between : SourceState
-  pub files : ReadsFiles question times folder old (sources_of new.files between) known list
+  pub files : ReadsFiles question times folder old (sources_of new.files between) known named
   pub is : IsGraphOf known.graph entries
   pub takes : TakesBuildLog (takes_build_log question.subject) entries between new.built log
 
--- or why there is no list of tests or no graph, or no build log
+-- or why a file that options name is lacking, or the graph, or the build log
 pub data Lacks (question : QuestionModel) (times : DeclaredTimes) (folder : List ℕ) (old new : Sources) : (line : List ℕ) → Type 0 where
   no_files : {line : List ℕ} → LacksFiles question times folder old new line → Lacks question times folder old new line
-  no_build_log : {between : SourceState} {known : DiscoveredGraph} {entries : List ReadStatement} {list : List TestModel} {line : List ℕ}
+  no_build_log : {between : SourceState} {known : DiscoveredGraph} {entries : List ReadStatement} {named : NamedFiles} {line : List ℕ}
       → takes_build_log question.subject ≡ true
-      → ReadsFiles question times folder old (sources_of new.files between) known list
+      → ReadsFiles question times folder old (sources_of new.files between) known named
       → IsGraphOf known.graph entries → LacksBuildLog entries between new.built line → Lacks question times folder old new line
 
 -- Options are refused, or answered, before anything is read. Else the files are read, and the graph is asked; or a file is lacking, or
@@ -149,10 +149,10 @@ pub data Asks (question : QuestionModel) (times : DeclaredTimes) (folder : List 
       → Ends (IsRefusal line Usage) old.sinks new.sinks status → Asks question times folder input old new status
   lists : {text : List ℕ} {status : Status} → listed question.subject ≡ Some text → new.sources ≡ old.sources
       → Ends (IsText text) old.sinks new.sinks status → Asks question times folder input old new status
-  by_graph : {known : DiscoveredGraph} {entries : List ReadStatement} {log : BuildLogModel} {list : List TestModel} {status : Status}
+  by_graph : {known : DiscoveredGraph} {entries : List ReadStatement} {log : BuildLogModel} {named : NamedFiles} {status : Status}
       → IsTaken question.subject → listed question.subject ≡ None
-      → Knows question times folder old.sources new.sources known entries log list
-      → Ends (Answers known entries log times folder question.subject list input) old.sinks new.sinks status
+      → Knows question times folder old.sources new.sources known entries log named
+      → Ends (Answers known entries log times folder question.subject named input) old.sinks new.sinks status
       → Asks question times folder input old new status
   lacks_files : {line : List ℕ} {status : Status} → IsTaken question.subject → listed question.subject ≡ None
       → Lacks question times folder old.sources new.sources line → Ends (IsRefusal line Fault) old.sinks new.sinks status

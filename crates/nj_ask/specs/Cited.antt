@@ -1,7 +1,7 @@
 -- What the contracts of this crate cite: each name comes from the module in its line.
 pub use Rattle.nj_ask.specs.Answers.{AnswersAffected, change_asked, outputs_asked, HasDepfileFault, IsClear, AnswersDraw, AnswersJson}
 pub use Rattle.nj_ask.specs.Answers.{AnswersKeys, asked_mark, asked_targets, keys_misuse, mark_misuse, AnswersWhy, needed_from}
-pub use Rattle.nj_ask.specs.Inside.Asking.{AreGlobsAsked, LeavesAnswer, AnswersTask, IsGiven, IsTask, AreTestsAsked}
+pub use Rattle.nj_ask.specs.Inside.Asking.{AreGlobsAsked, LeavesAnswer, named_files, AnswersTask, IsGiven, IsTask, AreTestsAsked}
 pub use Rattle.nj_ask.specs.Inside.Failures.{Gives, Delivers, WritesAnswer, ConcludesTold, FailsBy, SaysFault, Returns, Stops}
 pub use Rattle.nj_ask.specs.Inside.Findings.{HasEdges, AreFindingsOf, text_if_faulty, if_doubtful, if_faulty}
 pub use Rattle.nj_graph.specs.Graph.{OfStatements, files_of, IsGraphOf, edges_of, rule_name}
@@ -23,7 +23,6 @@ pub use Rattle.nj_ask.specs.Asks.{TakesBuildLog, no_lines, takes_build_log, Lack
 pub use Rattle.nj_ask.specs.Asks.{around, Misuses, sinks_of, Refuses}
 pub use Rattle.nj_ask.specs.Inside.GraphSteps.{HasStatements, AreInputsIn, KnowsByLog, LacksByLog, Discovers, LacksDiscovered, LacksMain}
 pub use Rattle.nj_ask.specs.Inside.GraphSteps.{LacksManifest}
-pub use Rattle.nj_tests.specs.Tests.{TestModel, test_model}
 pub use Rattle.nj_ask.specs.KnownGraphs.{sources_of, FindsUndeclared, undeclared_in, IsDeclared, IsDiscovered, KnowsGraph, LacksGraph}
 pub use Rattle.nj_ask.specs.KnownGraphs.{ReadsManifest, asks_discovered, discovered_line}
 pub use Rattle.nj_ask.specs.Audits.{kind_lines, selection_in, AnswersAudit, WouldBeMissing, unknown_kind_line, finding_line, finding_lines}
@@ -45,6 +44,7 @@ pub use Rattle.nj_ask.specs.ChosenTests.{AnswersTests, WritesTests, no_path_rema
 pub use Rattle.nj_ask.specs.ChosenTests.{asks_format, format_misuse, list_misuse, program_misuse, style_asked, style_misuse, unnamed_misuse}
 pub use Rattle.nj_ask.specs.ChosenTests.{word_misuse}
 pub use Rattle.nj_text.specs.Calls.{is_empty}
+pub use Rattle.nj_tests.specs.Tests.{test_model}
 pub use Rattle.nj_graph.specs.Files.{path_at}
 pub use Rattle.nj_scope.specs.Sources.{outcome_bytes, SourceState}
 pub use Rattle.nj_deps.specs.Logs.{IsLogFault, IsLogOf, opening, LogModel}
@@ -79,6 +79,10 @@ pub use Rattle.nj_ask.specs.NeededFaults.{IsFirstFault}
 pub use Rattle.std.specs.Fmt.{decimal}
 pub use Rattle.nj_ask.specs.Quotes.{quoted, escaped, escapes}
 pub use Rattle.nj_changes.specs.Tables.{SameNames}
+pub use Rattle.nj_ask.specs.OptionFiles.{LacksAdditions, LacksContent, LacksNamedFiles, ReadsAdditionAt, ReadsAdditions, ReadsContents}
+pub use Rattle.nj_ask.specs.OptionFiles.{ReadsNamedFiles}
+pub use Rattle.nj_ask.specs.TestLists.{LacksText, LacksList, LacksLists, LacksMeson, LacksNamed, LacksTests, ReadsList, ReadsLists}
+pub use Rattle.nj_ask.specs.TestLists.{ReadsMeson, ReadsNamed, ReadsTests, faulty_path, info_path, is_of_targets, list_line, list_path}
 pub use Rattle.nj_graph.specs.Changes.{IsAffected}
 pub use Rattle.nj_ask.specs.Laws.{DoneMissesNothing, ListedHaveReasons, WarningsAreUnique}
 pub use Rattle.nj_audit.specs.declared.kinds.Kind.TheVariants.{MissingSource}
@@ -89,6 +93,4 @@ pub use Rattle.nj_ask.specs.Inside.StaleParts.{IsManifestAnswer, LacksTime}
 pub use Rattle.nj_needs.specs.Growing.{grown_targets}
 pub use Rattle.nj_ask.specs.Statuses.{exit_code}
 pub use Rattle.std.specs.IoError.{error_kind}
-pub use Rattle.nj_ask.specs.TestLists.{LacksList, LacksLists, LacksMeson, LacksNamed, LacksTests, LacksText, ReadsList, ReadsLists}
-pub use Rattle.nj_ask.specs.TestLists.{ReadsMeson, ReadsNamed, ReadsTests, faulty_path, info_path, is_of_targets, list_line, list_path}
 pub use Rattle.nj_graph.specs.Targets.{picked}

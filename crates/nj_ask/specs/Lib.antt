@@ -21,6 +21,7 @@ pub mod LogsRead
 pub mod MadeFrom
 pub mod Manifest
 pub mod NeededFaults
+pub mod OptionFiles
 pub mod Pages
 pub mod Quotes
 pub mod Reports

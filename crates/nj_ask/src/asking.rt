@@ -1,7 +1,7 @@
 //! Questions about a graph, asked of its files.
 
 ghost use Rattle.std.specs.Prelude.{◌≡◌, Ok, IfOk, IfErr, None, Some, map, true};
-ghost use Rattle.nj_ask.specs.Cited.{LacksBuildLog, LeavesAnswer, TakesBuildLog, no_lines, takes_build_log, HasStatements, LacksFiles, ReadsFiles, TestModel, sources_of, test_model, Fault, SubjectModel, Ends, listed, seeks_undeclared, IsText, kind_lines, around, AsksWith, AnswersTask, IsGiven, IsTask, OfStatements, HasEdges, question_model, subject_model, FailsBy, Usage, Misuses, ended_status, sinks_of};
+ghost use Rattle.nj_ask.specs.Cited.{LacksBuildLog, LeavesAnswer, TakesBuildLog, no_lines, takes_build_log, HasStatements, LacksFiles, ReadsFiles, named_files, sources_of, Fault, SubjectModel, Ends, listed, seeks_undeclared, IsText, kind_lines, around, AsksWith, AnswersTask, IsGiven, IsTask, OfStatements, HasEdges, question_model, subject_model, FailsBy, Usage, Misuses, ended_status, sinks_of};
 
 use crate::affected::answer_affected;
 use crate::answer::{Told, conclude, deliver};
@@ -15,9 +15,9 @@ use crate::given::globs_asked;
 use crate::graph_reading::known_graph;
 use crate::json::answer_json;
 use crate::keys::{PageAsked, answer_keys, page_asked};
+use crate::option_files::{OptionFiles, read_option_files};
 use crate::stale::answer_stale;
 use crate::status::Status;
-use crate::test_list::read_tests;
 use crate::test_options::tests_asked;
 use crate::why::answer_why;
 use nj_audit::{Kind, Kinds};
@@ -28,7 +28,6 @@ use nj_questions::{
     AffectedOptions, AuditOptions, DrawOptions, KeysOptions, Question, StaleOptions, Subject,
     TestsOptions, WhyOptions,
 };
-use nj_tests::Test;
 use nj_tools::Sink;
 use std::alloc::{AllocError, Global};
 
@@ -56,8 +55,8 @@ enum Task<'q> {
 /// What is read for a question.
 #[derive(Drop)]
 struct FilesRead {
-    /// The tests of its list, if it has one.
-    tests: Vec<Test>,
+    /// The files that its options name.
+    named: OptionFiles,
     /// Its graph.
     known: Box<DiscoveredGraph>,
 }
@@ -89,9 +88,9 @@ pub(crate) fn ask<S: FileSource, B: FileSource, T: FileTimes, O: Sink, E: Sink>(
     };
     let seeks = seeks_undeclared(&task);
     match read_files(alloc, files, built, times, folder, question, seeks) {
-        Ok(FilesRead { tests, known }) => {
+        Ok(FilesRead { named, known }) => {
             let told = answer_by(
-                alloc, &known, built, times, folder, task, &tests, input, out,
+                alloc, &known, built, times, folder, task, &named, input, out,
             );
             Ended {
                 status: conclude(err, &told),
@@ -102,7 +101,7 @@ pub(crate) fn ask<S: FileSource, B: FileSource, T: FileTimes, O: Sink, E: Sink>(
     }
 }
 
-/// Reads the list of tests of a question, if it has one, and then its graph. Finds undeclared inputs
+/// Reads the files that the options of a question name, and then its graph. Finds undeclared inputs
 /// where `seeks` says so.
 fn read_files<S: FileSource, B: FileSource, T: FileTimes>(
     alloc: Global,
@@ -117,19 +116,19 @@ fn read_files<S: FileSource, B: FileSource, T: FileTimes>(
     ensures read { IfOk result (λ read. ReadsFiles (question_model question.now)
         (T.times times.now) folder.now (sources_of (S.state files.old) (B.state built.old))
         (sources_of (S.state files.new) (B.state built.new)) read.known.value
-        (map test_model read.tests.items)) }
+        (named_files read.named)) }
     ensures stated { IfOk result (λ read. HasStatements read.known.value.graph) }
     ensures edges { IfOk result (λ read. HasEdges read.known.value) }
     ensures lacks { IfErr result (FailsBy Fault (LacksFiles (question_model question.now)
         (T.times times.now) folder.now (sources_of (S.state files.old) (B.state built.old))
         (sources_of (S.state files.new) (B.state built.new)))) }
 {
-    let tests = match read_tests(alloc, files, folder, &question.subject) {
-        Ok(tests) => tests,
+    let named = match read_option_files(alloc, files, folder, &question.subject) {
+        Ok(named) => named,
         Err(failure) => return Err(failure),
     };
     match known_graph(alloc, files, built, times, &question.graph, seeks) {
-        Ok(known) => Ok(FilesRead { tests, known }),
+        Ok(known) => Ok(FilesRead { named, known }),
         Err(failure) => Err(failure),
     }
 }
@@ -214,7 +213,7 @@ fn answer_by<B: FileSource, T: FileTimes, O: Sink>(
     times: &T,
     folder: &[u8],
     task: Task<'_>,
-    tests: &[Test],
+    named: &OptionFiles,
     input: &[u8],
     out: &mut O,
 ) -> Result<Told, Failure>
@@ -222,12 +221,12 @@ fn answer_by<B: FileSource, T: FileTimes, O: Sink>(
     requires given { IsGiven task }
     ensures { OfStatements known.now.graph (λ entries. (subject : SubjectModel)
         → IsTask subject task.entry → LeavesAnswer known.now entries (T.times times.now)
-        folder.now subject (map test_model tests.now) input.now (B.state built.old)
+        folder.now subject (named_files named.now) input.now (B.state built.old)
         (B.state built.new) (O.state out.old) (O.state out.new) result) }
 {
     let takes = takes_build_log(&task);
     match build_log_if(alloc, built, &known.graph, takes) {
-        Ok(log) => perform(alloc, known, &log, times, folder, task, tests, input, out),
+        Ok(log) => perform(alloc, known, &log, times, folder, task, named, input, out),
         Err(failure) => Err(failure),
     }
 }
@@ -268,14 +267,14 @@ fn perform<T: FileTimes, O: Sink>(
     times: &T,
     folder: &[u8],
     task: Task<'_>,
-    tests: &[Test],
+    named: &OptionFiles,
     input: &[u8],
     out: &mut O,
 ) -> Result<Told, Failure>
     requires edges { HasEdges known.now }
     requires given { IsGiven task }
     ensures { OfStatements known.now.graph (λ entries. AnswersTask known.now entries log.now
-        (T.times times.now) folder.now task.entry (map test_model tests.now) input.now
+        (T.times times.now) folder.now task.entry (named_files named.now) input.now
         (O.state out.old) (O.state out.new) result) }
 {
     match task {
@@ -294,13 +293,16 @@ fn perform<T: FileTimes, O: Sink>(
         }
         Task::Draw(options) => deliver(out, answer_draw(alloc, known, options)),
         Task::Json => answer_json(alloc, known, out),
-        Task::Keys(options, page) => deliver(out, answer_keys(alloc, known, options, &page)),
+        Task::Keys(options, page) => {
+            let contents = &named.additions;
+            deliver(out, answer_keys(alloc, known, options, contents, &page))
+        }
         Task::Stale(options) => deliver(out, answer_stale(alloc, known, log, times, options)),
         Task::Tests(options, mut globs) => {
             let globs = globs.as_mut_slice();
             deliver(
                 out,
-                answer_tests(alloc, known, folder, options, globs, tests, input),
+                answer_tests(alloc, known, folder, options, globs, &named.tests, input),
             )
         }
         Task::Why(options) => deliver(out, answer_why(alloc, known, options)),

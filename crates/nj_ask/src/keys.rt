@@ -131,16 +131,19 @@ fn mark_failure(alloc: Global, fault: MarkFault, status: Status) -> Failure
 
 // ---- the page
 
-/// The page that the options request, from its mark on.
+/// The page that the options request, from its mark on. `contents` are the additions for the contents
+/// of files.
 pub(crate) fn answer_keys(
     alloc: Global,
     known: &DiscoveredGraph,
     options: &KeysOptions,
+    contents: &[Vec<u8>],
     asked: &PageAsked,
 ) -> Result<Answer, Failure>
     requires { asked.now.bases ≡ map clean_path_of (keys_model options.now).bases }
     ensures { OfStatements known.now.graph (λ entries.
-        Gives (AnswersKeys known.now entries (keys_model options.now) asked.now.mark) result) }
+        Gives (AnswersKeys known.now entries (keys_model options.now)
+        (map (λ content. content.items) contents.now) asked.now.mark) result) }
 {
     let targets = match targets_asked(alloc, known, &options.targets) {
         Ok(targets) => targets,
@@ -150,7 +153,7 @@ pub(crate) fn answer_keys(
         Ok(()) => {}
         Err(failure) => return Err(failure),
     }
-    let additions = bytes_of(alloc, &options.additions)?;
+    let additions = additions_of(alloc, &options.additions, contents)?;
     let page = match page_of(alloc, asked, &additions, &targets, options.take) {
         Ok(page) => page,
         Err(failure) => return Err(failure),
@@ -187,6 +190,36 @@ pub(crate) fn texts_of<'w>(alloc: Global, words: &'w [String]) -> Result<Vec<&'w
         texts.push(word.as_str())?;
     }
     Ok(texts)
+}
+
+/// The additions of texts, and after them those for the contents of files.
+fn additions_of<'w>(
+    alloc: Global,
+    texts: &'w [String],
+    contents: &'w [Vec<u8>],
+) -> Result<Vec<&'w [u8]>, AllocError>
+    ensures { IfOk result (λ additions. map (λ text. text.now) additions.items
+        ≡ map string_bytes texts.entry.now
+        ++ map (λ content. content.items) contents.entry.now) }
+{
+    let mut additions = bytes_of(alloc, texts)?;
+    push_contents(&mut additions, contents)?;
+    Ok(additions)
+}
+
+/// Appends the additions for the contents of files.
+fn push_contents<'w>(
+    additions: &mut Vec<&'w [u8]>,
+    contents: &'w [Vec<u8>],
+) -> Result<(), AllocError>
+    ensures { OnOk result (map (λ text. text.now) additions.new.items
+        ≡ map (λ text. text.now) additions.old.items
+        ++ map (λ content. content.items) contents.entry.now) }
+{
+    'contents: for content in contents {
+        additions.push(content.as_slice())?;
+    }
+    Ok(())
 }
 
 /// The bytes of words.

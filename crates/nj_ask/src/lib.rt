@@ -32,6 +32,7 @@ mod needed_faults;
 mod node_lines;
 mod nodes;
 mod opened;
+mod option_files;
 mod pages;
 mod quotes;
 mod report;

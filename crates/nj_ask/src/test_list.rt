@@ -175,7 +175,11 @@ fn is_of_targets(fault: &ListFault) -> bool
 // ---- files
 
 /// The text of the file at a path.
-fn text_at<S: FileSource>(alloc: Global, files: &mut S, path: &str) -> Result<Vec<u8>, Failure>
+pub(crate) fn text_at<S: FileSource>(
+    alloc: Global,
+    files: &mut S,
+    path: &str,
+) -> Result<Vec<u8>, Failure>
     ensures read { IfOk result (λ text.
         ReadsBytes (S.state files.old) (S.state files.new) path.now (Some text.items)) }
     ensures lacks { IfErr result (FailsBy Fault

@@ -35,7 +35,7 @@ with-additions additions digest is text lines edges e key line_is =
 -- ---- texts with the same digest
 
 -- they are the same, unless SHA-256 confuses them
-told : (one other : List ℕ) → sha256 one ≡ sha256 other → (one ≡ other) ⊎ HasConfusion
+pub told : (one other : List ℕ) → sha256 one ≡ sha256 other → (one ≡ other) ⊎ HasConfusion
 told one other same =
     let decides = bytes_eq-Decides one other in
     elim (cases_Bool (bytes_eq one other)) [

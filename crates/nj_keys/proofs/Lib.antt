@@ -2,6 +2,7 @@ mod AdditionLaws
 mod BaseLaws
 mod BaseLemmas
 mod BaseRows
+mod ContentLaws
 mod EdgeLaws
 mod FieldLaws
 mod InputLemmas

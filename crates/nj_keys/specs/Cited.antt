@@ -1,7 +1,8 @@
 -- What the contracts of this crate cite: each name comes from the module in its line.
-pub use Rattle.nj_keys.specs.Keys.{additions_text, field, number, bars, fields_of, fields_text, input_text, inputs_with_keys, maker_key}
-pub use Rattle.nj_keys.specs.Keys.{response_of, variable_of, IsKey, Needs, AdditionsTell, EdgesHaveKeys, KeysAreUnique, LinesAreUnique}
-pub use Rattle.nj_keys.specs.Keys.{PagesOfLinesJoin, TextsTellFields, TextsTellEdges, TextsTellMapped, KeysTellFields, line, ListsKeys}
+pub use Rattle.nj_keys.specs.Keys.{additions_text, content_addition, field, number, bars, fields_of, fields_text, input_text}
+pub use Rattle.nj_keys.specs.Keys.{inputs_with_keys, maker_key, response_of, variable_of, IsKey, Needs, AdditionsTell}
+pub use Rattle.nj_keys.specs.Keys.{AdditionsTellContents, EdgesHaveKeys, KeysAreUnique, LinesAreUnique, PagesOfLinesJoin, TextsTellFields}
+pub use Rattle.nj_keys.specs.Keys.{TextsTellEdges, TextsTellMapped, KeysTellFields, line, ListsKeys}
 pub use Rattle.nj_keys.specs.Inside.Additions.{digest_of_additions, key_after}
 pub use Rattle.hex.specs.Hex.{encode_lower}
 pub use Rattle.std.specs.List.{flat_map}

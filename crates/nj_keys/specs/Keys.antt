@@ -123,6 +123,14 @@ abbrev pub key_with : (additions : List (List ℕ)) → (key : List ℕ) → Lis
 key_with [] key = key
 key_with (text ∷ additions) key = sha256 (58 ∷ sha256 (additions_text (text ∷ additions)) ++ key)
 
+-- the addition for the content of a file: a zero byte, which no word of a command line has, and the SHA-256 of the content
+abbrev pub content_addition : (content : List ℕ) → List ℕ
+content_addition content = 0 ∷ sha256 content
+
+-- texts, and after them the contents of files, as additions
+abbrev pub additions_of : (texts contents : List (List ℕ)) → List (List ℕ)
+additions_of texts contents = texts ++ map content_addition contents
+
 -- ---- lines
 
 -- a key in hexadecimal digits, and the first output of its edge
@@ -266,6 +274,12 @@ AdditionsTell = (additions others folders bases : List (List ℕ)) (e f : Stated
     → IsKey folders e.edges e.entries e.number key → IsKey bases f.edges f.entries f.number other
     → AreFieldsOf folders e one → AreFieldsOf bases f two → AreShort one → AreShort two
     → key_with additions key ≡ key_with others other → ((additions ≡ others) × (key ≡ other)) ⊎ HasConfusion
+
+-- Additions have the texts, in their order, and after them the contents, in theirs, unless SHA-256 confuses two contents. So a text is
+-- never taken for the content of a file.
+abbrev pub AdditionsTellContents : Type 0
+AdditionsTellContents = (texts others contents more : List (List ℕ)) → All HasNoZero texts → All HasNoZero others
+    → additions_of texts contents ≡ additions_of others more → ((texts ≡ others) × (contents ≡ more)) ⊎ HasConfusion
 
 -- a list of edges has only one text
 abbrev pub LinesAreUnique : Type 0

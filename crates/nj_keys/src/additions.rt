@@ -1,11 +1,26 @@
 //! Texts that go into every key.
 
 ghost use Rattle.std.specs.Prelude.{◌≡◌, ◌++◌, ◌∷◌, IfOk, OnOk, length, map, string_bytes};
-ghost use Rattle.nj_keys.specs.Cited.{additions_text, digest_of_additions, encode_lower, field, flat_map, key_after, number, sha256};
+ghost use Rattle.nj_keys.specs.Cited.{additions_text, content_addition, digest_of_additions, encode_lower, field, flat_map, key_after, number, sha256};
 
 use crate::fields::{Key, push_field, push_number};
 use sha2::{Digest, Sha256};
 use std::alloc::{AllocError, Global};
+
+/// Returns the addition for the content of a file: a zero byte, which no word of a command line
+/// has, and the SHA-256 of the content.
+///
+/// # Errors
+///
+/// If an allocation failed.
+pub fn content_addition(alloc: Global, content: &[u8]) -> Result<Vec<u8>, AllocError>
+    ensures { IfOk result (λ addition. addition.items ≡ content_addition content.now) }
+{
+    let mut addition = Vec::new(alloc);
+    addition.push(0)?;
+    addition.extend_from_slice(&Sha256::digest(content))?;
+    Ok(addition)
+}
 
 /// Returns the digest of the text of additions; `None` without additions.
 pub(crate) fn digest_of_additions(

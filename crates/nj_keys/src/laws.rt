@@ -1,6 +1,6 @@
 //! Laws of keys and their lines.
 
-ghost use Rattle.nj_keys.specs.Cited.{AdditionsTell, EdgesHaveKeys, KeysAreUnique, LinesAreUnique, PagesOfLinesJoin, TextsTellFields, MappedTells, TextsTellEdges, TextsTellMapped, KeysTellFields, PagesAreAll, PagesLeaveTheRest, StartLeavesAll};
+ghost use Rattle.nj_keys.specs.Cited.{AdditionsTell, AdditionsTellContents, EdgesHaveKeys, KeysAreUnique, LinesAreUnique, PagesOfLinesJoin, TextsTellFields, MappedTells, TextsTellEdges, TextsTellMapped, KeysTellFields, PagesAreAll, PagesLeaveTheRest, StartLeavesAll};
 
 /// Bases lose nothing: two texts without a zero byte are the same if they agree once numbers stand
 /// for the same directories.
@@ -33,9 +33,12 @@ pub fn keys_law()
 {}
 
 /// Additions are part of every key: keys with different additions differ, and so do the keys of
-/// edges that differ without them, unless SHA-256 gives two texts the same digest.
+/// edges that differ without them, unless SHA-256 gives two texts the same digest. Additions for
+/// texts without a zero byte, and then for the contents of files, differ if a text or a content
+/// differs, unless SHA-256 gives two contents the same digest.
 pub fn additions_law()
-    ensures { AdditionsTell }
+    ensures tell { AdditionsTell }
+    ensures contents { AdditionsTellContents }
 {}
 
 /// A list of edges has only one text, and the texts of pages, one after another, are the text of

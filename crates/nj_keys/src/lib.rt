@@ -8,6 +8,7 @@ mod keys;
 mod laws;
 mod pages;
 
+pub use additions::content_addition;
 pub use bases::Bases;
 pub use laws::{additions_law, bases_law, edges_law, fields_law, keys_law, lines_law, pages_law};
 pub use pages::{Page, page_from};

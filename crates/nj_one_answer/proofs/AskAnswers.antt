@@ -108,8 +108,8 @@ module _ (law : OneAnswer) (values : SameKnownHaveSameAnswers) (line : OneMisuse
     (folder input : List ℕ) (old one other : Around)
   where
     abbrev EndsFor : FilesRead → (old new : Around) → Status → Type 0
-    EndsFor (graph known entries log list) old new status =
-        Ends (Answers known entries log times folder question.subject list input) old.sinks new.sinks status
+    EndsFor (graph known entries log named) old new status =
+        Ends (Answers known entries log times folder question.subject named input) old.sinks new.sinks status
     EndsFor (no_graph line) old new status = Ends (IsRefusal line Fault) old.sinks new.sinks status
 
     abbrev Alike : (status end : Status) → Type 0
@@ -119,10 +119,10 @@ module _ (law : OneAnswer) (values : SameKnownHaveSameAnswers) (line : OneMisuse
         → TellTimes question.subject times → (status end : Status) → EndsFor files old one status
         → EndsFor files old other end → EndAlike (SameFor question.subject files) old.sinks one.sinks
         other.sinks status end
-    files-alike (graph known entries log list) knows tells status end =
-        ends-alike (Answers known entries log times folder question.subject list input)
+    files-alike (graph known entries log named) knows tells status end =
+        ends-alike (Answers known entries log times folder question.subject named input)
         (SameOutput known question.subject) (equal-output known question.subject)
-        (λ a b e f answers more. law known entries log times folder question.subject list input a b e f
+        (λ a b e f answers more. law known entries log times folder question.subject named input a b e f
         knows.is tells
         answers
         more)
@@ -132,22 +132,22 @@ module _ (law : OneAnswer) (values : SameKnownHaveSameAnswers) (line : OneMisuse
 
     ends-same : (files more : FilesRead) → SameFiles files more → (end : Status) → EndsFor more old other end
         → EndsFor files old other end
-    ends-same (graph known entries log list) (graph known2 entries2 log2 list2) (same, stated, logged, also)
+    ends-same (graph known entries log named) (graph known2 entries2 log2 named2) (same, stated, logged, also)
         end
         ends =
-        ends-weaker (Answers known2 entries2 log2 times folder question.subject list2 input)
-        (Answers known entries log times folder question.subject list input) old.sinks other.sinks end
+        ends-weaker (Answers known2 entries2 log2 times folder question.subject named2 input)
+        (Answers known entries log times folder question.subject named input) old.sinks other.sinks end
         (λ output ending is. values known2 known (same-back known known2 same) entries log times folder
-        question.subject list input output ending
+        question.subject named input output ending
         (subst (λ ts. Answers known2 entries log times folder question.subject ts input output ending)
         (sym also)
-        (subst (λ es. Answers known2 es log times folder question.subject list2 input output ending)
+        (subst (λ es. Answers known2 es log times folder question.subject named2 input output ending)
         (sym stated)
-        (subst (λ l. Answers known2 entries2 l times folder question.subject list2 input output ending)
+        (subst (λ l. Answers known2 entries2 l times folder question.subject named2 input output ending)
         (sym logged) is))))
         ends
-    ends-same (graph known entries log list) (no_graph line) same end ends = elim same [ ]
-    ends-same (no_graph line) (graph known entries log list) same end ends = elim same [ ]
+    ends-same (graph known entries log named) (no_graph line) same end ends = elim same [ ]
+    ends-same (no_graph line) (graph known entries log named) same end ends = elim same [ ]
     ends-same (no_graph line) (no_graph more) same end ends =
         subst (λ l. Ends (IsRefusal l Fault) old.sinks other.sinks end) (sym same) ends
 
@@ -171,7 +171,7 @@ module _ (law : OneAnswer) (values : SameKnownHaveSameAnswers) (line : OneMisuse
         (lists {text = t2} {status = s2} is2 same2 ends2) =
         absurd (exclusive question.subject l1 t2 is1 is2)
     asks-alike _ _ (misused {line = l1} {status = s1} is1 same1 ends1)
-        (by_graph {known = k2} {entries = n2} {log = g2} {list = t2} {status = s2} no2 none2 knows2 ends2) =
+        (by_graph {known = k2} {entries = n2} {log = g2} {named = t2} {status = s2} no2 none2 knows2 ends2) =
         absurd (apart question.subject l1 is1 no2)
     asks-alike _ _ (misused {line = l1} {status = s1} is1 same1 ends1)
         (lacks_files {line = l2} {status = s2} no2 none2 lacks2 ends2) =
@@ -188,7 +188,7 @@ module _ (law : OneAnswer) (values : SameKnownHaveSameAnswers) (line : OneMisuse
         (subst (λ text. Ends (IsText text) old.sinks one.sinks s1) (same_Some t1 t2 (sym is1 ∙ is2)) ends1)
         ends2)
     asks-alike _ _ (lists {text = t1} {status = s1} is1 same1 ends1)
-        (by_graph {known = k2} {entries = n2} {log = g2} {list = t2} {status = s2} no2 none2 knows2 ends2) =
+        (by_graph {known = k2} {entries = n2} {log = g2} {named = t2} {status = s2} no2 none2 knows2 ends2) =
         absurd (some-or-none t1 (listed question.subject) is1 none2)
     asks-alike _ _ (lists {text = t1} {status = s1} is1 same1 ends1)
         (lacks_files {line = l2} {status = s2} no2 none2 lacks2 ends2) =
@@ -196,23 +196,28 @@ module _ (law : OneAnswer) (values : SameKnownHaveSameAnswers) (line : OneMisuse
     asks-alike _ _ (lists {text = t1} {status = s1} is1 same1 ends1)
         (lacks_memory kept2 told2) =
         lacked_memory (inr (record { output = kept2; error = told2; status_is = refl }))
-    asks-alike _ _ (by_graph {known = k1} {entries = n1} {log = g1} {list = t1} {status = s1} no1 none1 knows1
+    asks-alike _ _ (by_graph {known = k1} {entries = n1} {log = g1} {named = t1} {status = s1} no1 none1
+        knows1
         ends1)
         (misused {line = l2} {status = s2} is2 same2 ends2) =
         absurd (apart question.subject l2 is2 no1)
-    asks-alike _ _ (by_graph {known = k1} {entries = n1} {log = g1} {list = t1} {status = s1} no1 none1 knows1
+    asks-alike _ _ (by_graph {known = k1} {entries = n1} {log = g1} {named = t1} {status = s1} no1 none1
+        knows1
         ends1)
         (lists {text = t2} {status = s2} is2 same2 ends2) =
         absurd (some-or-none t2 (listed question.subject) is2 none1)
-    asks-alike _ _ (by_graph {known = k1} {entries = n1} {log = g1} {list = t1} {status = s1} no1 none1 knows1
+    asks-alike _ _ (by_graph {known = k1} {entries = n1} {log = g1} {named = t1} {status = s1} no1 none1
+        knows1
         ends1)
-        (by_graph {known = k2} {entries = n2} {log = g2} {list = t2} {status = s2} no2 none2 knows2 ends2) =
+        (by_graph {known = k2} {entries = n2} {log = g2} {named = t2} {status = s2} no2 none2 knows2 ends2) =
         read-alike (graph k1 n1 g1 t1) (graph k2 n2 g2 t2) knows1 knows2 s1 s2 ends1 ends2
-    asks-alike _ _ (by_graph {known = k1} {entries = n1} {log = g1} {list = t1} {status = s1} no1 none1 knows1
+    asks-alike _ _ (by_graph {known = k1} {entries = n1} {log = g1} {named = t1} {status = s1} no1 none1
+        knows1
         ends1)
         (lacks_files {line = l2} {status = s2} no2 none2 lacks2 ends2) =
         read-alike (graph k1 n1 g1 t1) (no_graph l2) knows1 lacks2 s1 s2 ends1 ends2
-    asks-alike _ _ (by_graph {known = k1} {entries = n1} {log = g1} {list = t1} {status = s1} no1 none1 knows1
+    asks-alike _ _ (by_graph {known = k1} {entries = n1} {log = g1} {named = t1} {status = s1} no1 none1
+        knows1
         ends1)
         (lacks_memory kept2 told2) =
         lacked_memory (inr (record { output = kept2; error = told2; status_is = refl }))
@@ -223,7 +228,7 @@ module _ (law : OneAnswer) (values : SameKnownHaveSameAnswers) (line : OneMisuse
         (lists {text = t2} {status = s2} is2 same2 ends2) =
         absurd (some-or-none t2 (listed question.subject) is2 none1)
     asks-alike _ _ (lacks_files {line = l1} {status = s1} no1 none1 lacks1 ends1)
-        (by_graph {known = k2} {entries = n2} {log = g2} {list = t2} {status = s2} no2 none2 knows2 ends2) =
+        (by_graph {known = k2} {entries = n2} {log = g2} {named = t2} {status = s2} no2 none2 knows2 ends2) =
         read-alike (no_graph l1) (graph k2 n2 g2 t2) lacks1 knows2 s1 s2 ends1 ends2
     asks-alike _ _ (lacks_files {line = l1} {status = s1} no1 none1 lacks1 ends1)
         (lacks_files {line = l2} {status = s2} no2 none2 lacks2 ends2) =
@@ -238,7 +243,7 @@ module _ (law : OneAnswer) (values : SameKnownHaveSameAnswers) (line : OneMisuse
         (lists {text = t2} {status = s2} is2 same2 ends2) =
         lacked_memory (inl (record { output = kept1; error = told1; status_is = refl }))
     asks-alike _ _ (lacks_memory kept1 told1)
-        (by_graph {known = k2} {entries = n2} {log = g2} {list = t2} {status = s2} no2 none2 knows2 ends2) =
+        (by_graph {known = k2} {entries = n2} {log = g2} {named = t2} {status = s2} no2 none2 knows2 ends2) =
         lacked_memory (inl (record { output = kept1; error = told1; status_is = refl }))
     asks-alike _ _ (lacks_memory kept1 told1)
         (lacks_files {line = l2} {status = s2} no2 none2 lacks2 ends2) =

@@ -33,6 +33,7 @@ use Rattle.nj_ask.specs.Answers.AnswersAffected.{no_path, no_rule, reported}
 use Rattle.nj_ask.specs.Answers.AnswersDraw.{no_target as undrawn_target, no_depfile as undrawn_depfile}
 use Rattle.nj_ask.specs.Answers.AnswersDraw.{drawing}
 use Rattle.nj_ask.specs.Answers.AnswersJson.{all, not_text}
+use Rattle.nj_ask.specs.OptionFiles.{NamedFiles}
 use Rattle.nj_ask.specs.Answers.AnswersKeys.{no_target, no_depfile, out_of_range, page}
 use Rattle.nj_ask.specs.Answers.AnswersWhy.{no_start, no_end, no_depfile as unlinked_depfile, chain, no_chain}
 use Rattle.nj_ask.specs.Asks.{Answers}
@@ -245,16 +246,19 @@ module _ (one other : DiscoveredGraph) (same : SameKnown one other) where
       subst (λ (c : List ℕ). AnswersWhy mid entries options [] (answered true c)) (caveats entries)
       (no_chain from to (clear _ fine) none)
 
-  keys-moves : (entries : List ReadStatement) (options : KeysModel) (mark output : List ℕ) (ending : Ending)
-      → AnswersKeys one entries options mark output ending
-      → AnswersKeys mid entries options mark output ending
-  keys-moves entries options mark _ _ (no_target bad) = no_target bad
-  keys-moves entries options mark _ _ (no_depfile {paths = ps} {line = line} at has) =
+  keys-moves : (entries : List ReadStatement) (options : KeysModel) (contents : List (List ℕ))
+      (mark output : List ℕ) (ending : Ending)
+      → AnswersKeys one entries options contents mark output ending
+      → AnswersKeys mid entries options contents mark output ending
+  keys-moves entries options contents mark _ _ (no_target bad) = no_target bad
+  keys-moves entries options contents mark _ _ (no_depfile {paths = ps} {line = line} at has) =
       no_depfile at (faulty ps line has)
-  keys-moves entries options mark _ _ (out_of_range {paths = ps} at fine bad) =
+  keys-moves entries options contents mark _ _ (out_of_range {paths = ps} at fine bad) =
       out_of_range at (clear ps fine) bad
-  keys-moves entries options mark _ _ (page {paths = ps} {lines = t} rest at fine valid lists begins stops) =
-      subst (λ (c : List ℕ). AnswersKeys mid entries options mark t (answered false (mark_line rest ++ c)))
+  keys-moves entries options contents mark _ _
+      (page {paths = ps} {lines = t} rest at fine valid lists begins stops) =
+      subst (λ (c : List ℕ). AnswersKeys mid entries options contents mark t
+      (answered false (mark_line rest ++ c)))
       (caveats entries) (page rest at (clear ps fine) valid lists begins stops)
 
   json-moves : (entries : List ReadStatement) (output : List ℕ) (ending : Ending)
@@ -363,31 +367,31 @@ module _ (one other : DiscoveredGraph) (same : SameKnown one other) where
 
   moves : (entries : List ReadStatement) (log : BuildLogModel) (times : DeclaredTimes) (folder : List ℕ)
       (subject : SubjectModel)
-      (list : List TestModel) (input output : List ℕ) (ending : Ending)
-      → Answers one entries log times folder subject list input output ending
-      → Answers mid entries log times folder subject list input output ending
-  moves entries log times folder (affected options) list input output ending is =
+      (named : NamedFiles) (input output : List ℕ) (ending : Ending)
+      → Answers one entries log times folder subject named input output ending
+      → Answers mid entries log times folder subject named input output ending
+  moves entries log times folder (affected options) named input output ending is =
       affected-moves entries folder options input output ending is
-  moves entries log times folder (audit options) list input output ending is =
+  moves entries log times folder (audit options) named input output ending is =
       audit-moves entries times folder options output ending is
-  moves entries log times folder (draw options) list input output ending is =
+  moves entries log times folder (draw options) named input output ending is =
       draw-moves entries options output ending is
-  moves entries log times folder json list input output ending is = json-moves entries output ending is
-  moves entries log times folder (keys options) list input output ending is =
-      keys-moves entries options (unwrap_or (asked_mark options) []) output ending is
-  moves entries log times folder (stale options) list input output ending is =
+  moves entries log times folder json named input output ending is = json-moves entries output ending is
+  moves entries log times folder (keys options) named input output ending is =
+      keys-moves entries options named.additions (unwrap_or (asked_mark options) []) output ending is
+  moves entries log times folder (stale options) named input output ending is =
       stale-moves entries log times options output ending is
-  moves entries log times folder (tests options) list input output ending is =
-      tests-move entries folder options list input output ending is
-  moves entries log times folder (why options) list input output ending is =
+  moves entries log times folder (tests options) named input output ending is =
+      tests-move entries folder options named.tests input output ending is
+  moves entries log times folder (why options) named input output ending is =
       why-moves entries options output ending is
 
 pub same-answers : SameKnownHaveSameAnswers
-same-answers one other same entries log times folder subject list input output ending is =
-    subst (λ (known : DiscoveredGraph). Answers known entries log times folder subject list input output
+same-answers one other same entries log times folder subject named input output ending is =
+    subst (λ (known : DiscoveredGraph). Answers known entries log times folder subject named input output
     ending)
     (mid-is one other same)
-    (moves one other same entries log times folder subject list input output ending is)
+    (moves one other same entries log times folder subject named input output ending is)
 
 pub same-back : (one other : DiscoveredGraph) → SameKnown one other → SameKnown other one
 same-back one other same = record {

@@ -22,14 +22,14 @@ use Rattle.nj_one_answer.proofs.NeededFaults.{clear-or-fault, fault-lines-agree}
 use Rattle.nj_one_answer.proofs.WhyAnswers.{ok-or-err, same-err, same-ok}
 
 module _ (unique : LinesAreUnique) (known : DiscoveredGraph) (entries : List ReadStatement)
-    (options : KeysModel) (mark : List ℕ) (graph : IsGraphOf known.graph entries)
+    (options : KeysModel) (contents : List (List ℕ)) (mark : List ℕ) (graph : IsGraphOf known.graph entries)
   where
     abbrev targets : Result (List (List ℕ)) GraphFault
     targets = asked_targets known.graph options.targets
 
     abbrev Lists : (paths : List (List ℕ)) (lines : List ℕ) → Type 0
-    Lists paths lines = ListsKeys options.additions (map clean_path_of options.bases) (edges_of known.graph)
-        entries
+    Lists paths lines = ListsKeys (options.additions ++ contents) (map clean_path_of options.bases)
+        (edges_of known.graph) entries
         (written options.take (left_at (files_at known.graph paths) mark)) lines
 
     -- the targets are the same files
@@ -50,8 +50,8 @@ module _ (unique : LinesAreUnique) (known : DiscoveredGraph) (entries : List Rea
         both_ways (leads (files_at known.graph c) mark) bad (subst Leads (same a c is also) valid)
 
     pub answers-agree : (output other : List ℕ) (ending end : Ending)
-        → AnswersKeys known entries options mark output ending
-        → AnswersKeys known entries options mark other end → (output ≡ other) × (ending ≡ end)
+        → AnswersKeys known entries options contents mark output ending
+        → AnswersKeys known entries options contents mark other end → (output ≡ other) × (ending ≡ end)
     answers-agree _ _ _ _ (no_target {fault = e1} bad1)
         (no_target {fault = e2} bad2) =
         (refl, ap (λ fault. refused (fault_line fault) Fault) (same-err targets e1 e2 bad1 bad2))
@@ -108,7 +108,8 @@ module _ (unique : LinesAreUnique) (known : DiscoveredGraph) (entries : List Rea
         (page {paths = a2} {lines = t2} {walk = w2} rest2 at2 clear2 valid2 lists2 begins2 stops2) =
         let files = files_at known.graph a2 in
         let paths : a1 ≡ a2 = same a1 a2 at1 at2 in (
-          unique options.additions (map clean_path_of options.bases) (edges_of known.graph) entries
+          unique (options.additions ++ contents) (map clean_path_of options.bases) (edges_of known.graph)
+              entries
               (written options.take (left_at files mark)) t1 t2
               (subst (λ ps. Lists ps t1) paths lists1) lists2,
           ap (λ rest. answered false (mark_line rest ++ caveat_text known entries))
@@ -118,5 +119,5 @@ module _ (unique : LinesAreUnique) (known : DiscoveredGraph) (entries : List Rea
         )
 
 pub one-keys-answer : LinesAreUnique → OneKeysAnswer
-one-keys-answer unique known entries options mark graph =
-    answers-agree unique known entries options mark graph
+one-keys-answer unique known entries options contents mark graph =
+    answers-agree unique known entries options contents mark graph

@@ -16,6 +16,7 @@ use Rattle.nj_ask.specs.ChosenTests.{AnswersTests}
 use Rattle.nj_ask.specs.Drawings.{drawing_text}
 use Rattle.nj_ask.specs.DrawnNodes.{drawn_nodes}
 use Rattle.nj_ask.specs.Endings.{Ending}
+use Rattle.nj_ask.specs.OptionFiles.{NamedFiles}
 use Rattle.nj_ask.specs.Stales.{AnswersStale}
 use Rattle.nj_agreement.specs.Graphs.{SameButTies}
 use Rattle.nj_agreement.specs.Sources.{TellAll}
@@ -40,10 +41,10 @@ OneAuditAnswer = (known : DiscoveredGraph) (entries : List ReadStatement) (times
 abbrev pub OneJsonAnswer : Type 0
 OneJsonAnswer = (known : DiscoveredGraph) (entries : List ReadStatement) → HasOneAnswer (AnswersJson known entries)
 
--- `keys`, from a mark on
+-- `keys`, from a mark on, with additions for the contents of files
 abbrev pub OneKeysAnswer : Type 0
-OneKeysAnswer = (known : DiscoveredGraph) (entries : List ReadStatement) (options : KeysModel) (mark : List ℕ)
-    → IsGraphOf known.graph entries → HasOneAnswer (AnswersKeys known entries options mark)
+OneKeysAnswer = (known : DiscoveredGraph) (entries : List ReadStatement) (options : KeysModel) (contents : List (List ℕ))
+    (mark : List ℕ) → IsGraphOf known.graph entries → HasOneAnswer (AnswersKeys known entries options contents mark)
 
 -- `stale`, by times that are declared of all paths
 abbrev pub OneStaleAnswer : Type 0
@@ -104,9 +105,9 @@ pub record SameKnown (one other : DiscoveredGraph) : Type 0 where
 -- they have the same answers
 abbrev pub SameKnownHaveSameAnswers : Type 0
 SameKnownHaveSameAnswers = (one other : DiscoveredGraph) → SameKnown one other → (entries : List ReadStatement) (log : BuildLogModel)
-    (times : DeclaredTimes) (folder : List ℕ) (subject : SubjectModel) (tests : List TestModel) (input output : List ℕ) (ending : Ending)
-    → Answers one entries log times folder subject tests input output ending
-    → Answers other entries log times folder subject tests input output ending
+    (times : DeclaredTimes) (folder : List ℕ) (subject : SubjectModel) (named : NamedFiles) (input output : List ℕ) (ending : Ending)
+    → Answers one entries log times folder subject named input output ending
+    → Answers other entries log times folder subject named input output ending
 
 -- ---- whatever is asked
 
@@ -121,14 +122,14 @@ TellTimes (audit options) times = TellAll times
 TellTimes (stale options) times = TellAll times
 TellTimes subject times = Unit {0}
 
--- One graph, its statements, a build log, the list of tests and the options leave one output, but for a drawing's edges that are equally
--- far, and one ending.
+-- One graph, its statements, a build log, the files that options name and the options leave one output, but for a drawing's edges that
+-- are equally far, and one ending.
 abbrev pub OneAnswer : Type 0
 OneAnswer = (known : DiscoveredGraph) (entries : List ReadStatement) (log : BuildLogModel) (times : DeclaredTimes)
-    (folder : List ℕ) (subject : SubjectModel) (tests : List TestModel) (input : List ℕ) (output other : List ℕ) (ending end : Ending)
+    (folder : List ℕ) (subject : SubjectModel) (named : NamedFiles) (input : List ℕ) (output other : List ℕ) (ending end : Ending)
     → IsGraphOf known.graph entries → TellTimes subject times
-    → Answers known entries log times folder subject tests input output ending
-    → Answers known entries log times folder subject tests input other end
+    → Answers known entries log times folder subject named input output ending
+    → Answers known entries log times folder subject named input other end
     → SameOutput known subject output other × (ending ≡ end)
 
 -- ---- options that are refused

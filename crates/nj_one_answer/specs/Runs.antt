@@ -3,7 +3,6 @@ use Rattle.std.specs.Prelude.{◌≡◌, ◌⊎◌, ℕ, Result, Ok, Err, List, 
 use Rattle.nj_scope.specs.ReadingList.{ReadStatement}
 use Rattle.nj_build_log.specs.Logs.{BuildLogModel}
 use Rattle.nj_discovered.specs.Times.{DeclaredTimes}
-use Rattle.nj_tests.specs.Tests.{TestModel}
 use Rattle.nj_tools.specs.Sinks.{SinkState, FailsWithin}
 use Rattle.nj_questions.specs.Questions.{QuestionModel, SubjectModel, question_model}
 use Rattle.nj_questions.specs.QuestionOf.{RefusalModel, question_of, out_of_memory, old_option, shows_help, unparsed}
@@ -15,6 +14,7 @@ use Rattle.nj_ask.specs.declared.status.Status.TheVariants.{Fault, OutputFailed,
 use Rattle.nj_ask.specs.Asks.{Around, IsRefusal, Knows, Lacks}
 use Rattle.nj_ask.specs.Endings.{Ending, Ends, Reported, Sinks, memory_line, program_line}
 use Rattle.nj_ask.specs.KnownGraphs.{Sources}
+use Rattle.nj_ask.specs.OptionFiles.{NamedFiles}
 use Rattle.nj_one_answer.specs.Answers.{SameKnown, SameOutput, TellTimes}
 use Rattle.nj_one_answer.specs.Sinks.{SameSinks}
 
@@ -74,28 +74,28 @@ pub record LacksMemory (old new : Sinks) (status : Status) : Type 0 where
 
 -- ---- questions
 
--- what the files of a question come to: a graph, its statements, a build log and the tests of a list, or a line that says why one is
--- lacking
+-- what the files of a question come to: a graph, its statements, a build log and what the files that options name come to, or a line
+-- that says why one is lacking
 pub data FilesRead : Type 0 where
-  graph : DiscoveredGraph → List ReadStatement → BuildLogModel → List TestModel → FilesRead
+  graph : DiscoveredGraph → List ReadStatement → BuildLogModel → NamedFiles → FilesRead
   no_graph : (line : List ℕ) → FilesRead
 
 -- they come to the given result
 abbrev pub ComeTo : QuestionModel → DeclaredTimes → (folder : List ℕ) → (old new : Sources) → FilesRead → Type 0
-ComeTo question times folder old new (graph known entries log tests) = Knows question times folder old new known entries log tests
+ComeTo question times folder old new (graph known entries log named) = Knows question times folder old new known entries log named
 ComeTo question times folder old new (no_graph line) = Lacks question times folder old new line
 
--- they come to the same graph, statements, build log and tests, or to the same line
+-- they come to the same graph, statements, build log and named files, or to the same line
 abbrev pub SameFiles : (one other : FilesRead) → Type 0
-SameFiles (graph known entries log tests) (graph other more log2 others) =
-    SameKnown known other × (entries ≡ more) × (log ≡ log2) × (tests ≡ others)
-SameFiles (graph known entries log tests) (no_graph line) = ⊥
-SameFiles (no_graph line) (graph known entries log tests) = ⊥
+SameFiles (graph known entries log named) (graph other more log2 also) =
+    SameKnown known other × (entries ≡ more) × (log ≡ log2) × (named ≡ also)
+SameFiles (graph known entries log named) (no_graph line) = ⊥
+SameFiles (no_graph line) (graph known entries log named) = ⊥
 SameFiles (no_graph line) (no_graph more) = line ≡ more
 
 -- outputs for a question about files that come to the given result
 abbrev pub SameFor : SubjectModel → FilesRead → (output other : List ℕ) → Type 0
-SameFor subject (graph known entries log tests) output other = SameOutput known subject output other
+SameFor subject (graph known entries log named) output other = SameOutput known subject output other
 SameFor subject (no_graph line) output other = output ≡ other
 
 -- Two runs of a question: both end alike before anything is read; or both read the files, and end alike if the files come to the same; or

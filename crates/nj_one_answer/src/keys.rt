@@ -39,6 +39,19 @@ pub fn bases_append_mapped(
     )
 }
 
+/// Free: whether memory lacks.
+pub fn content_addition(
+    alloc: Global,
+    content: &[u8],
+) -> (Result<Vec<u8>, AllocError>, Result<Vec<u8>, AllocError>)
+    ensures { AgreeIfOk (λ a b. a.items ≡ b.items) result.0 result.1 }
+{
+    (
+        nj_keys::content_addition(alloc, content),
+        nj_keys::content_addition(alloc, content),
+    )
+}
+
 /// For a graph of statements. Free: whether memory lacks.
 pub fn page_from(
     alloc: Global,

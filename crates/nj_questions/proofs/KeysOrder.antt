@@ -33,7 +33,15 @@ abbrev asked : (bases targets : List Text) → QuestionModel
 asked bases targets = record {
   folder = None;
   graph = record { file = codes "build.ninja"; dyndep = false; deps = false; log = None };
-  subject = keys (record { bases = bases; additions = []; take = None; resume = None; targets = targets });
+  subject = keys (record {
+    bases = bases;
+    additions = [];
+    files = [];
+    take = None;
+    resume = None;
+    targets =
+        targets;
+  });
 }
 
 -- ---- where the walk stands

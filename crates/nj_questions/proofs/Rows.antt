@@ -43,6 +43,7 @@ abbrev keyed : (bases : List (List ℕ)) (take : Option ℕ) (resume : Option (L
 keyed bases take resume targets = record {
   bases = bases;
   additions = [];
+  files = [];
   take = take;
   resume = resume;
   targets = targets;
@@ -220,6 +221,12 @@ additions_row : question_of (codes "keys" ∷ codes "--with" ∷ codes "gcc 13" 
     { additions = codes "gcc 13" ∷ codes "x=y" ∷ [] ∷ [] }))
 unfolding question_of command clap_on_literals
 additions_row = refl
+
+addition_files_row : question_of (codes "keys" ∷ codes "--with-file" ∷ codes "cc" ∷ codes "--with=x" ∷ codes
+    "--with-file=a=b" ∷ []) ≡ asks (keys (record (keyed [] None None [])
+    { additions = codes "x" ∷ []; files = codes "cc" ∷ codes "a=b" ∷ [] }))
+unfolding question_of command clap_on_literals
+addition_files_row = refl
 
 keys_options_row : question_of (codes "keys" ∷ codes "--take" ∷ codes "5" ∷ codes "--resume" ∷ codes "0.1" ∷
     codes "app" ∷ []) ≡ asks (keys (keyed [] (Some 5) (Some (codes "0.1")) (codes "app" ∷ [])))

@@ -70,7 +70,8 @@ draw_options = flag (codes "affected") ∷ flag (codes "fold") ∷ number (codes
 -- the options of `keys`
 abbrev pub keys_options : List Rule
 keys_options =
-    repeated (codes "base") ∷ repeated (codes "with") ∷ number (codes "take") ∷ long_option (codes "resume") ∷ words (codes "targets") ∷ []
+    repeated (codes "base") ∷ repeated (codes "with") ∷ repeated (codes "with-file") ∷ number (codes "take")
+    ∷ long_option (codes "resume") ∷ words (codes "targets") ∷ []
 
 -- the options of `stale`
 abbrev pub stale_options : List Rule

@@ -66,6 +66,7 @@ abbrev pub keys_in : List Row → KeysModel
 keys_in rows = record {
   bases = values_in (codes "base") rows;
   additions = values_in (codes "with") rows;
+  files = values_in (codes "with-file") rows;
   take = number_in (codes "take") rows;
   resume = first_of (codes "resume") rows;
   targets = values_in (codes "targets") rows;

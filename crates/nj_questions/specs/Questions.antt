@@ -51,10 +51,11 @@ pub record DrawModel : Type 0 where
   pub limit : Option ℕ
   pub inputs : Option ℕ
 
--- `keys`: `additions` go into every key; `resume` is the text of a mark
+-- `keys`: the texts `additions`, and the contents of the `files`, go into every key; `resume` is the text of a mark
 pub record KeysModel : Type 0 where
   pub bases : List (List ℕ)
   pub additions : List (List ℕ)
+  pub files : List (List ℕ)
   pub take : Option ℕ
   pub resume : Option (List ℕ)
   pub targets : List (List ℕ)
@@ -173,6 +174,7 @@ abbrev pub keys_model : KeysOptions → KeysModel
 keys_model options = record {
   bases = map string_bytes options.bases.items;
   additions = map string_bytes options.additions.items;
+  files = map string_bytes options.files.items;
   take = options.take;
   resume = option_map string_bytes options.resume;
   targets = map string_bytes options.targets.items;

@@ -148,6 +148,8 @@ pub struct KeysOptions {
     pub bases: Vec<String>,
     /// `--with TEXT`: texts that go into every key, in their order.
     pub additions: Vec<String>,
+    /// `--with-file FILE`: paths of the files whose contents go into every key, in their order.
+    pub files: Vec<String>,
     /// `--take N`: at most this many commands.
     pub take: Option<u64>,
     /// `--resume MARK`: the text of the mark of the previous run.

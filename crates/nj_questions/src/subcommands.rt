@@ -181,7 +181,7 @@ Builds of one project in two directories have the same keys where these are give
   ninja-graph keys -C build --base \"$PWD/build\" --base \"$PWD\"",
 };
 
-pub const KEYS_OPTIONS: [Entry; 5] = [
+pub const KEYS_OPTIONS: [Entry; 6] = [
     (
         "base",
         Form::Repeated("DIR"),
@@ -191,6 +191,11 @@ pub const KEYS_OPTIONS: [Entry; 5] = [
         "with",
         Form::Repeated("TEXT"),
         "Let TEXT go into every key, such as the version of a compiler",
+    ),
+    (
+        "with-file",
+        Form::Repeated("FILE"),
+        "Let the contents of FILE go into every key, such as those of a compiler",
     ),
     ("take", Form::Number("N"), "Stop after N commands"),
     (

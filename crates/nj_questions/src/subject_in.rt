@@ -90,6 +90,7 @@ fn keys_in(alloc: Global, options: &ArgMatches<'_>) -> Result<KeysOptions, Alloc
     Ok(KeysOptions {
         bases: values_in(alloc, options, "base")?,
         additions: values_in(alloc, options, "with")?,
+        files: values_in(alloc, options, "with-file")?,
         take: number_in(options, "take"),
         resume: text_in(alloc, options, "resume")?,
         targets: values_in(alloc, options, "targets")?,

@@ -7,7 +7,7 @@ use Rattle.nj_scope.specs.Sources.{SourceState}
 use Rattle.nj_discovered.specs.Times.{DeclaredTimes}
 use Rattle.nj_graph.specs.ReadingList.{ReadStatement}
 use Rattle.nj_tools.specs.Sinks.{SinkState}
-use Rattle.nj_tests.specs.Tests.{TestModel}
+use Rattle.nj_tests.specs.Tests.{test_model}
 use Rattle.nj_questions.specs.Questions.{AffectedModel, AuditModel, KeysModel, TestsModel, QuestionModel}
 use Rattle.nj_questions.specs.Questions.{SubjectModel, affected, audit, draw, json, keys, stale, tests, why}
 use Rattle.nj_questions.specs.Questions.{affected_model, audit_model, draw_model, keys_model, stale_model, tests_model, why_model}
@@ -20,6 +20,7 @@ use Rattle.nj_ask.specs.declared.asking.Task.{Task}
 use Rattle.nj_ask.specs.declared.asking.Task.TheVariants as task
 use Rattle.nj_ask.specs.declared.discovered.DiscoveredGraph.{DiscoveredGraph}
 use Rattle.nj_ask.specs.declared.keys.PageAsked.{PageAsked}
+use Rattle.nj_ask.specs.declared.option_files.OptionFiles.{OptionFiles}
 use Rattle.nj_ask.specs.declared.failure.Failure.{Failure}
 use Rattle.nj_ask.specs.declared.failure.Failure.TheVariants.{Refused, OutOfMemory}
 use Rattle.nj_ask.specs.declared.status.Status.TheVariants.{Fault}
@@ -31,6 +32,7 @@ use Rattle.nj_ask.specs.ChosenTests.{word_misuse}
 use Rattle.nj_ask.specs.Given.{folder_misuse}
 use Rattle.nj_ask.specs.Inside.Failures.{Returns}
 use Rattle.nj_ask.specs.KnownGraphs.{Sources}
+use Rattle.nj_ask.specs.OptionFiles.{NamedFiles}
 
 -- ---- what is asked
 
@@ -73,35 +75,42 @@ IsTask subject (task.Why options) = subject ≡ why (why_model options.now)
 abbrev pub IsGiven : Task → Type 0
 IsGiven asked = (subject : SubjectModel) × IsTask subject asked
 
+-- what was read from the files that options name
+abbrev pub named_files : OptionFiles → NamedFiles
+named_files named = record {
+  tests = map test_model named.tests.items;
+  additions = map (λ addition. addition.items) named.additions.items;
+}
+
 -- ---- what is answered
 
 -- the answer to a task, whatever its subject
-abbrev pub AnswersTask : DiscoveredGraph → List ReadStatement → BuildLogModel → DeclaredTimes → (folder : List ℕ) → Task → List TestModel
+abbrev pub AnswersTask : DiscoveredGraph → List ReadStatement → BuildLogModel → DeclaredTimes → (folder : List ℕ) → Task → NamedFiles
     → (input : List ℕ) → (old new : SinkState) → Result Told Failure → Type 0
-AnswersTask known entries log times folder asked list input old new told =
-    (subject : SubjectModel) → IsTask subject asked → Returns (Answers known entries log times folder subject list input) old new told
+AnswersTask known entries log times folder asked named input old new told =
+    (subject : SubjectModel) → IsTask subject asked → Returns (Answers known entries log times folder subject named input) old new told
 
 -- the build log is read if it is taken, and then the graph answers; or there is none
 pub data LeavesAnswer (known : DiscoveredGraph) (entries : List ReadStatement) (times : DeclaredTimes) (folder : List ℕ)
-    (subject : SubjectModel) (list : List TestModel) (input : List ℕ) (before after : SourceState) (out out_new : SinkState) :
+    (subject : SubjectModel) (named : NamedFiles) (input : List ℕ) (before after : SourceState) (out out_new : SinkState) :
     Result Told Failure → Type 0 where
   answers : (log : BuildLogModel) {told : Result Told Failure}
       → TakesBuildLog (takes_build_log subject) entries before after log
-      → Returns (Answers known entries log times folder subject list input) out out_new told
-      → LeavesAnswer known entries times folder subject list input before after out out_new told
+      → Returns (Answers known entries log times folder subject named input) out out_new told
+      → LeavesAnswer known entries times folder subject named input before after out out_new told
   lacks_log : {line : Vec ℕ} → takes_build_log subject ≡ true → LacksBuildLog entries before after line.items → out_new ≡ out
-      → LeavesAnswer known entries times folder subject list input before after out out_new (Err (Refused line Fault))
+      → LeavesAnswer known entries times folder subject named input before after out out_new (Err (Refused line Fault))
   lacks_memory : out_new ≡ out
-      → LeavesAnswer known entries times folder subject list input before after out out_new (Err OutOfMemory)
+      → LeavesAnswer known entries times folder subject named input before after out out_new (Err OutOfMemory)
 
 -- ---- what is left to report
 
 -- of a question whose options are accepted
 pub data LeavesTold (question : QuestionModel) (times : DeclaredTimes) (folder : List ℕ) (input : List ℕ) (old new : Sources)
     (out out_new : SinkState) : Result Told Failure → Type 0 where
-  tells : {known : DiscoveredGraph} {entries : List ReadStatement} {log : BuildLogModel} {list : List TestModel} {told : Result Told Failure}
-      → Knows question times folder old new known entries log list
-      → Returns (Answers known entries log times folder question.subject list input) out out_new told
+  tells : {known : DiscoveredGraph} {entries : List ReadStatement} {log : BuildLogModel} {named : NamedFiles} {told : Result Told Failure}
+      → Knows question times folder old new known entries log named
+      → Returns (Answers known entries log times folder question.subject named input) out out_new told
       → LeavesTold question times folder input old new out out_new told
   tells_why : {line : Vec ℕ} → Lacks question times folder old new line.items → out_new ≡ out
       → LeavesTold question times folder input old new out out_new (Err (Refused line Fault))

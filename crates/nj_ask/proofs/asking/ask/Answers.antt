@@ -1,7 +1,7 @@
-use Rattle.std.proofs.Common.{Err, map, refl, subst, sym, ◌∙◌}
+use Rattle.std.proofs.Common.{Err, refl, subst, sym, ◌∙◌}
 use Rattle.nj_ask.specs.Asks.Asks.{lists}
 use Rattle.nj_ask.specs.Inside.GraphSteps.{HasStatements}
-use Rattle.nj_tests.specs.Tests.{test_model}
+use Rattle.nj_ask.specs.Inside.Asking.{named_files}
 use Rattle.nj_ask.specs.Asks.{ReadsFiles}
 use Rattle.nj_ask.specs.KnownGraphs.{sources_of}
 use Rattle.nj_questions.specs.Questions.{question_model}
@@ -38,16 +38,13 @@ returns-in-Ok-read_files g c =
     let old = sources_of (g.S.FileSource.state c.args.files.now) (g.B.FileSource.state c.args.built.now) in
     let new = sources_of (g.S.FileSource.state c.read_files.new.files)
     (g.B.FileSource.state c.read_files.new.built) in
-    let list = map test_model c.in-Ok-read_files.field-0.tests.items in
-    let reads = subst (λ known. ReadsFiles question times c.args.folder.now old new known list) same
+    let named = named_files c.in-Ok-read_files.field-0.named in
+    let reads = subst (λ known. ReadsFiles question times c.args.folder.now old new known named) same
     c.in-Ok-read_files.ensures.read in
-    let all = subst (λ tests. ReadsFiles question times c.args.folder.now old new c.deref.result.now
-    (map test_model tests))
-    (sym c.deref-in-Ok-read_files.ensures.value) reads in
     let stated = subst (λ known. HasStatements known.graph) same c.in-Ok-read_files.ensures.stated in
     asks-told _ _ _ _ _ _ c.answer_by-told.result _ (task-taken _ task asks) (task-unlisted _ task asks)
     (tells-answer _ _ _ _ _ _ _ _ _ c.deref.result.now stated.0
-    (map test_model c.deref-in-Ok-read_files.result.now) c.answer_by-told.result all stated.1
+    named c.answer_by-told.result reads stated.1
     (c.answer_by-told.ensures stated.0 stated.1 _ asks))
     c.conclude-in-Ok-read_files.ensures
 

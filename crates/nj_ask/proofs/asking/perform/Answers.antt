@@ -1,10 +1,12 @@
-use Rattle.std.proofs.Common.{subst}
+use Rattle.std.proofs.Common.{map, subst}
 use Rattle.nj_questions.specs.Questions.{affected_model, audit_model, draw_model, keys_model, stale_model}
 use Rattle.nj_questions.specs.Questions.{tests_model, why_model}
 use Rattle.nj_ask.specs.Answers.{AnswersAffected, AnswersDraw, AnswersKeys, AnswersWhy}
 use Rattle.nj_ask.specs.Audits.{AnswersAudit}
 use Rattle.nj_ask.specs.ChosenTests.{AnswersTests}
-use Rattle.nj_ask.specs.Inside.Asking.{IsTask}
+use Rattle.nj_ask.specs.Inside.Asking.{IsTask, named_files}
+use Rattle.nj_ask.specs.Inside.Failures.{Returns}
+use Rattle.nj_tests.specs.Tests.{test_model}
 use Rattle.nj_ask.proofs.AskingLemmas.{affected-returns, audit-returns, draw-returns, keys-returns}
 use Rattle.nj_ask.proofs.AskingLemmas.{stale-returns, tests-returns, why-returns}
 use Rattle.nj_ask.specs.Stales.{AnswersStale}
@@ -57,10 +59,14 @@ returns-in-Keys g c entries is subject asks =
     let known = c.args.known.now in
     let options = c.in-Keys.options in
     let page = c.in-Keys.page in
-    keys-returns known entries _ _ _ _ c.args.input.now _ _ _ subject c.args.task options page c.in-Keys.is
-    asks
-    (returns-delivered (AnswersKeys known entries (keys_model options.now) page.mark)
-    c.answer_keys.result _ _ _ (c.answer_keys.ensures entries is) c.deliver-in-Keys.ensures)
+    keys-returns known entries _ _ _ (named_files c.args.named.now) c.args.input.now _ _ _ subject c.args.task
+    options page c.in-Keys.is asks
+    (subst (λ contents. Returns (AnswersKeys known entries (keys_model options.now)
+    (map (λ content. content.items) contents) page.mark) (g.O.Sink.state c.args.out.now)
+    (g.O.Sink.state c.deliver-in-Keys.new.out) c.deliver-in-Keys.result) c.deref.ensures.value
+    (returns-delivered (AnswersKeys known entries (keys_model options.now)
+    (map (λ content. content.items) c.deref.result.now) page.mark)
+    c.answer_keys.result _ _ _ (c.answer_keys.ensures entries is) c.deliver-in-Keys.ensures))
 
 pub returns-in-Stale : goal.returns-in-Stale
 returns-in-Stale g c entries is subject asks =
@@ -74,8 +80,11 @@ pub returns-in-Tests : goal.returns-in-Tests
 returns-in-Tests g c entries is subject asks =
     let known = c.args.known.now in
     let options = c.in-Tests.options in
-    tests-returns known entries _ _ _ _ c.args.input.now _ _ _ subject c.args.task options c.in-Tests.globs
-    c.in-Tests.is asks
+    tests-returns known entries _ _ _ (named_files c.args.named.now) c.args.input.now _ _ _ subject
+    c.args.task options c.in-Tests.globs c.in-Tests.is asks
+    (subst (λ tests. Returns (AnswersTests known entries c.args.folder.now (tests_model options.now)
+    (map test_model tests) c.args.input.now) (g.O.Sink.state c.args.out.now)
+    (g.O.Sink.state c.deliver-in-Tests.new.out) c.deliver-in-Tests.result) c.deref-in-Tests.ensures.value
     (returns-delivered (AnswersTests known entries c.args.folder.now (tests_model options.now)
-    _ c.args.input.now)
-    c.answer_tests.result _ _ _ (c.answer_tests.ensures entries is) c.deliver-in-Tests.ensures)
+    (map test_model c.deref-in-Tests.result.now) c.args.input.now)
+    c.answer_tests.result _ _ _ (c.answer_tests.ensures entries is) c.deliver-in-Tests.ensures))

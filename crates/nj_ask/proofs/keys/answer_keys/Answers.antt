@@ -1,4 +1,4 @@
-use Rattle.std.proofs.Common.{◌≡◌, ◌∙◌, Ok, false, map, ap, sym, subst}
+use Rattle.std.proofs.Common.{◌≡◌, ◌∙◌, ◌++◌, Ok, false, map, ap, sym, subst}
 use Rattle.std.specs.Prelude.{codes, string_bytes}
 use Rattle.nj_graph.specs.Files.{path_at}
 use Rattle.nj_graph.specs.Graph.{GraphModel, IsGraphOf, files_of}
@@ -17,9 +17,10 @@ returns-in-Err c entries graph =
     let known = c.args.known.now in
     let options = keys_model c.args.options.now in
     let mark = c.args.asked.now.mark in
-    gives-refused (AnswersKeys known entries options mark) Fault
+    let contents = map (λ content. content.items) c.args.contents.now in
+    gives-refused (AnswersKeys known entries options contents mark) Fault
     (SaysErr (asked_targets known.graph (map string_bytes c.deref.result.now)))
-    (λ line says. keys-no-target known entries options mark line
+    (λ line says. keys-no-target known entries options contents mark line
     (subst (λ words. SaysErr (asked_targets known.graph (map string_bytes words)) line) c.deref.ensures.value
     says))
     c.in-Err.failure c.in-Err.ensures.refused
@@ -29,6 +30,7 @@ returns-in-Err-check_depfiles c entries graph =
     let known = c.args.known.now in
     let options = keys_model c.args.options.now in
     let mark = c.args.asked.now.mark in
+    let contents = map (λ content. content.items) c.args.contents.now in
     let files = c.in-Ok.targets in
     let numbers = c.numbers.result.now in
     let are = subst (λ words. asked_targets known.graph (map string_bytes words) ≡ Ok files.paths)
@@ -36,9 +38,9 @@ returns-in-Err-check_depfiles c entries graph =
     let paths = subst (λ (g : GraphModel). map (path_at (files_of g)) numbers ≡ files.paths)
     c.in-Ok.ensures.of
     c.numbers.ensures.paths in
-    gives-refused (AnswersKeys known entries options mark) Fault
+    gives-refused (AnswersKeys known entries options contents mark) Fault
     (HasDepfileFault known (map (path_at (files_of known.graph)) numbers))
-    (λ line has. keys-no-depfile known entries options mark files.paths are line
+    (λ line has. keys-no-depfile known entries options contents mark files.paths are line
     (subst (λ ps. HasDepfileFault known ps line) paths has))
     c.in-Err-check_depfiles.failure c.in-Err-check_depfiles.ensures.refused
 
@@ -47,6 +49,7 @@ returns-in-Err-page_of c entries graph =
     let known = c.args.known.now in
     let options = keys_model c.args.options.now in
     let mark = c.args.asked.now.mark in
+    let contents = map (λ content. content.items) c.args.contents.now in
     let files = c.in-Ok.targets in
     let numbers = c.numbers.result.now in
     let are = subst (λ words. asked_targets known.graph (map string_bytes words) ≡ Ok files.paths)
@@ -54,9 +57,9 @@ returns-in-Err-page_of c entries graph =
     let paths = subst (λ (g : GraphModel). map (path_at (files_of g)) numbers ≡ files.paths)
     c.in-Ok.ensures.of
     c.numbers.ensures.paths in
-    gives-refused (AnswersKeys known entries options mark) Fault
+    gives-refused (AnswersKeys known entries options contents mark) Fault
     (λ line. (leads files mark ≡ false) × (line ≡ program_line (codes "mark out of range")))
-    (λ line says. keys-lost known entries options mark files c.in-Ok.ensures.of are
+    (λ line says. keys-lost known entries options contents mark files c.in-Ok.ensures.of are
     (subst (IsClear known) paths c.in-Ok-check_depfiles.ensures.clear) line says)
     c.in-Err-page_of.failure c.in-Err-page_of.ensures.refused
 
@@ -65,6 +68,7 @@ returns c entries graph =
     let known = c.args.known.now in
     let options = keys_model c.args.options.now in
     let mark = c.args.asked.now.mark in
+    let contents = map (λ content. content.items) c.args.contents.now in
     let files = c.in-Ok.targets in
     let numbers = c.numbers.result.now in
     let are = subst (λ words. asked_targets known.graph (map string_bytes words) ≡ Ok files.paths)
@@ -73,11 +77,11 @@ returns c entries graph =
     c.in-Ok.ensures.of
     c.numbers.ensures.paths in
     let answer = c.in_ok-page_answer.field-0 in
-    keys-page known entries options mark files c.in-Ok.ensures.of are
+    keys-page known entries options contents mark files c.in-Ok.ensures.of are
     (subst (IsClear known) paths c.in-Ok-check_depfiles.ensures.clear) c.args.asked.now.bases c.requires
     (map (λ text. text.now) c.deref-3.result.now)
     (ap (map (λ text. text.now)) c.deref-3.ensures.value ∙ c.in_ok-additions.ensures
-    ∙ ap (map string_bytes) c.deref-2.ensures.value)
+    ∙ ap (λ texts. map string_bytes texts ++ contents) c.deref-2.ensures.value)
     c.in-Ok-page_of.page
     (c.in-Ok-page_of.ensures.page entries (subst (λ (g : GraphModel). IsGraphOf g entries)
     (sym c.in-Ok.ensures.of) graph))
