@@ -50,11 +50,12 @@ keyed bases take resume targets = record {
 }
 
 -- `stale`, which joins what builds discovered
-abbrev judges : (targets : List (List ℕ)) (reasons no_manifest : Bool) → Result QuestionModel RefusalModel
-judges targets reasons no_manifest = Ok (record {
+abbrev judges : (targets : List (List ℕ)) (reasons objects no_manifest : Bool)
+    → Result QuestionModel RefusalModel
+judges targets reasons objects no_manifest = Ok (record {
   folder = None;
   graph = record plain { deps = true };
-  subject = stale (record { targets = targets; why = reasons; no_manifest = no_manifest });
+  subject = stale (record { targets = targets; why = reasons; json = objects; no_manifest = no_manifest });
 })
 
 abbrev chain : (start end : List ℕ) (validations no_order_only : Bool) → WhyModel
@@ -99,15 +100,19 @@ keys_row : question_of (codes "keys" ∷ []) ≡ asks (keys (keyed [] None None 
 unfolding question_of command clap_on_literals
 keys_row = refl
 
-stale_row : question_of (codes "stale" ∷ []) ≡ judges [] false false
+stale_row : question_of (codes "stale" ∷ []) ≡ judges [] false false false
 unfolding question_of command clap_on_literals
 stale_row = refl
 
 stale_options_row : question_of (codes "stale" ∷ codes "app" ∷ codes "--no-manifest" ∷ codes "--why" ∷ codes
     "lib" ∷ [])
-    ≡ judges (codes "app" ∷ codes "lib" ∷ []) true true
+    ≡ judges (codes "app" ∷ codes "lib" ∷ []) true false true
 unfolding question_of command clap_on_literals
 stale_options_row = refl
+
+stale_json_row : question_of (codes "stale" ∷ codes "--json" ∷ []) ≡ judges [] false true false
+unfolding question_of command clap_on_literals
+stale_json_row = refl
 
 -- ---- a directory before the subcommand
 

@@ -75,7 +75,7 @@ keys_options =
 
 -- the options of `stale`
 abbrev pub stale_options : List Rule
-stale_options = flag (codes "why") ∷ flag (codes "no-manifest") ∷ words (codes "targets") ∷ []
+stale_options = flag (codes "why") ∷ flag (codes "json") ∷ flag (codes "no-manifest") ∷ words (codes "targets") ∷ []
 
 -- the options of `tests`
 abbrev pub tests_options : List Rule

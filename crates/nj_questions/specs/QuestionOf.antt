@@ -77,6 +77,7 @@ abbrev pub stale_in : List Row → StaleModel
 stale_in rows = record {
   targets = values_in (codes "targets") rows;
   why = is_on (codes "why") rows;
+  json = is_on (codes "json") rows;
   no_manifest = is_on (codes "no-manifest") rows;
 }
 

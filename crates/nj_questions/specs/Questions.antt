@@ -60,10 +60,11 @@ pub record KeysModel : Type 0 where
   pub resume : Option (List ℕ)
   pub targets : List (List ℕ)
 
--- `stale`: `why` asks for reasons; `no_manifest` leaves out what the manifest itself is made from
+-- `stale`: `why` asks for reasons, and `json` for objects; `no_manifest` leaves out what the manifest itself is made from
 pub record StaleModel : Type 0 where
   pub targets : List (List ℕ)
   pub why : Bool
+  pub json : Bool
   pub no_manifest : Bool
 
 -- `tests`: of a change, by the list of tests in the file `ctest`, or by that of Meson in the build directory `meson`; `format` and
@@ -185,6 +186,7 @@ abbrev pub stale_model : StaleOptions → StaleModel
 stale_model options = record {
   targets = map string_bytes options.targets.items;
   why = options.why;
+  json = options.json;
   no_manifest = options.no_manifest;
 }
 

@@ -165,6 +165,8 @@ pub struct StaleOptions {
     pub targets: Vec<String>,
     /// `--why`: each edge with its first reason.
     pub why: bool,
+    /// `--json`: stale edges are objects of JSON.
+    pub json: bool,
     /// `--no-manifest`: what the manifest itself is made from is left out.
     pub no_manifest: bool,
 }

@@ -216,19 +216,25 @@ pub const STALE: Topic = Topic {
     more: "\
 A line is the first output of a stale edge, in the order of `ninja -t commands`. The build log is
 .ninja_log in builddir, and the inputs that builds discovered count as with --deps. The answer is that
-of the Ninja that wrote the log. Status 0 means that nothing is stale, and 3 that something is, or that
-standard error says what may be missing.
+of the Ninja that wrote the log. Status 0 means that nothing is stale, 3 that something is, or that
+standard error says what may be missing, and 1 that there is a fault. A missing source is one, if the
+manifest itself names it and something needs it now.
 
 What the manifest itself needs comes first. If the manifest is stale, only that is written, since what
 follows depends on it; with --no-manifest it is left out.
   ninja-graph stale -C build --why",
 };
 
-pub const STALE_OPTIONS: [Entry; 3] = [
+pub const STALE_OPTIONS: [Entry; 4] = [
     (
         "why",
         Form::Flag,
         "Write the first reason after each output",
+    ),
+    (
+        "json",
+        Form::Flag,
+        "Write an object of JSON for each stale edge, with its reason",
     ),
     (
         "no-manifest",

@@ -104,6 +104,7 @@ fn stale_in(alloc: Global, options: &ArgMatches<'_>) -> Result<StaleOptions, All
     Ok(StaleOptions {
         targets: values_in(alloc, options, "targets")?,
         why: is_on(options, "why"),
+        json: is_on(options, "json"),
         no_manifest: is_on(options, "no-manifest"),
     })
 }
