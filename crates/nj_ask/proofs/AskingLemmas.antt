@@ -86,7 +86,7 @@ task-taken subject (task.Audit options kinds) is = rw is.0 is.1.allowed
 task-taken subject (task.Draw options) is = rw is tt
 task-taken subject task.Json is = rw is tt
 task-taken subject (task.Keys options page) is = rw is.0 is.1.allowed
-task-taken subject (task.Stale options) is = rw is tt
+task-taken subject (task.Stale options) is = rw is.0 is.1
 task-taken subject (task.Tests options globs) is = rw is.0 (record {
   words = is.1.words;
   change = record {
@@ -104,7 +104,7 @@ task-unlisted subject (task.Audit options kinds) is = rw is.0 is.1.unlisted
 task-unlisted subject (task.Draw options) is = rw is refl
 task-unlisted subject task.Json is = rw is refl
 task-unlisted subject (task.Keys options page) is = rw is.0 refl
-task-unlisted subject (task.Stale options) is = rw is refl
+task-unlisted subject (task.Stale options) is = rw is.0 refl
 task-unlisted subject (task.Tests options globs) is = rw is.0 refl
 task-unlisted subject (task.Why options) is = rw is refl
 
@@ -161,7 +161,7 @@ module _ (known : DiscoveredGraph) (entries : List ReadStatement) (log : BuildLo
   pub stale-returns : (options : Bor StaleOptions) → asked ≡ task.Stale options → IsTask subject asked
       → Returns (AnswersStale known entries log times (stale_model options.now)) old new reported
       → Returns (Answers known entries log times folder subject named input) old new reported
-  stale-returns options same is returns = rw (subst (IsTask subject) same is) returns
+  stale-returns options same is returns = rw (subst (IsTask subject) same is).0 returns
 
   pub keys-returns : (options : Bor KeysOptions) (page : PageAsked) → asked ≡ task.Keys options page
       → IsTask subject asked

@@ -34,4 +34,6 @@ mod NeededLaws
 mod DrawRows
 mod MentionLemmas
 mod StaleLemmas
+mod StatedLemmas
 mod TestLemmas
+mod ObjectLemmas

@@ -1,37 +1,54 @@
 -- What is stale, by the files that are asked about, and the answers to `stale`.
-use Rattle.std.specs.Prelude.{◌≡◌, ◌≢◌, ◌==◌, ◌++◌, ◌∷◌, ℕ, true, length, Option, Some, None, Result, Ok, Err}
-use Rattle.std.specs.Prelude.{List, [], map, option_map, not}
-use Rattle.std.specs.Prelude.{IfErr, IfOk, bytes_eq, is_some, position, slice_get, unwrap_or}
+use Rattle.std.specs.Prelude.{◌≡◌, ◌≢◌, ◌==◌, ◌++◌, ◌∷◌, ℕ, Bool, true, length, Option, Some, None, Result}
+use Rattle.std.specs.Prelude.{Ok, Err}
+use Rattle.std.specs.Global.{Vec}
+use Rattle.std.specs.Prelude.{IfOk, List, [], map, option_map, bytes_eq, is_some, position, slice_get}
+use Rattle.std.specs.Prelude.{unwrap_or}
 use Rattle.std.specs.List.{cons_option}
 use Rattle.std.proofs.lemmas.Bool.{eqb-true}
-use Rattle.std.proofs.Common.{arith, cond, refl, sym, ap, subst, ◌∙◌}
+use Rattle.std.proofs.lemmas.Grind.{common_steps}
 use Rattle.nj_text.specs.Calls.{is_empty}
+use Rattle.std.proofs.Common.{arith, cond, refl, sym, ap, subst, ◌∙◌}
 use Rattle.nj_names.specs.Files.{AreFiles, path_at}
 use Rattle.nj_names.proofs.NameLemmas.{found-at}
 use Rattle.nj_edges.specs.Edges.{is_named}
 use Rattle.nj_edges.specs.EdgeGraphs.{EdgeGraph}
-use Rattle.nj_build_log.specs.Logs.{BuildLogModel}
+use Rattle.nj_build_log.specs.Logs.{BuildLogModel, LineModel}
 use Rattle.nj_discovered.specs.Times.{DeclaredTimes}
 use Rattle.nj_graph.specs.ReadingList.{ReadStatement}
+use Rattle.nj_graph.specs.declared.EdgeNo.{EdgeNo}
 use Rattle.nj_graph.specs.declared.FileNo.{FileNo}
 use Rattle.nj_graph.specs.Graph.{GraphModel, edges_of, files_of}
 use Rattle.nj_needs.specs.Growing.{grown_targets}
+use Rattle.nj_needs.specs.Walks.{commands_of}
+use Rattle.nj_stale.specs.Missing.{AreStated, IsFirstMissing}
+use Rattle.nj_stale.specs.Numbered.{evidence_of}
+use Rattle.nj_stale.specs.States.{Evidence, State, IsStateOf}
+use Rattle.nj_stale.specs.Work.{HasReasons}
+use Rattle.nj_stale.specs.declared.evidence.EdgeFacts.{EdgeFacts}
+use Rattle.nj_stale.specs.declared.missing.MissingSource.{MissingSource}
+use Rattle.nj_state.specs.Facts.{facts_of, hash_version}
+use Rattle.nj_state.specs.Stale.{AreStaleBy, IsEvidence}
 use Rattle.nj_state.specs.declared.commands.StaleEdge.{StaleEdge}
+use Rattle.nj_state.specs.declared.judged.JudgedBuild.{JudgedBuild}
 use Rattle.nj_questions.specs.Questions.{StaleModel}
 use Rattle.nj_ask.specs.declared.answer.Answer.{Answer}
 use Rattle.nj_ask.specs.declared.discovered.DiscoveredGraph.{DiscoveredGraph}
 use Rattle.nj_ask.specs.declared.failure.Failure.{Failure}
+use Rattle.nj_ask.specs.declared.failure.Failure.TheVariants.{Refused, Write, OutOfMemory}
 use Rattle.nj_ask.specs.declared.status.Status.TheVariants.{Fault}
 use Rattle.nj_ask.specs.Answers.{HasDepfileFault, IsClear, asked_targets}
 use Rattle.nj_ask.specs.Endings.{refused}
-use Rattle.nj_ask.specs.Stales.{AnswersStale, AreStaleFor, files_asked, if_named, manifest_asked}
-use Rattle.nj_ask.specs.Stales.{manifest_needs}
-use Rattle.nj_ask.specs.Stales.{manifest_text, stale_caveats, stale_text}
-use Rattle.nj_ask.specs.Stales.AnswersStale.{no_target, no_depfile, no_time, listed, remade}
+use Rattle.nj_ask.specs.MissingSources.{IsStop, is_stated, required_files}
+use Rattle.nj_ask.specs.Stales.{AnswersBuild, AnswersStale, AreStaleFor, IsCurrent, files_asked, if_named}
+use Rattle.nj_ask.specs.StaleObjects.{stale_objects}
+use Rattle.nj_ask.specs.Stales.{WritesStale, manifest_asked, manifest_needs, manifest_targets}
+use Rattle.nj_ask.specs.Stales.WritesStale.{objects}
+use Rattle.nj_ask.specs.Stales.AnswersBuild.{manifest_stops, remade, target_stops, listed}
+use Rattle.nj_ask.specs.Stales.AnswersStale.{no_target, no_depfile, no_time, judged}
 use Rattle.nj_ask.specs.Inside.AnswerParts.{SaysErr}
-use Rattle.nj_ask.specs.Inside.Failures.{FailsBy, Gives}
-use Rattle.nj_ask.specs.Inside.StaleParts.{IsManifestAnswer, LacksTime}
-use Rattle.nj_ask.proofs.EndingLemmas.{gives-refused}
+use Rattle.nj_ask.specs.Inside.Failures.{Gives}
+use Rattle.nj_ask.specs.Inside.StaleParts.{IsJudgedBuild, IsManifestAnswer, LacksTime, ListsStale, StopsAt}
 use Rattle.nj_ask.proofs.LineLemmas.{files-paths}
 
 -- ---- the files that are asked about
@@ -75,11 +92,110 @@ pub no-bytes : (text : List ℕ) → (length text == 0) ≡ true → text ≡ []
 no-bytes [] none = refl
 no-bytes (byte ∷ text) none = absurd (omega (arith, eqb-true (length (byte ∷ text)) 0 none))
 
+-- ---- the judged build
+
+module _ (known : DiscoveredGraph) (entries : List ReadStatement) (log : BuildLogModel)
+    (times : DeclaredTimes) (build : JudgedBuild) (is : IsJudgedBuild known entries log times build) where
+  abbrev graph : EdgeGraph
+  graph = known.graph.built.graph
+
+  abbrev facts : List EdgeFacts
+  facts = facts_of entries (map (λ (edge : EdgeNo). edge.0) known.unknown.items) (hash_version log)
+      (length graph.edges)
+
+  abbrev evidence : Evidence
+  evidence = evidence_of graph facts build.times.items log.lines
+
+  pub evidence-is : IsEvidence graph entries (map (λ (edge : EdgeNo). edge.0) known.unknown.items) log times
+      evidence
+  evidence-is = record { times = build.times.items; times_are = is.times_are; known_is = refl }
+
+  -- the stale edges that files need
+  pub stale-for : (paths : List (List ℕ)) (files : List FileNo) (stale : List StaleEdge)
+      → AreFiles graph.files files paths → AreStaleBy evidence (commands_of graph files) stale
+      → AreStaleFor known entries log times paths stale
+  stale-for paths files stale are by = record {
+    files = files;
+    are_files = are;
+    are_stale = record { known = evidence; is = evidence-is; edges = by };
+  }
+
+  -- the missing source at which a build of targets stops
+  pub stop-for : (targets : List (List ℕ)) (files : List FileNo) (flags : List Bool)
+      (found : Option MissingSource)
+      → map (path_at graph.files) files ≡ required_files graph.edges targets
+      → AreStated graph.files (is_stated known) flags
+      → ((facts : List EdgeFacts) (lines : List LineModel) (is_stated : List ℕ → Bool) (s : State)
+      → HasReasons graph.edges s build.reasons.items → AreStated graph.files is_stated flags
+      → IsFirstMissing graph.files (evidence_of graph facts build.times.items lines) is_stated s
+      (map (path_at graph.files) files) found)
+      → IsStop known entries log times targets found
+  stop-for targets files flags found are stated missing = record {
+    evidence = evidence;
+    is = evidence-is;
+    first = λ s of.
+        subst (λ paths. IsFirstMissing graph.files evidence (is_stated known) s paths found) are
+        (missing facts log.lines (is_stated known) s (is.judged.reasons_are s of) stated);
+  }
+
+  -- objects are written
+  pub objects-written : {E : Type 0} (options : StaleModel) (stale : List StaleEdge)
+      (result : Result (Vec ℕ) E) → options.json ≡ true
+      → ((s : State) → IsStateOf evidence s
+      → IfOk result (λ text. text.items ≡ stale_objects evidence s stale))
+      → IfOk result (λ text. WritesStale known entries log times options stale text.items)
+  objects-written options stale (Ok text) json made = objects {evidence = evidence} json evidence-is made
+  objects-written options stale (Err e) json made = tt
+
+-- a list without items is empty
+pub empty-is : {A : Type 0} (xs : List A) → (length xs == 0) ≡ is_empty xs
+empty-is [] = refl
+empty-is (x ∷ xs) = grind (arith, common_steps)
+
+-- the paths of a file, if any
+pub listed-path : {X Y : Type 0} (f : X → Y) (o : Option X)
+    → map f (cons_option o []) ≡ cons_option (option_map f o) []
+listed-path f None = refl
+listed-path f (Some x) = refl
+
 -- ---- answers
 
 module _ (known : DiscoveredGraph) (entries : List ReadStatement) (log : BuildLogModel)
-    (times : DeclaredTimes)
-    (options : StaleModel) where
+    (times : DeclaredTimes) (options : StaleModel) where
+  -- a missing source stops the build of the manifest
+  pub manifest-stops : (targets : List (List ℕ)) (line : List ℕ)
+      → StopsAt known entries log times (manifest_targets known.graph options) line
+      → AnswersBuild known entries log times options targets [] (refused line Fault)
+  manifest-stops targets line stops =
+      subst (λ l. AnswersBuild known entries log times options targets [] (refused l Fault))
+      (sym stops.line_is)
+      (manifest_stops stops.stop)
+
+  -- or that of the targets
+  pub target-stops : (targets : List (List ℕ)) → IsCurrent known entries log times options
+      → (line : List ℕ) → StopsAt known entries log times targets line
+      → AnswersBuild known entries log times options targets [] (refused line Fault)
+  target-stops targets current line stops =
+      subst (λ l. AnswersBuild known entries log times options targets [] (refused l Fault))
+      (sym stops.line_is)
+      (target_stops current stops.stop)
+
+  -- the manifest is stale
+  pub manifest-answers : (targets : List (List ℕ)) (answer : Answer)
+      → IsManifestAnswer known entries log times options answer
+      → Gives (AnswersBuild known entries log times options targets) (Ok answer)
+  manifest-answers targets answer is =
+      rw (is.looks, is.warnings) (remade is.unstopped is.are_stale is.remade is.output)
+
+  -- the stale edges are listed
+  pub build-lists : (targets : List (List ℕ)) → IsCurrent known entries log times options
+      → IsStop known entries log times targets None → (stale : List StaleEdge)
+      → AreStaleFor known entries log times (files_asked known.graph options targets) stale
+      → (answer : Answer) → ListsStale known entries log times options stale answer
+      → Gives (AnswersBuild known entries log times options targets) (Ok answer)
+  build-lists targets current unstopped stale are answer lists =
+      rw (lists.looks, lists.warnings) (listed current unstopped are lists.output)
+
   abbrev Targets : (paths : List (List ℕ)) → Type 0
   Targets paths = asked_targets known.graph options.targets ≡ Ok paths
 
@@ -88,9 +204,6 @@ module _ (known : DiscoveredGraph) (entries : List ReadStatement) (log : BuildLo
 
   abbrev Clear : (paths : List (List ℕ)) → Type 0
   Clear paths = IsClear known (files_asked known.graph options paths)
-
-  abbrev Stale : (paths : List (List ℕ)) (stale : List StaleEdge) → Type 0
-  Stale paths stale = AreStaleFor known entries log times (files_asked known.graph options paths) stale
 
   pub stale-no-target : (line : List ℕ) → SaysErr (asked_targets known.graph options.targets) line
       → Refuses line
@@ -104,28 +217,11 @@ module _ (known : DiscoveredGraph) (entries : List ReadStatement) (log : BuildLo
       → LacksTime times known.graph line → Refuses line
   stale-no-time paths are clear line lacks = subst Refuses (sym lacks.line_is) (no_time are clear lacks.first)
 
-  pub stale-listed : (paths : List (List ℕ)) → Targets paths → Clear paths → (stale : List StaleEdge)
-      → Stale paths stale → (text : List ℕ)
-      → text ≡ manifest_text known.graph stale (manifest_asked known.graph options) → text ≡ []
-      → (answer : Answer)
-      → answer.output.items ≡ stale_text known.graph options.why stale → answer.looks ≡ not (is_empty stale)
-      → answer.warnings.items ≡ stale_caveats known entries stale
-      → Gives (AnswersStale known entries log times options) (Ok answer)
-  stale-listed paths are clear stale are-stale text text-is empty answer output looks warnings =
-      rw (output, looks, warnings) (listed are clear are-stale (sym text-is ∙ empty))
-
-  pub stale-remade : (paths : List (List ℕ)) → Targets paths → Clear paths → (all : List StaleEdge)
-      → Stale paths all → (text : List ℕ)
-      → text ≡ manifest_text known.graph all (manifest_asked known.graph options) → text ≢ []
-      → (result : Result Answer Failure)
-      → IfOk result (IsManifestAnswer known entries log times (manifest_asked known.graph options) options.why
-      text)
-      → IfErr result (FailsBy Fault (LacksTime times known.graph))
+  -- the answer of a judged build
+  pub stale-judged : (paths : List (List ℕ)) → Targets paths → Clear paths → (result : Result Answer Failure)
+      → Gives (AnswersBuild known entries log times options paths) result
       → Gives (AnswersStale known entries log times options) result
-  stale-remade paths are clear all are-stale text text-is some (Ok answer) is fails =
-      let said = is.warnings ∙ ap (λ l. stale_caveats known entries is.stale ++ l) text-is in
-      rw (is.output, is.looks, said)
-      (remade {all = all} {stale = is.stale} are clear are-stale (λ none. some (text-is ∙ none)) is.are_stale)
-  stale-remade paths are clear all are-stale text text-is some (Err failure) is fails =
-      gives-refused (AnswersStale known entries log times options) Fault (LacksTime times known.graph)
-      (λ line lacks. stale-no-time paths are clear line lacks) failure fails
+  stale-judged paths are clear (Ok answer) gives = judged are clear gives
+  stale-judged paths are clear (Err (Refused line status)) gives = judged are clear gives
+  stale-judged paths are clear (Err Write) gives = gives
+  stale-judged paths are clear (Err OutOfMemory) gives = tt

@@ -21,7 +21,7 @@ use Rattle.nj_ask.specs.Endings.{Ending, Ends, Reported, Sinks, answered, memory
 use Rattle.nj_ask.specs.Given.{MisusesAffected, TakesAffected}
 use Rattle.nj_ask.specs.KnownGraphs.{KnowsGraph, LacksGraph, Sources, sources_of}
 use Rattle.nj_ask.specs.OptionFiles.{LacksNamedFiles, NamedFiles, ReadsNamedFiles}
-use Rattle.nj_ask.specs.Stales.{AnswersStale}
+use Rattle.nj_ask.specs.Stales.{AnswersStale, stale_misuse}
 
 -- ---- by its graph
 
@@ -49,7 +49,7 @@ Misuses (audit options) line = audit_misuse options ≡ Some line
 Misuses (draw options) line = ⊥
 Misuses json line = ⊥
 Misuses (keys options) line = keys_misuse options ≡ Some line
-Misuses (stale options) line = ⊥
+Misuses (stale options) line = stale_misuse options ≡ Some line
 Misuses (tests options) line = MisusesTests options line
 Misuses (why options) line = ⊥
 
@@ -60,7 +60,7 @@ IsTaken (audit options) = audit_misuse options ≡ None
 IsTaken (draw options) = Unit {0}
 IsTaken json = Unit {0}
 IsTaken (keys options) = keys_misuse options ≡ None
-IsTaken (stale options) = Unit {0}
+IsTaken (stale options) = stale_misuse options ≡ None
 IsTaken (tests options) = TakesTests options
 IsTaken (why options) = Unit {0}
 

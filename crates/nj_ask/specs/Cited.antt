@@ -11,11 +11,11 @@ pub use Rattle.nj_ask.specs.Inside.Lent.{asked_of, change_model, texts}
 pub use Rattle.nj_ask.specs.Reports.{no_path_line, changed_numbers, made_from_line, HasCaveats, HasWarnings, IsReport, IsTouchedBy}
 pub use Rattle.nj_ask.specs.declared.status.Status.TheVariants.{Fault, Usage}
 pub use Rattle.nj_ask.specs.Endings.{Concludes, Reported, answered, memory_line, program_line, Ends, ReportsError}
-pub use Rattle.std.specs.List.{flat_map, list_any, filter, filter_map, fold, range_with_len, cons_option}
+pub use Rattle.std.specs.List.{flat_map, list_any, filter_map, fold, range_with_len, cons_option}
 pub use Rattle.nj_graph.specs.Handles.{edge_of, file_of, GraphEdge, paths_of, OfEdge, edges_in, files_in, detail_of_edge}
 pub use Rattle.nj_ask.specs.Drawings.{End, arrow_line, arrows_from, arrows_to, drawn_ends, edge_arrows, end_at, ends, ends_after}
-pub use Rattle.nj_ask.specs.Drawings.{ends_before, node_arrows, stated_count, count_line, drawing_text, IsDrawing, label, node_line}
-pub use Rattle.nj_ask.specs.Drawings.{edge_look, ellipse_look, left_out, more_text, node_look, node_name, point_look}
+pub use Rattle.nj_ask.specs.Drawings.{ends_before, node_arrows, count_line, drawing_text, IsDrawing, label, node_line, edge_look}
+pub use Rattle.nj_ask.specs.Drawings.{ellipse_look, left_out, more_text, node_look, node_name, point_look}
 pub use Rattle.nj_ask.specs.Inside.NodeLists.{node_model, is_full, AreFlagsWithin, SameFlags, SetsFlag, UnsetsFlag}
 pub use Rattle.nj_ask.specs.DrawnNodes.{of_edge, drawn_nodes, has_node, mention, mention_edge, node_of, is_folded}
 pub use Rattle.nj_ask.specs.BuildLogs.{LacksBuildLog, ReadsBuildLog, bad_log_line, built_path}
@@ -33,7 +33,7 @@ pub use Rattle.nj_ask.specs.AuditLaws.{AuditListsFindings, DoneFindsNothing}
 pub use Rattle.nj_ask.specs.Inside.AuditParts.{AreWarnings, HasServing, SaysUnknown}
 pub use Rattle.nj_scope.specs.ReadingList.{value_if_bound}
 pub use Rattle.nj_ask.specs.Inside.BuildLogSteps.{IsNoBuildLog, LacksBuildLogAt, ReadsBuildLogAt}
-pub use Rattle.nj_build_log.specs.Logs.{build_log_of}
+pub use Rattle.nj_build_log.specs.Logs.{build_log_of, BuildLogModel, LineModel, entry_of}
 pub use Rattle.nj_ask.specs.Chains.{is_discovered, kind_end, kind_word, place_text}
 pub use Rattle.nj_ask.specs.Inside.ChainTexts.{step_line, IsChainText}
 pub use Rattle.nj_ask.specs.Inside.Reached.{AreAt, AreFilesOf, AreFullPaths, numbers_of, IsReach, edge_numbers, AreFeeding, CanTellAll}
@@ -57,7 +57,7 @@ pub use Rattle.nj_ask.specs.DiscoveredGraphs.{JoinsDiscovered, depfile_text, dou
 pub use Rattle.nj_ask.specs.DiscoveredGraphs.{doubtful_edges, edge_discoveries, faulty_edges, state_of, IsTouched}
 pub use Rattle.nj_ask.specs.Joined.{Follows, HasDoubtfulEdges}
 pub use Rattle.nj_ask.specs.DrawingLaws.{EndsAreDrawn, NeededAreDrawn, NodesAreDistinct, NodesAreLimited}
-pub use Rattle.serde_json.specs.Data.{string}
+pub use Rattle.serde_json.specs.Data.{string, unsigned}
 pub use Rattle.serde_json.specs.Written.{compact_text}
 pub use Rattle.std.specs.Str.Lossy.{utf8_lossy}
 pub use Rattle.nj_audit.specs.Findings.{finding_model}
@@ -67,6 +67,8 @@ pub use Rattle.nj_graph.specs.Loads.{Loads}
 pub use Rattle.nj_graph.specs.Undeclared.{input_of_edge}
 pub use Rattle.nj_ask.specs.Shape.{caveat_text, dyndep_files, dyndep_of, dyndep_text, line_if_changes, lines_of_changing, may_change}
 pub use Rattle.nj_ask.specs.Shape.{remade_text, shape_text, unjoined_files}
+pub use Rattle.nj_state.specs.Judged.{HasCounts, IsJudged}
+pub use Rattle.nj_ask.specs.Inside.StaleParts.{IsJudgedBuild, IsJudgedGraph, LacksTime, StopsAt, AnswersManifest, ListsStale, named_paths}
 pub use Rattle.nj_text.specs.Paths.{clean_path_of, is_absolute}
 pub use Rattle.nj_needs.specs.MarkTexts.{given_mark}
 pub use Rattle.nj_keys.specs.Pages.{leads}
@@ -75,6 +77,9 @@ pub use Rattle.nj_ask.specs.Inside.FileLines.{output_lines, path_lines}
 pub use Rattle.nj_ask.specs.MadeFrom.{TellMadeFrom}
 pub use Rattle.nj_ask.specs.Manifest.{makers_of_opened, makes_manifest, FeedsManifest, opened_paths, opened_files}
 pub use Rattle.nj_ask.specs.Inside.Flags.{AreFeeds, AreFlags, is_made_flag, AreMarks}
+pub use Rattle.nj_names.specs.Files.{AreFiles}
+pub use Rattle.nj_ask.specs.MissingSources.{IsStop, missing_line, required_files, stated_edge, stated_edges}
+pub use Rattle.nj_names.specs.NameTables.{name_at}
 pub use Rattle.nj_ask.specs.NeededFaults.{IsFirstFault}
 pub use Rattle.std.specs.Fmt.{decimal}
 pub use Rattle.nj_ask.specs.Quotes.{quoted, escaped, escapes}
@@ -86,11 +91,17 @@ pub use Rattle.nj_ask.specs.TestLists.{ReadsMeson, ReadsNamed, ReadsTests, fault
 pub use Rattle.nj_graph.specs.Changes.{IsAffected}
 pub use Rattle.nj_ask.specs.Laws.{DoneMissesNothing, ListedHaveReasons, WarningsAreUnique}
 pub use Rattle.nj_audit.specs.declared.kinds.Kind.TheVariants.{MissingSource}
-pub use Rattle.nj_ask.specs.Stales.{AnswersStale, AreStaleFor, if_named, is_stale_maker, main_path, manifest_text, stale_caveats}
-pub use Rattle.nj_ask.specs.Stales.{stale_text}
-pub use Rattle.nj_names.specs.Files.{AreFiles}
-pub use Rattle.nj_ask.specs.Inside.StaleParts.{IsManifestAnswer, LacksTime}
+pub use Rattle.nj_ask.specs.Stales.{AnswersBuild, AnswersStale, AreStaleFor, IsCurrent, WritesStale, files_asked, if_named, is_stale_maker}
+pub use Rattle.nj_ask.specs.Stales.{main_path, manifest_asked, manifest_targets, manifest_text, stale_misuse}
 pub use Rattle.nj_needs.specs.Growing.{grown_targets}
+pub use Rattle.nj_stale.specs.declared.evidence.EdgeFacts.{EdgeFacts}
+pub use Rattle.nj_stale.specs.States.{IsStateOf, State}
+pub use Rattle.nj_stale.specs.Numbered.{evidence_of, time_of}
+pub use Rattle.nj_ask.specs.StaleObjects.{input_word, integer, newer_time, newest_file, number_value, older_time, path_value, reason_file}
+pub use Rattle.nj_ask.specs.StaleObjects.{reason_word, stale_object, stale_objects}
+pub use Rattle.nj_stale.specs.Inside.Held.{time_by}
+pub use Rattle.nj_stale.specs.Missing.{AreStated}
+pub use Rattle.nj_edges.specs.Edges.{is_named}
 pub use Rattle.nj_ask.specs.Statuses.{exit_code}
 pub use Rattle.std.specs.IoError.{error_kind}
 pub use Rattle.nj_graph.specs.Targets.{picked}

@@ -20,6 +20,7 @@ pub mod Laws
 pub mod LogsRead
 pub mod MadeFrom
 pub mod Manifest
+pub mod MissingSources
 pub mod NeededFaults
 pub mod OptionFiles
 pub mod Pages
@@ -27,6 +28,7 @@ pub mod Quotes
 pub mod Reports
 pub mod SameFiles
 pub mod Shape
+pub mod StaleObjects
 pub mod Stales
 pub mod Statuses
 pub mod TestLists

@@ -1,5 +1,5 @@
 -- The answer to `stale`: what Ninja would run now.
-use Rattle.std.specs.Prelude.{◌≡◌, ◌≢◌, ℕ, ◌==◌, Bool, false, not, if◌then◌else◌, Option, Some, None, option_and_then, Ok, Err}
+use Rattle.std.specs.Prelude.{◌≡◌, ◌≢◌, ℕ, ◌==◌, Bool, true, false, not, ◌&&◌, if◌then◌else◌, Option, Some, None, option_and_then, Ok, Err}
 use Rattle.std.specs.Prelude.{List, [], ◌++◌, map, codes, slice_get}
 use Rattle.std.specs.List.{cons_option, flat_map, list_any}
 use Rattle.nj_text.specs.Calls.{is_empty}
@@ -14,8 +14,10 @@ use Rattle.nj_edges.specs.Edges.{is_named}
 use Rattle.nj_graph.specs.Edges.{maker_of}
 use Rattle.nj_graph.specs.Graph.{GraphModel, edges_of, files_of}
 use Rattle.nj_needs.specs.Growing.{grown_targets}
+use Rattle.nj_stale.specs.States.{Evidence, State, IsStateOf}
+use Rattle.nj_stale.specs.declared.missing.MissingSource.{MissingSource}
 use Rattle.nj_state.specs.FileTimesFound.{IsFirstUnanswered}
-use Rattle.nj_state.specs.Stale.{AreStaleEdges}
+use Rattle.nj_state.specs.Stale.{AreStaleEdges, IsEvidence}
 use Rattle.nj_state.specs.StaleLines.{stale_line}
 use Rattle.nj_state.specs.declared.commands.StaleEdge.{StaleEdge}
 use Rattle.nj_questions.specs.Questions.{StaleModel}
@@ -25,7 +27,9 @@ use Rattle.nj_ask.specs.Affected.{line}
 use Rattle.nj_ask.specs.Answers.{HasDepfileFault, IsClear, asked_targets}
 use Rattle.nj_ask.specs.Endings.{Ending, answered, fault_line, program_line, refused}
 use Rattle.nj_ask.specs.Manifest.{opened_paths}
+use Rattle.nj_ask.specs.MissingSources.{IsStop, missing_line}
 use Rattle.nj_ask.specs.Shape.{dyndep_text}
+use Rattle.nj_ask.specs.StaleObjects.{stale_objects}
 
 -- ---- the files that are asked about
 
@@ -41,9 +45,13 @@ main_path g = option_and_then (if_named g) (slice_get (opened_paths g []) 0)
 abbrev pub manifest_asked : GraphModel → StaleModel → Option (List ℕ)
 manifest_asked g options = if options.no_manifest then None else main_path g
 
+-- the manifest as the only target; none if it is left out, or if no edge names it
+abbrev pub manifest_targets : GraphModel → StaleModel → List (List ℕ)
+manifest_targets g options = cons_option (manifest_asked g options) []
+
 -- the manifest and the validations of the edges that it needs
 abbrev pub manifest_needs : GraphModel → StaleModel → List (List ℕ)
-manifest_needs g options = grown_targets (edges_of g) (cons_option (manifest_asked g options) [])
+manifest_needs g options = grown_targets (edges_of g) (manifest_targets g options)
 
 -- the same, and then the targets and the validations of the edges that they need
 abbrev pub files_asked : GraphModel → StaleModel → (targets : List (List ℕ)) → List (List ℕ)
@@ -89,10 +97,57 @@ manifest_text g stale (Some path) =
 abbrev pub unread_time_line : GraphModel → (file : ℕ) → List ℕ
 unread_time_line g file = program_line (name_at (files_of g) file ++ codes ": its time cannot be read")
 
+-- ---- what is written
+
+-- stale edges, a line each: with `--json` their objects, by what is known before the build and by its state, else their lines
+pub data WritesStale (known : DiscoveredGraph) (entries : List ReadStatement) (log : BuildLogModel) (times : DeclaredTimes)
+    (options : StaleModel) (stale : List StaleEdge) : (output : List ℕ) → Type 0 where
+  lines : options.json ≡ false → WritesStale known entries log times options stale (stale_text known.graph options.why stale)
+  objects : {evidence : Evidence} {output : List ℕ} → options.json ≡ true
+      → IsEvidence known.graph.built.graph entries (map (λ edge. edge.0) known.unknown.items) log times evidence
+      → ((s : State) → IsStateOf evidence s → output ≡ stale_objects evidence s stale)
+      → WritesStale known entries log times options stale output
+
 -- ---- `stale`
 
--- `stale`: the stale edges that the manifest and the targets need. If the manifest is one of the files that they make, only what it needs
--- is listed. As in `keys`, a needed depfile with a fault is refused.
+-- the line about options that exclude each other: reasons are for lines, and objects have them
+abbrev pub stale_misuse : StaleModel → Option (List ℕ)
+stale_misuse options = if options.json && options.why then Some (program_line (codes "--json excludes --why")) else None
+
+-- nothing stops a build of the manifest, and the manifest is not stale
+pub record IsCurrent (known : DiscoveredGraph) (entries : List ReadStatement) (log : BuildLogModel) (times : DeclaredTimes)
+    (options : StaleModel) : Type 0 where
+  pub unstopped : IsStop known entries log times (manifest_targets known.graph options) None
+  pub stale : List StaleEdge
+  pub are_stale : AreStaleFor known entries log times (manifest_needs known.graph options) stale
+  pub current : manifest_text known.graph stale (manifest_asked known.graph options) ≡ []
+
+-- The manifest is judged first, as Ninja builds it first: a missing source may stop its build, or it is stale, and then only what it needs
+-- is listed, since the targets may change. Else a missing source may stop the build of the targets; or the stale edges are listed that the
+-- manifest and the targets need.
+pub data AnswersBuild (known : DiscoveredGraph) (entries : List ReadStatement) (log : BuildLogModel) (times : DeclaredTimes)
+    (options : StaleModel) (targets : List (List ℕ)) : (output : List ℕ) → Ending → Type 0 where
+  manifest_stops : {source : MissingSource} → IsStop known entries log times (manifest_targets known.graph options) (Some source)
+      → AnswersBuild known entries log times options targets [] (refused (missing_line known.graph.built.graph source) Fault)
+  remade : {stale : List StaleEdge} {output : List ℕ} → IsStop known entries log times (manifest_targets known.graph options) None
+      → AreStaleFor known entries log times (manifest_needs known.graph options) stale
+      → manifest_text known.graph stale (manifest_asked known.graph options) ≢ []
+      → WritesStale known entries log times options stale output
+      → AnswersBuild known entries log times options targets output
+      (answered (not (is_empty stale))
+      (stale_caveats known entries stale ++ manifest_text known.graph stale (manifest_asked known.graph options)))
+  target_stops : {source : MissingSource} → IsCurrent known entries log times options
+      → IsStop known entries log times targets (Some source)
+      → AnswersBuild known entries log times options targets [] (refused (missing_line known.graph.built.graph source) Fault)
+  listed : {stale : List StaleEdge} {output : List ℕ} → IsCurrent known entries log times options
+      → IsStop known entries log times targets None
+      → AreStaleFor known entries log times (files_asked known.graph options targets) stale
+      → WritesStale known entries log times options stale output
+      → AnswersBuild known entries log times options targets output
+      (answered (not (is_empty stale)) (stale_caveats known entries stale))
+
+-- `stale`: a word that names no file is refused, then a needed depfile with a fault, as in `keys`, and then the first file whose time cannot
+-- be read. Else the build is judged.
 pub data AnswersStale (known : DiscoveredGraph) (entries : List ReadStatement) (log : BuildLogModel) (times : DeclaredTimes)
     (options : StaleModel) : (output : List ℕ) → Ending → Type 0 where
   no_target : {fault : GraphFault} → asked_targets known.graph options.targets ≡ Err fault
@@ -103,17 +158,7 @@ pub data AnswersStale (known : DiscoveredGraph) (entries : List ReadStatement) (
   no_time : {targets : List (List ℕ)} {file : ℕ} → asked_targets known.graph options.targets ≡ Ok targets
       → IsClear known (files_asked known.graph options targets) → IsFirstUnanswered times (files_of known.graph) file
       → AnswersStale known entries log times options [] (refused (unread_time_line known.graph file) Fault)
-  listed : {targets : List (List ℕ)} {stale : List StaleEdge} → asked_targets known.graph options.targets ≡ Ok targets
+  judged : {targets : List (List ℕ)} {output : List ℕ} {ending : Ending} → asked_targets known.graph options.targets ≡ Ok targets
       → IsClear known (files_asked known.graph options targets)
-      → AreStaleFor known entries log times (files_asked known.graph options targets) stale
-      → manifest_text known.graph stale (manifest_asked known.graph options) ≡ []
-      → AnswersStale known entries log times options (stale_text known.graph options.why stale)
-      (answered (not (is_empty stale)) (stale_caveats known entries stale))
-  remade : {targets : List (List ℕ)} {all stale : List StaleEdge} → asked_targets known.graph options.targets ≡ Ok targets
-      → IsClear known (files_asked known.graph options targets)
-      → AreStaleFor known entries log times (files_asked known.graph options targets) all
-      → manifest_text known.graph all (manifest_asked known.graph options) ≢ []
-      → AreStaleFor known entries log times (manifest_needs known.graph options) stale
-      → AnswersStale known entries log times options (stale_text known.graph options.why stale)
-      (answered (not (is_empty stale))
-      (stale_caveats known entries stale ++ manifest_text known.graph all (manifest_asked known.graph options)))
+      → AnswersBuild known entries log times options targets output ending
+      → AnswersStale known entries log times options output ending

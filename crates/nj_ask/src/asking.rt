@@ -16,7 +16,7 @@ use crate::graph_reading::known_graph;
 use crate::json::answer_json;
 use crate::keys::{PageAsked, answer_keys, page_asked};
 use crate::option_files::{OptionFiles, read_option_files};
-use crate::stale::answer_stale;
+use crate::stale::{answer_stale, check_stale};
 use crate::status::Status;
 use crate::test_options::tests_asked;
 use crate::why::answer_why;
@@ -174,7 +174,10 @@ fn task_of<'q>(alloc: Global, subject: &'q Subject) -> Result<Task<'q>, Failure>
             Ok(page) => Ok(Task::Keys(options, page)),
             Err(failure) => Err(failure),
         },
-        Subject::Stale(options) => Ok(Task::Stale(options)),
+        Subject::Stale(options) => match check_stale(alloc, options) {
+            Ok(()) => Ok(Task::Stale(options)),
+            Err(failure) => Err(failure),
+        },
         Subject::Tests(options) => match tests_asked(alloc, options) {
             Ok(globs) => Ok(Task::Tests(options, globs)),
             Err(failure) => Err(failure),

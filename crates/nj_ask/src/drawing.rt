@@ -1,7 +1,8 @@
 //! Drawings in the language of Graphviz.
 
 ghost use Rattle.std.specs.Prelude.{◌≡◌, ◌++◌, ◌<◌, All, IfOk, OnOk, length, map};
-ghost use Rattle.nj_ask.specs.Cited.{filter, flat_map, count_line, draw_model, drawing_text, drawn_nodes, edges_in, edges_of, files_in, has_node, IsDrawing, HasEdges, label, node_line, of_edge};
+ghost use Rattle.std.specs.List.{filter};
+ghost use Rattle.nj_ask.specs.Cited.{flat_map, count_line, draw_model, drawing_text, drawn_nodes, edges_in, edges_of, files_in, has_node, IsDrawing, HasEdges, label, node_line, of_edge};
 
 use crate::arrows::{Drawing, push_arrows};
 use crate::discovered::DiscoveredGraph;

@@ -97,7 +97,7 @@ fn push_object(lines: &mut Vec<u8>, finding: Finding<'_>) -> Result<(), AllocErr
 }
 
 /// Appends a text as a string in JSON, with U+FFFD for invalid UTF-8.
-fn push_bytes(lines: &mut Vec<u8>, text: &[u8]) -> Result<(), AllocError>
+pub(crate) fn push_bytes(lines: &mut Vec<u8>, text: &[u8]) -> Result<(), AllocError>
     ensures { OnOk result (lines.new.items
         ≡ lines.old.items ++ compact_text (string (utf8_lossy text.now))) }
 {
@@ -106,7 +106,7 @@ fn push_bytes(lines: &mut Vec<u8>, text: &[u8]) -> Result<(), AllocError>
 }
 
 /// Appends a text as a string in JSON.
-fn push_text(lines: &mut Vec<u8>, text: &str) -> Result<(), AllocError>
+pub(crate) fn push_text(lines: &mut Vec<u8>, text: &str) -> Result<(), AllocError>
     ensures { OnOk result (lines.new.items ≡ lines.old.items ++ compact_text (string text.now)) }
 {
     let alloc = *lines.allocator();

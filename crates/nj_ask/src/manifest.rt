@@ -1,7 +1,8 @@
 //! Which changed files the manifest itself is made from.
 
 ghost use Rattle.std.specs.Prelude.{◌≡◌, ◌↔◌, ◌<◌, ℕ, List, All, IfOk, false, length, map, true, slice_index_or};
-ghost use Rattle.nj_ask.specs.Cited.{AreFilesOf, AreFeeding, CanTellAll, OfEdge, edge_of, OfStatements, filter, filter_map, flat_map, list_any, edge_at, inputs_of, maker_of, numbers_of, path_at, edges_of, files_of, makers_of_opened, makes_manifest, FeedsManifest, AreFeeds, AreFlags};
+ghost use Rattle.std.specs.List.{filter};
+ghost use Rattle.nj_ask.specs.Cited.{AreFilesOf, AreFeeding, CanTellAll, OfEdge, edge_of, OfStatements, filter_map, flat_map, list_any, edge_at, inputs_of, maker_of, numbers_of, path_at, edges_of, files_of, makers_of_opened, makes_manifest, FeedsManifest, AreFeeds, AreFlags};
 
 use nj_audit::has_generator;
 use nj_graph::{Edge, EdgeNo, FileNo, Graph};

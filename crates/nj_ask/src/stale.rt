@@ -1,30 +1,47 @@
 //! The answer to `stale`.
 
 ghost use Rattle.std.specs.Prelude.{◌≡◌, ◌<◌, ◌++◌, ◌==◌, ℕ, List, [], All, codes, IfErr, IfOk, IfSome, length, map, not, option_map, if◌then◌else◌, Some, None};
-ghost use Rattle.nj_ask.specs.Cited.{Fault, AnswersStale, AreFiles, AreStaleFor, FailsBy, Gives, HasEdges, IsManifestAnswer, LacksTime, OfStatements, cons_option, edges_of, files_of, grown_targets, if_named, is_empty, is_stale_maker, line, list_any, main_path, manifest_text, path_at, program_line, stale_caveats, stale_model, stale_text};
+ghost use Rattle.nj_scope.specs.ReadingList.{ReadStatement};
+ghost use Rattle.nj_ask.specs.Cited.{Fault, AnswersBuild, AnswersManifest, AnswersStale, AreFiles, AreStaleFor, BuildLogModel, DeclaredTimes, FailsBy, Gives, HasCounts, HasEdges, IsCurrent, IsJudgedBuild, IsJudgedGraph, ListsStale, OfStatements, StopsAt, Usage, WritesStale, cons_option, edges_of, files_asked, files_of, grown_targets, if_named, is_empty, is_stale_maker, line, list_any, main_path, manifest_asked, manifest_targets, manifest_text, path_at, program_line, stale_misuse, stale_model};
 
 use crate::answer::Answer;
 use crate::depfiles::check_depfiles;
 use crate::discovered::DiscoveredGraph;
 use crate::failure::Failure;
+use crate::judged::{JudgedGraph, judged_graph};
 use crate::keys::targets_asked;
+use crate::missing::check_sources;
 use crate::opened::opened_path;
 use crate::shape::{caveat_lines_of, push_changing};
+use crate::stale_objects::stale_objects;
 use crate::status::Status;
 use nj_build_log::BuildLog;
 use nj_graph::{EdgeGraph, EdgeNo, FileNo, FileTimes, Graph};
 use nj_needs::grow_targets;
 use nj_questions::StaleOptions;
-use nj_state::{StaleEdge, StateFault, stale_edges, stale_lines};
+use nj_state::{JudgedBuild, StaleEdge, stale_in, stale_lines};
 use std::alloc::{AllocError, Global};
+
+/// Refuses options that exclude each other.
+pub(crate) fn check_stale(alloc: Global, options: &StaleOptions) -> Result<(), Failure>
+    ensures allowed { IfOk result (λ _. stale_misuse (stale_model options.now) ≡ None) }
+    ensures refused { IfErr result (FailsBy Usage (λ line.
+        stale_misuse (stale_model options.now) ≡ Some line)) }
+{
+    if options.json && options.why {
+        let text = b"--json excludes --why";
+        return Err(Failure::in_words(alloc, b"", text, b"", Status::Usage));
+    }
+    Ok(())
+}
 
 /// The stale edges that the manifest and the targets need, in the order of their commands. Where the
 /// manifest itself is stale, those that it needs alone.
 ///
 /// # Errors
 ///
-/// `Refused` if a word names no file, if a needed depfile has a fault, or if the time of a file
-/// cannot be read; and `OutOfMemory` if an allocation failed.
+/// `Refused` if a word names no file, if a needed depfile has a fault, if the time of a file cannot
+/// be read, or if a missing source stops the build; and `OutOfMemory` if an allocation failed.
 pub(crate) fn answer_stale<T: FileTimes>(
     alloc: Global,
     known: &DiscoveredGraph,
@@ -46,44 +63,118 @@ pub(crate) fn answer_stale<T: FileTimes>(
         Ok(()) => {}
         Err(failure) => return Err(failure),
     }
-    let stale = match stale_of(alloc, known, log, times, &files) {
-        Ok(stale) => stale,
+    let judged = match judged_graph(alloc, known, log, times) {
+        Ok(judged) => judged,
         Err(failure) => return Err(failure),
     };
-    let remade = manifest_line(alloc, &known.graph, &stale, manifest)?;
-    if remade.is_empty() {
-        return Ok(listed(alloc, known, &stale, options.why)?);
-    }
-    answer_of_manifest(alloc, known, log, times, manifest, options.why, &remade)
+    let targets = targets.numbers();
+    answer_of(
+        alloc, known, log, &judged, options, manifest, targets, &files,
+    )
 }
 
-/// The stale edges that the manifest needs, with this line about it.
-fn answer_of_manifest<T: FileTimes>(
+/// The answer by a judged build: about the manifest, if it is stale or its build stops, and else about
+/// all files.
+fn answer_of(
     alloc: Global,
     known: &DiscoveredGraph,
     log: &BuildLog,
-    times: &T,
+    judged: &JudgedGraph,
+    options: &StaleOptions,
     manifest: Option<FileNo>,
-    why: bool,
-    line: &[u8],
+    targets: &[FileNo],
+    files: &[FileNo],
 ) -> Result<Answer, Failure>
-    requires edges { HasEdges known.now }
+    requires judged { IsJudgedGraph known.now judged.now }
     requires manifest { IfSome manifest (λ file.
         file.0 < length (files_of known.now.graph)) }
-    ensures answer { OfStatements known.now.graph (λ entries. IfOk result
-        (IsManifestAnswer known.now entries log.now (T.times times.now)
-        (option_map (path_at (files_of known.now.graph)) manifest) why line.now)) }
-    ensures refused { IfErr result (FailsBy Fault
-        (LacksTime (T.times times.now) known.now.graph)) }
+    requires asked { option_map (path_at (files_of known.now.graph)) manifest
+        ≡ manifest_asked known.now.graph (stale_model options.now) }
+    requires targets { All (λ file. file.0 < length (files_of known.now.graph)) targets.now }
+    requires files { AreFiles (files_of known.now.graph) files.now
+        (files_asked known.now.graph (stale_model options.now)
+        (map (path_at (files_of known.now.graph)) targets.now)) }
+    requires known { All (λ file. file.0 < length (files_of known.now.graph)) files.now }
+    ensures { OfStatements known.now.graph (λ entries. (times : DeclaredTimes)
+        → IsJudgedBuild known.now entries log.now times judged.now.build
+        → Gives (AnswersBuild known.now entries log.now times (stale_model options.now)
+        (map (path_at (files_of known.now.graph)) targets.now)) result) }
 {
-    let files = manifest_needs(alloc, &known.graph, manifest)?;
-    let stale = match stale_of(alloc, known, log, times, &files) {
-        Ok(stale) => stale,
+    let found = match answer_of_manifest(alloc, known, log, judged, options, manifest) {
+        Ok(found) => found,
         Err(failure) => return Err(failure),
     };
-    let mut answer = listed(alloc, known, &stale, why)?;
-    answer.warnings.extend_from_slice(line)?;
-    Ok(answer)
+    match found {
+        Some(answer) => Ok(answer),
+        None => answer_of_targets(alloc, known, log, judged, options, targets, files),
+    }
+}
+
+/// The answer about the manifest, if it is stale.
+fn answer_of_manifest(
+    alloc: Global,
+    known: &DiscoveredGraph,
+    log: &BuildLog,
+    judged: &JudgedGraph,
+    options: &StaleOptions,
+    manifest: Option<FileNo>,
+) -> Result<Option<Answer>, Failure>
+    requires judged { IsJudgedGraph known.now judged.now }
+    requires manifest { IfSome manifest (λ file.
+        file.0 < length (files_of known.now.graph)) }
+    requires asked { option_map (path_at (files_of known.now.graph)) manifest
+        ≡ manifest_asked known.now.graph (stale_model options.now) }
+    ensures answer { OfStatements known.now.graph (λ entries. (times : DeclaredTimes)
+        → IsJudgedBuild known.now entries log.now times judged.now.build → IfOk result
+        (AnswersManifest known.now entries log.now times (stale_model options.now))) }
+    ensures refused { OfStatements known.now.graph (λ entries. (times : DeclaredTimes)
+        → IsJudgedBuild known.now entries log.now times judged.now.build → IfErr result
+        (FailsBy Fault (StopsAt known.now entries log.now times
+        (manifest_targets known.now.graph (stale_model options.now))))) }
+{
+    let targets = file_list(alloc, manifest)?;
+    match check_sources(alloc, known, judged, &targets) {
+        Ok(()) => {}
+        Err(failure) => return Err(failure),
+    }
+    let files = manifest_needs(alloc, &known.graph, manifest)?;
+    let stale = stale_of(alloc, known, &judged.build, &files)?;
+    let line = manifest_line(alloc, &known.graph, &stale, manifest)?;
+    if line.is_empty() {
+        return Ok(None);
+    }
+    let answer = listed(alloc, known, log, &judged.build, &stale, options)?;
+    Ok(Some(with_warning(answer, &line)?))
+}
+
+/// The answer about the manifest and the targets.
+fn answer_of_targets(
+    alloc: Global,
+    known: &DiscoveredGraph,
+    log: &BuildLog,
+    judged: &JudgedGraph,
+    options: &StaleOptions,
+    targets: &[FileNo],
+    files: &[FileNo],
+) -> Result<Answer, Failure>
+    requires judged { IsJudgedGraph known.now judged.now }
+    requires targets { All (λ file. file.0 < length (files_of known.now.graph)) targets.now }
+    requires files { AreFiles (files_of known.now.graph) files.now
+        (files_asked known.now.graph (stale_model options.now)
+        (map (path_at (files_of known.now.graph)) targets.now)) }
+    requires known { All (λ file. file.0 < length (files_of known.now.graph)) files.now }
+    ensures { OfStatements known.now.graph (λ entries. (times : DeclaredTimes)
+        → IsJudgedBuild known.now entries log.now times judged.now.build
+        → IsCurrent known.now entries log.now times (stale_model options.now)
+        → Gives (AnswersBuild known.now entries log.now times (stale_model options.now)
+        (map (path_at (files_of known.now.graph)) targets.now)) result) }
+{
+    match check_sources(alloc, known, judged, targets) {
+        Ok(()) => {}
+        Err(failure) => return Err(failure),
+    }
+    let stale = stale_of(alloc, known, &judged.build, files)?;
+    Ok(listed(alloc, known, log, &judged.build, &stale, options)?)
 }
 
 // ---- the files that are asked about
@@ -140,10 +231,20 @@ fn manifest_needs(
     ensures known { IfOk result (λ files.
         All (λ file. file.0 < length graph.now.files) files.items) }
 {
-    match manifest {
-        Some(file) => grow_targets(alloc, graph, &[file]),
-        None => grow_targets(alloc, graph, &[]),
+    let targets = file_list(alloc, manifest)?;
+    grow_targets(alloc, graph, &targets)
+}
+
+/// A file as a list, if any.
+fn file_list(alloc: Global, file: Option<FileNo>) -> Result<Vec<FileNo>, AllocError>
+    ensures { IfOk result (λ files. files.items ≡ cons_option file []) }
+{
+    let mut files = Vec::new(alloc);
+    match file {
+        Some(file) => files.push(file)?,
+        None => {}
     }
+    Ok(files)
 }
 
 /// The same, and then the targets with the validations of the edges that they need.
@@ -170,44 +271,22 @@ fn files_asked(
 // ---- what is stale
 
 /// Of the edges whose commands these files need, those that are stale.
-fn stale_of<T: FileTimes>(
+fn stale_of(
     alloc: Global,
     known: &DiscoveredGraph,
-    log: &BuildLog,
-    times: &T,
+    build: &JudgedBuild,
     files: &[FileNo],
-) -> Result<Vec<StaleEdge>, Failure>
-    requires edges { HasEdges known.now }
+) -> Result<Vec<StaleEdge>, AllocError>
+    requires counts { HasCounts known.now.graph.built.graph build.now }
     requires files { All (λ file. file.0 < length (files_of known.now.graph)) files.now }
-    ensures stale { (paths : List (List ℕ)) → AreFiles (files_of known.now.graph) files.now paths
-        → OfStatements known.now.graph (λ entries. IfOk result (λ stale.
-        AreStaleFor known.now entries log.now (T.times times.now) paths stale.items)) }
+    ensures stale { (entries : List ReadStatement) (log : BuildLogModel) (times : DeclaredTimes)
+        (paths : List (List ℕ)) → IsJudgedBuild known.now entries log times build.now
+        → AreFiles (files_of known.now.graph) files.now paths → IfOk result (λ stale.
+        AreStaleFor known.now entries log times paths stale.items) }
     ensures known { IfOk result (λ stale.
         All (λ item. item.edge.0 < length (edges_of known.now.graph)) stale.items) }
-    ensures refused { IfErr result (FailsBy Fault
-        (LacksTime (T.times times.now) known.now.graph)) }
 {
-    match stale_edges(alloc, &known.graph, &known.unknown, log, times, files) {
-        Ok(stale) => Ok(stale),
-        Err(StateFault::NoTime(file)) => Err(of_time(alloc, &known.graph, file)),
-        Err(StateFault::OutOfMemory) => Err(Failure::OutOfMemory),
-    }
-}
-
-/// That the time of a file cannot be read.
-fn of_time(alloc: Global, graph: &EdgeGraph, file: FileNo) -> Failure
-    requires { file.0 < length graph.now.files }
-    ensures { FailsBy Fault (λ line. line ≡ program_line
-        (path_at graph.now.files file ++ codes ": its time cannot be read")) result }
-{
-    let path = graph.path(file);
-    Failure::in_words(
-        alloc,
-        b"",
-        path,
-        b": its time cannot be read",
-        Status::Fault,
-    )
+    stale_in(alloc, &known.graph, build, files)
 }
 
 /// The line about the manifest, if one of these stale edges makes it.
@@ -278,17 +357,18 @@ fn has_edge(stale: &[StaleEdge], edge: EdgeNo) -> bool
 fn listed(
     alloc: Global,
     known: &DiscoveredGraph,
+    log: &BuildLog,
+    build: &JudgedBuild,
     stale: &[StaleEdge],
-    why: bool,
+    options: &StaleOptions,
 ) -> Result<Answer, AllocError>
-    requires { All (λ item. item.edge.0 < length (edges_of known.now.graph)) stale.now }
-    ensures output { IfOk result (λ answer.
-        answer.output.items ≡ stale_text known.now.graph why stale.now) }
-    ensures warnings { OfStatements known.now.graph (λ entries. IfOk result (λ answer.
-        answer.warnings.items ≡ stale_caveats known.now entries stale.now)) }
-    ensures looks { IfOk result (λ answer. answer.looks ≡ not (is_empty stale.now)) }
+    requires counts { HasCounts known.now.graph.built.graph build.now }
+    requires stale { All (λ item. item.edge.0 < length (edges_of known.now.graph)) stale.now }
+    ensures { OfStatements known.now.graph (λ entries. (times : DeclaredTimes)
+        → IsJudgedBuild known.now entries log.now times build.now → IfOk result (ListsStale
+        known.now entries log.now times (stale_model options.now) stale.now)) }
 {
-    let output = stale_lines(alloc, &known.graph, stale, why)?;
+    let output = written(alloc, known, log, build, stale, options)?;
     let edges = numbers_of(alloc, stale)?;
     let warnings = caveat_lines_of(alloc, known, &edges)?;
     Ok(Answer {
@@ -296,6 +376,41 @@ fn listed(
         warnings,
         looks: !stale.is_empty(),
     })
+}
+
+/// An answer with one more warning.
+fn with_warning(answer: Answer, line: &[u8]) -> Result<Answer, AllocError>
+    ensures output { IfOk result (λ said. said.output ≡ answer.output) }
+    ensures warnings { IfOk result (λ said.
+        said.warnings.items ≡ answer.warnings.items ++ line.now) }
+    ensures looks { IfOk result (λ said. said.looks ≡ answer.looks) }
+{
+    let mut said = answer;
+    said.warnings.extend_from_slice(line)?;
+    Ok(said)
+}
+
+/// These stale edges, a line each.
+fn written(
+    alloc: Global,
+    known: &DiscoveredGraph,
+    log: &BuildLog,
+    build: &JudgedBuild,
+    stale: &[StaleEdge],
+    options: &StaleOptions,
+) -> Result<Vec<u8>, AllocError>
+    requires counts { HasCounts known.now.graph.built.graph build.now }
+    requires stale { All (λ item. item.edge.0 < length (edges_of known.now.graph)) stale.now }
+    ensures { (entries : List ReadStatement) (times : DeclaredTimes)
+        → IsJudgedBuild known.now entries log.now times build.now → IfOk result (λ text.
+        WritesStale known.now entries log.now times (stale_model options.now) stale.now
+        text.items) }
+{
+    if options.json {
+        stale_objects(alloc, &known.graph, build, log, stale)
+    } else {
+        stale_lines(alloc, &known.graph, stale, options.why)
+    }
 }
 
 /// The numbers of stale edges.

@@ -33,6 +33,7 @@ use Rattle.nj_ask.specs.Given.{folder_misuse}
 use Rattle.nj_ask.specs.Inside.Failures.{Returns}
 use Rattle.nj_ask.specs.KnownGraphs.{Sources}
 use Rattle.nj_ask.specs.OptionFiles.{NamedFiles}
+use Rattle.nj_ask.specs.Stales.{stale_misuse}
 
 -- ---- what is asked
 
@@ -66,7 +67,7 @@ IsTask subject (task.Audit options kinds) = (subject ≡ audit (audit_model opti
 IsTask subject (task.Draw options) = subject ≡ draw (draw_model options.now)
 IsTask subject task.Json = subject ≡ json
 IsTask subject (task.Keys options page) = (subject ≡ keys (keys_model options.now)) × IsPageAsked (keys_model options.now) page
-IsTask subject (task.Stale options) = subject ≡ stale (stale_model options.now)
+IsTask subject (task.Stale options) = (subject ≡ stale (stale_model options.now)) × (stale_misuse (stale_model options.now) ≡ None)
 IsTask subject (task.Tests options globs) =
     (subject ≡ tests (tests_model options.now)) × AreTestsAsked (tests_model options.now) globs.items
 IsTask subject (task.Why options) = subject ≡ why (why_model options.now)
