@@ -24,7 +24,7 @@ _ninja_graph_options() {
         why) echo '--validations --no-order-only' ;;
         audit) echo '--all --only --except --json --list' ;;
         keys) echo '--base --with --with-file --take --resume' ;;
-        stale) echo '--why --no-manifest' ;;
+        stale) echo '--why --json --no-manifest' ;;
         tests)
             echo '--ctest --meson --source-dir -z --ignore --ignore-unknown --allow-empty --format --why --json --unnamed'
             ;;

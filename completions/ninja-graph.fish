@@ -129,6 +129,7 @@ complete -c ninja-graph -n '__ninja_graph_is keys' -l take -x -d 'Stop after so 
 complete -c ninja-graph -n '__ninja_graph_is keys' -l resume -x -d 'Write the rest after this mark'
 
 complete -c ninja-graph -n '__ninja_graph_is stale' -l why -d 'Write the first reason after each output'
+complete -c ninja-graph -n '__ninja_graph_is stale' -l json -d 'An object of JSON for each stale edge'
 complete -c ninja-graph -n '__ninja_graph_is stale' -l no-manifest \
     -d 'Do not ask whether the manifest itself is stale'
 

@@ -75,6 +75,8 @@ PLACELESS_FAULTS = {
         rb".*: (?:%b)" % DEPFILE_FAULT,
         rb"the path of the deps log is not UTF-8",
         rb"unknown rule '.*'",
+        rb"'.*' missing and no known rule to make it",
+        rb"'.*', needed by '.*', missing and no known rule to make it",
     ],
 }
 # Whole lines; those of ninja-graph that begin with `error` are `clap`'s.
@@ -93,6 +95,7 @@ USAGE_FAULTS = {
         rb"ninja-graph: '' of --source-dir is no directory\n",
         rb"ninja-graph: '.*' of --ignore has (?:an unclosed \[ at byte \d+|a \\ at the end|a reversed range at byte \d+)\n",
         rb"ninja-graph: '.*' of --base is not absolute\n",
+        rb"ninja-graph: --json excludes --why\n",
         rb"ninja-graph: unknown kind '.*'; ninja-graph audit --list lists the kinds\n",
         rb"ninja-graph: --deps-log is now --deps, which reads depfiles and times too\n",
         rb"error: (?!out of memory).*\n",

@@ -282,7 +282,7 @@ GRAPH_TOOLS = {
         {"--base": "DIR", "--with": "TEXT", "--with-file": "FILE", "--take": "N", "--resume": "MARK"},
         looks=((ANYTHING, MARK),),
     ),
-    "stale": Tool({"--why": None, "--no-manifest": None}, looks=((LINES, ANYTHING), (NOTHING, LINES))),
+    "stale": Tool({"--why": None, "--json": None, "--no-manifest": None}, looks=((LINES, ANYTHING), (NOTHING, LINES))),
     "tests": Tool(
         {
             "--ctest": "FILE",
@@ -329,6 +329,8 @@ GRAPH_RUNS = {
         "keys d^",
         "stale",
         "stale --why --no-manifest b1 a^",
+        "stale --json b1",
+        "stale --json --why",
         "stale nothing",
         "why d a",
         "why a d",
@@ -454,6 +456,7 @@ GRAPH_NESTED = (
     "keys --resume 0 all",
     "stale --why",
     "stale --no-manifest all",
+    "stale --json",
     f"tests --ctest {LIST} --source-dir . -z --ignore none --ignore-unknown --allow-empty < d",
     f"tests --ctest {LIST} --format lines --why --unnamed skip < d",
     f"tests --ctest {LIST} --json < d",
