@@ -3,6 +3,7 @@ beside this file.
 """
 
 import re
+import shutil
 
 from lib.checks import check, expect
 from lib.programs import EXAMPLES, ROOT, compiled, shown
@@ -23,6 +24,18 @@ LOOKS = {"audit", "stale"}
 EVERY_SUBCOMMAND = [*ROWS.every, "-h, --help"]
 # A changed path for those who read some.
 CHANGED = b"main.c\n"
+
+
+# The sources of examples/project, which are not there.
+SOURCES = ["main.c", "text/words.c", "text/words_test.c", "text/lines.c"]
+
+
+def with_sources(folder):
+    """A copy of examples/project in which the sources exist: without them Ninja would not build."""
+    copy = folder / "project"
+    shutil.copytree(PROJECT, copy)
+    write_files(copy, dict.fromkeys(SOURCES, ""))
+    return copy
 
 
 def run(graph, folder, words, text=CHANGED):
@@ -86,28 +99,30 @@ def faults(graph, folder):
 @check
 def folders(graph, folder):
     """A run with `-C`, before or after the subcommand, is one in that directory, and so is `-f`."""
+    project = with_sources(folder)
     for name, (_, words) in SUBCOMMANDS.items():
-        wanted = run(graph, PROJECT, [name, *words])
+        wanted = run(graph, project, [name, *words])
         status = LOOK if name in LOOKS else DONE
         yield from expect(f"{name}, answer", (wanted.status, wanted.output == ""), (status, False))
-        yield from expect(f"-C {name}", run(graph, folder, ["-C", str(PROJECT), name, *words]), wanted)
-        ran = run(graph, folder, [name, "-C", str(PROJECT), "-f", ".//build.ninja", *words])
+        yield from expect(f"-C {name}", run(graph, folder, ["-C", str(project), name, *words]), wanted)
+        ran = run(graph, folder, [name, "-C", str(project), "-f", ".//build.ninja", *words])
         found = ran._replace(output=ran.output.replace(".//build.ninja", "build.ninja"))
         yield from expect(name, found, wanted)
 
 
 @check
-def outputs(graph):
+def outputs(graph, folder):
     """Outputs that are full or closed."""
+    project = with_sources(folder)
     asked = [["--help"], ["--version"], *([name, *words] for name, (_, words) in SUBCOMMANDS.items())]
     for words in asked:
         with open("/dev/full", "wb") as full:
-            ran = graph.run(words, PROJECT, CHANGED, output=full)
+            ran = graph.run(words, project, CHANGED, output=full)
         yield from expect(f"full, {words}", ran, (OUTPUT_FAILED, b"", b""))
-        ran = graph.run_by_shell(words, PROJECT, CHANGED, after=">&-")
+        ran = graph.run_by_shell(words, project, CHANGED, after=">&-")
         yield from expect(f"closed, {words}", ran, (OUTPUT_FAILED, b"", b""))
     with open("/dev/full", "wb") as full:
-        ran = graph.run(["affected"], PROJECT, b"none.c\n", error=full)
+        ran = graph.run(["affected"], project, b"none.c\n", error=full)
     yield from expect("full error output", ran, (OUTPUT_FAILED, b"", b""))
 
 

@@ -1,7 +1,9 @@
 """Compares what ninja-graph's `stale` lists with what Ninja would run.
 
 Random projects are built by Ninja, with random histories in which files, commands and logs change. Then
-`ninja -n` tells in a copy of the directory which edges it would run.
+`ninja -n` tells in a copy of the directory which edges it would run. In other histories sources are removed:
+those that the manifest names, that a log or a depfile names, or that are validations. There Ninja may refuse
+to build, and so has `stale`.
 """
 
 import itertools
@@ -11,17 +13,25 @@ import shutil
 from collections import Counter
 
 from lib.checks import check
-from lib.histories import History
-from lib.programs import DONE, LOOK
+from lib.histories import NINJA, History
+from lib.programs import DONE, FAULT, LOOK
 from lib.projects import MAIN
 from lib.runnable_builds import random_project
-from smoke.dirty import ANOTHER, SHOWN, copied, too_few, would_run
+from smoke.dirty import ANOTHER, COMMAND, SHOWN, copied, too_few, would_run
 
 COMPARISONS = 1_000
 STATES_OF_SEED = 7
 COMMAND_LINE = re.compile(r"^  command = .*$", re.M)
 # At least how many comparisons there are, and how many of them with stale edges and without.
 LEAST = {"comparisons": COMPARISONS, "something": 400, "nothing": 50}
+# How many states have a missing source, and at least how often Ninja refuses to build in them, lists edges, and has
+# nothing to do.
+REMOVALS = 400
+LEAST_OF_REMOVALS = {"refusals": 100, "something": 40, "nothing": 10}
+# How Ninja and ninja-graph refuse to build without a source, alone or for the edge with an output.
+MISSING = re.compile(r"'([^']*)'(?:, needed by '([^']*)',)? missing and no known rule to make it$", re.M)
+# A source that an edge only validates.
+NOTE = "note"
 
 
 class ChangedHistory(History):
@@ -94,3 +104,114 @@ def states(graph, folder):
 @check(needs=["ninja"])
 def other_states(graph, folder):
     return itertools.islice(states_differ(graph, folder, 1), SHOWN)
+
+
+# ---- missing sources
+
+
+def removed_source(history, folder):
+    """Removes a source, if any, in a copy of the directory, and returns its path."""
+    path = history.one_of([path for path in history.project.sources() if path != "build.in"])
+    if path:
+        (folder / path).unlink()
+    return path
+
+
+def with_validations(chance, project):
+    """The project, where edges name validations: a source, or what other edges make."""
+    project.files[NOTE] = ""
+    for edge in chance.sample(project.build.edges, 2):
+        edge.validations = [chance.choice([NOTE, *project.outputs()])]
+    for path in {MAIN, "build.in"} & {*project.files}:
+        project.files[path] = project.manifest()
+    return project
+
+
+def is_old():
+    """Ninja before 1.12 has a phony edge for each file that a log or a depfile names. So it does not refuse to build
+    without a source that the manifest names too. On the other hand it refuses to build without one that a dyndep file
+    alone names."""
+    version = NINJA.run(["--version"], ".").as_text().output.split(".")
+    return (int(version[0]), int(version[1])) < (1, 12)
+
+
+def is_version_apart(history, source):
+    """Whether versions of Ninja differ about a missing source, so that `stale` may refuse to build and Ninja not."""
+    if is_old():
+        return source.endswith(".h")
+    return source not in {path for edge in history.project.build.edges for path in [*edge.paths(), *edge.validations]}
+
+
+def asked_of_ninja(history, folder):
+    """How Ninja ends for all outputs of which it can tell."""
+    targets = [path for edge in history.told_edges() for path in edge.outputs]
+    shutil.copy(folder / MAIN, folder / ANOTHER)
+    return NINJA.run(["-n", "-v", "-f", ANOTHER, *targets], folder, NINJA_STATUS="").as_text()
+
+
+def refused_source(ending):
+    """The missing source that a refusal names, if it is one."""
+    found = MISSING.search(ending.error) if ending.status == FAULT and not ending.output.strip() else None
+    return found and found[1]
+
+
+def wrong_refusal(history, removed, ran, ending, counts):
+    """Whether one of them refuses to build, and the other one not; or for want of another source."""
+    source, wanted = refused_source(ending), MISSING.search(ran.error)
+    if not wanted and source and is_version_apart(history, source):
+        counts["versions differ"] += 1
+        return False
+    counts["refusals"] += bool(wanted)
+    return source != (wanted and wanted[1]) or source not in (None, removed)
+
+
+def wrong_list(ran, ending, counts):
+    """Whether the edges differ, where both list them."""
+    edges, lines = {*COMMAND.findall(ran.output)}, ending.output.splitlines()
+    counts["something" if edges else "nothing"] += 1
+    status = LOOK if edges else DONE
+    return {*lines} != edges or len(lines) != len({*lines}) or ending.status != status
+
+
+def compared_without(graph, seed, history, counts):
+    """What is wrong with the answer in this state, in which a source is missing."""
+    with copied(history.folder) as copy:
+        removed = removed_source(history, copy)
+        ran, ending = asked_of_ninja(history, copy), answer(graph, history, copy)
+    if ran.status != DONE and not MISSING.search(ran.error):
+        counts["Ninja fails"] += 1
+    elif ending.status == LOOK and ending.error:
+        counts["caveats"] += 1
+    else:
+        counts["comparisons"] += 1
+        is_wrong = wrong_refusal(history, removed, ran, ending, counts)
+        if not is_wrong and ran.status == DONE and not refused_source(ending):
+            is_wrong = wrong_list(ran, ending, counts)
+        if is_wrong:
+            yield f"seed {seed}, history {history.told}, without {removed}\nNinja {ran}\nanswer {ending}"
+
+
+def removals_differ(graph, folder, first):
+    """Compares the states without some sources of every second seed."""
+    counts = Counter()
+    for seed in itertools.count(first, 2):
+        chance = random.Random(seed)
+        history = ChangedHistory(chance, with_validations(chance, random_project(chance)), folder / "made")
+        history.step(history.build)
+        for _ in range(STATES_OF_SEED):
+            history.step(*history.changes())
+            yield from compared_without(graph, seed, history, counts)
+        shutil.rmtree(folder / "made")
+        if 2 * counts["comparisons"] >= REMOVALS:
+            break
+    yield from too_few(counts, {name: number // 2 for name, number in LEAST_OF_REMOVALS.items()})
+
+
+@check(needs=["ninja"])
+def removals(graph, folder):
+    return itertools.islice(removals_differ(graph, folder, 0), SHOWN)
+
+
+@check(needs=["ninja"])
+def other_removals(graph, folder):
+    return itertools.islice(removals_differ(graph, folder, 1), SHOWN)
