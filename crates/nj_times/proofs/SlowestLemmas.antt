@@ -1,8 +1,8 @@
 -- Sorted edges, and their numbers.
 use Rattle.std.proofs.Common.{◌≡◌, ◌+◌, ◌∙◌, ℕ, zero, suc, Bool, List, [], ◌∷◌, map, take}
-use Rattle.std.proofs.Common.{ap, ap₂, arith, refl}
+use Rattle.std.proofs.Common.{ap, ap₂, arith, refl, reverse, sym, ◌++◌}
 use Rattle.std.specs.List.Sorted.{IsSortedBy}
-use Rattle.std.proofs.lemmas.List.{get_or-map, length-map}
+use Rattle.std.proofs.lemmas.List.{get_or-map, length-map, map-append, reverse-append}
 use Rattle.nj_edges.specs.declared.edges.EdgeNo.{EdgeNo}
 
 -- the numbers of sorted edges are sorted
@@ -23,3 +23,13 @@ pub first_numbers : (count : ℕ) (edges : List EdgeNo)
 first_numbers zero edges = refl
 first_numbers (suc count) [] = refl
 first_numbers (suc count) (edge ∷ edges) = ap (λ (es : List ℕ). edge.0 ∷ es) (first_numbers count edges)
+
+-- the numbers of edges in the other direction
+pub reversed_numbers : (edges : List EdgeNo)
+    → map (λ (e : EdgeNo). e.0) (reverse edges) ≡ reverse (map (λ (e : EdgeNo). e.0) edges)
+reversed_numbers [] = refl
+reversed_numbers (edge ∷ edges) =
+    ap (map (λ (e : EdgeNo). e.0)) (reverse-append (edge ∷ []) edges)
+    ∙ map-append (λ (e : EdgeNo). e.0) (reverse edges) (edge ∷ [])
+    ∙ ap (λ (es : List ℕ). es ++ edge.0 ∷ []) (reversed_numbers edges)
+    ∙ sym (reverse-append (edge.0 ∷ []) (map (λ (e : EdgeNo). e.0) edges))

@@ -3,6 +3,7 @@ pub mod Times
 pub mod Slowest
 pub mod Critical
 pub mod Laws
+pub mod Reports
 -- how the code does that
 pub mod Inside
 -- what the contracts cite

@@ -38,8 +38,8 @@ fn duration_of(graph: &EdgeGraph, log: &BuildLog, edge: EdgeNo) -> Option<u64>
     logged_duration(log, first_output(graph, edge))
 }
 
-// The path of the first output of an edge.
-fn first_output(graph: &EdgeGraph, edge: EdgeNo) -> Option<&[u8]>
+/// The path of the first output of an edge.
+pub(crate) fn first_output(graph: &EdgeGraph, edge: EdgeNo) -> Option<&[u8]>
     requires { edge.0 < length graph.now.edges }
     ensures { option_copied result ≡ first_output (edge_at graph.now.edges edge.0) }
 {
@@ -70,8 +70,8 @@ pub(crate) fn time_at(durations: &[Option<u64>], edge: EdgeNo) -> u64
     duration_at(durations, edge).unwrap_or(0)
 }
 
-// The duration of an edge, if it is known.
-fn duration_at(durations: &[Option<u64>], edge: EdgeNo) -> Option<u64>
+/// The duration of an edge, if it is known.
+pub(crate) fn duration_at(durations: &[Option<u64>], edge: EdgeNo) -> Option<u64>
     ensures { result ≡ duration_at durations.now edge.0 }
 {
     match durations.get(edge.0) {

@@ -7,9 +7,11 @@ mod edge_times;
 mod laws;
 mod order;
 mod path;
+mod reports;
 mod slow_edges;
 
 pub use edge_times::{durations, sum_of, unknown_of};
 pub use laws::{builds_take_the_critical_path, one_path_is_critical};
 pub use path::critical_path;
+pub use reports::report;
 pub use slow_edges::slowest;

@@ -1,6 +1,6 @@
 //! The slowest edges.
 
-ghost use Rattle.std.specs.Prelude.{IfOk, map};
+ghost use Rattle.std.specs.Prelude.{◌<◌, ℕ, All, IfOk, map};
 ghost use Rattle.nj_times.specs.Cited.{AreSlowest};
 
 use crate::edge_times::time_at;
@@ -19,8 +19,10 @@ pub fn slowest(
     edges: &[EdgeNo],
     count: usize,
 ) -> Result<Vec<EdgeNo>, AllocError>
-    ensures { IfOk result (λ slowest. AreSlowest durations.now (map (λ edge. edge.0) edges.now)
+    ensures slowest { IfOk result (λ slowest. AreSlowest durations.now (map (λ edge. edge.0) edges.now)
         count (map (λ edge. edge.0) slowest.items)) }
+    ensures known { (limit : ℕ) → All (λ edge. edge.0 < limit) edges.now
+        → IfOk result (λ slowest. All (λ edge. edge.0 < limit) slowest.items) }
 {
     let mut sorted = Vec::from_slice(alloc, edges)?;
     sorted.sort_by_key(|edge| (Reverse(time_at(durations, *edge)), edge.0))?;
