@@ -289,5 +289,5 @@ keys-keep_order bases targets =
     of_taken (codes "keys" ∷ words) (codes "keys" ∷ words) (asked bases targets)
     (Some (codes "keys", finished shape.rules (run (based []) words).held))
     (no_old bases targets) refl (taken words (asked bases targets) reads)
-        (sym (met words ∙ entered-keys words))
+    (sym (met words ∙ entered-keys words))
     (ap (λ question. ok_or question unparsed) reads.meant)

@@ -46,7 +46,7 @@ object_text start commands unknown sum critical none =
     ++ (codes ",\"unknown\":" ++ decimal unknown) ++ sums_part sum critical) none
     ∙ ap (λ (t : List ℕ). t ++ sums_part sum critical)
     (sym (append_assoc (codes "{\"commands\":" ++ decimal commands) (codes ",\"unknown\":")
-        (decimal unknown)))
+    (decimal unknown)))
     ∙ joined (codes "{\"commands\":" ++ decimal commands ++ codes ",\"unknown\":" ++ decimal unknown)
     (codes ",\"sum\":") (decimal sum) (codes ",\"critical_path\":") (decimal critical) (codes "}\n")
 

@@ -7,11 +7,12 @@ pub use Rattle.nj_times.specs.Times.{duration_at, duration_of, durations_of, log
 pub use Rattle.nj_edges.specs.Edges.{edge_at, first_output}
 pub use Rattle.nj_times.specs.Laws.{BuildsTakeTheCriticalPath, OnePathIsCritical}
 pub use Rattle.nj_times.specs.Critical.{AreNeededBy, IsCriticalPath}
-pub use Rattle.nj_times.specs.Slowest.{AreSlowest}
-pub use Rattle.nj_names.specs.Files.{path_at}
+pub use Rattle.nj_times.specs.Reports.{AreShown, IsReport, commands_in, duration_text, duration_value, edge_line, output_of, report_text}
+pub use Rattle.nj_times.specs.Reports.{seconds, summary}
+pub use Rattle.serde_json.specs.Written.{compact_text}
 pub use Rattle.std.specs.Fmt.{decimal}
 pub use Rattle.std.specs.List.{flat_map}
-pub use Rattle.std.specs.Str.Lossy.{utf8_lossy}
+pub use Rattle.nj_names.specs.Files.{path_at}
 pub use Rattle.serde_json.specs.Data.{string}
-pub use Rattle.serde_json.specs.Written.{compact_text}
-pub use Rattle.nj_times.specs.Reports.{AreShown, IsReport, commands_in, duration_text, duration_value, edge_line, output_of, report_text, seconds, summary}
+pub use Rattle.std.specs.Str.Lossy.{utf8_lossy}
+pub use Rattle.nj_times.specs.Slowest.{AreSlowest}

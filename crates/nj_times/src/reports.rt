@@ -44,9 +44,7 @@ pub fn report(
     let commands = commands_in(alloc, graph, &needed)?;
     let path = critical_path(alloc, graph, &durations, &needed)?;
     let shown = shown_of(alloc, &durations, top, &commands, &path)?;
-    written(
-        alloc, graph, &durations, is_json, &commands, &path, &shown,
-    )
+    written(alloc, graph, &durations, is_json, &commands, &path, &shown)
 }
 
 // The text of a report.
@@ -190,11 +188,7 @@ fn push_number(text: &mut Vec<u8>, before: &[u8], number: u128) -> Result<(), Al
 }
 
 // Appends milliseconds as seconds, after a text.
-fn push_seconds(
-    text: &mut Vec<u8>,
-    before: &[u8],
-    milliseconds: u128,
-) -> Result<(), AllocError>
+fn push_seconds(text: &mut Vec<u8>, before: &[u8], milliseconds: u128) -> Result<(), AllocError>
     ensures { OnOk result (text.new.items
         ≡ text.old.items ++ (before.now ++ seconds milliseconds)) }
 {

@@ -20,7 +20,7 @@ returns-in-Ok-clause-ok c =
 pub returns-clause-err : goal.returns-clause-err
 returns-clause-err c =
     of_refusal (map string_bytes c.args.words.now) (map (λ word. word.now) c.deref.result.now)
-        c.in-Err.refusal
+    c.in-Err.refusal
     (sym c.has_old_option.ensures ∙ c.if-has_old_option.false)
     (ap (λ words. map (λ word. word.now) words) c.deref.ensures.value ∙ c.in_ok-moved.ensures)
     c.in-Err.ensures.err

@@ -23,21 +23,21 @@ returns c =
     let commands_are = c.in_ok-commands.ensures.commands
     ∙ ap (λ (es : List EdgeNo). commands_in edges (numbers es)) c.deref.ensures.value in
     let critical = subst (λ (ds : List (Option ℕ)). IsCriticalPath edges files ds path)
-        c.deref-2.ensures.value
+    c.deref-2.ensures.value
     (c.in_ok-path.ensures.path files (subst (λ (es : List EdgeNo). AreNeededBy edges files (numbers es))
     (sym c.deref-3.ensures.value) c.in_ok-needed.ensures.needed)) in
     let are_shown = subst (λ (ds : List (Option ℕ)). AreShown ds c.args.top commands path shown)
-        c.deref-4.ensures.value
+    c.deref-4.ensures.value
     (subst (λ (es : List EdgeNo). AreShown c.deref-4.result.now c.args.top (numbers es) path shown)
     c.deref-5.ensures.value
     (subst (λ (es : List EdgeNo). AreShown c.deref-4.result.now c.args.top (numbers c.deref-5.result.now)
-        (numbers es) shown)
+    (numbers es) shown)
     c.deref-6.ensures.value c.in_ok-shown.ensures.shown)) in
     IfOk-weaker c.written.result _ _
     (λ text is. reported edges c.args.log.now.lines files c.args.top is_json durations needed commands path
-        shown
+    shown
     text.items c.in_ok-durations.ensures c.in_ok-needed.ensures.needed c.in_ok-needed.ensures.each_once
-        commands_are
+    commands_are
     critical are_shown
     (is
     ∙ ap (λ (ds : List (Option ℕ)). report_text edges ds is_json (numbers c.deref-8.result.now)

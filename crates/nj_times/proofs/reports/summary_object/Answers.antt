@@ -10,4 +10,5 @@ returns c =
     c.in_ok-push_sums.ensures
     ∙ ap (λ (t : List ℕ). t ++ sums_part sums.sum sums.critical) (c.in_ok-push_number-2.ensures
     ∙ ap (λ (t : List ℕ). t ++ two) c.in_ok-push_number.ensures)
-    ∙ object_text c.new-text.result.items sums.commands sums.unknown sums.sum sums.critical c.new-text.ensures.items
+    ∙ object_text c.new-text.result.items sums.commands sums.unknown sums.sum sums.critical
+    c.new-text.ensures.items
