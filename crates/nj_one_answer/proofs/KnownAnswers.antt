@@ -9,7 +9,7 @@ use Rattle.nj_build_log.specs.Logs.{BuildLogModel}
 use Rattle.nj_discovered.specs.Times.{DeclaredTimes}
 use Rattle.nj_graph.specs.declared.EdgeNo.{EdgeNo}
 use Rattle.nj_graph.specs.declared.undeclared.UndeclaredInput.{UndeclaredInput}
-use Rattle.nj_graph.specs.Graph.{GraphModel, edges_of}
+use Rattle.nj_graph.specs.Graph.{GraphModel, edges_of, files_of}
 use Rattle.nj_graph.specs.Handles.{GraphEdge, files_in}
 use Rattle.nj_audit.specs.Audits.{IsAudit}
 use Rattle.nj_tests.specs.Tests.{TestModel}
@@ -17,7 +17,10 @@ use Rattle.nj_audit.specs.LoggedInputs.{inputs_in}
 use Rattle.nj_tools.specs.Compdb.{text_fault}
 use Rattle.nj_tools.specs.EdgeObjects.{edge_lines, unwritable_edge}
 use Rattle.nj_tools.specs.declared.EdgeDiscovery.{EdgeDiscovery}
-use Rattle.nj_state.specs.Stale.{AreStaleEdges}
+use Rattle.nj_edges.specs.Edges.{is_named}
+use Rattle.nj_stale.specs.Missing.{IsFirstMissing}
+use Rattle.nj_stale.specs.declared.missing.MissingSource.{MissingSource}
+use Rattle.nj_state.specs.Stale.{AreStaleEdges, IsEvidence}
 use Rattle.nj_state.specs.declared.commands.StaleEdge.{StaleEdge}
 use Rattle.nj_questions.specs.Questions.{AffectedModel, AuditModel, DrawModel, KeysModel, SubjectModel}
 use Rattle.nj_questions.specs.Questions.{StaleModel, TestsModel, WhyModel}
@@ -50,10 +53,15 @@ use Rattle.nj_ask.specs.Manifest.{is_one_of, opened_files}
 use Rattle.nj_ask.specs.Pages.{mark_line}
 use Rattle.nj_ask.specs.Reports.{HasCaveats, ChangeModel, IsReport, changed_numbers, changed_paths}
 use Rattle.nj_ask.specs.Shape.{caveat_text, dyndep_text, shape_text}
-use Rattle.nj_ask.specs.Stales.{AnswersStale, AreStaleFor, manifest_asked, manifest_text, numbers_of_stale}
-use Rattle.nj_ask.specs.Stales.{stale_caveats, stale_text}
+use Rattle.nj_ask.specs.MissingSources.{IsStop, required_files, stated_edges}
+use Rattle.nj_ask.specs.Stales.{AnswersBuild, AnswersStale, AreStaleFor, IsCurrent, WritesStale, files_asked}
+use Rattle.nj_ask.specs.Stales.{manifest_asked, manifest_needs, manifest_targets, manifest_text}
+use Rattle.nj_ask.specs.Stales.{numbers_of_stale}
+use Rattle.nj_ask.specs.Stales.{stale_caveats}
+use Rattle.nj_ask.specs.Stales.AnswersBuild.{manifest_stops, remade, target_stops, listed}
 use Rattle.nj_ask.specs.Stales.AnswersStale.{no_target as unjudged_target, no_depfile as unjudged_depfile}
-use Rattle.nj_ask.specs.Stales.AnswersStale.{no_time, listed, remade}
+use Rattle.nj_ask.specs.Stales.AnswersStale.{no_time, judged}
+use Rattle.nj_ask.specs.Stales.WritesStale.{lines as plain_lines, objects as json_objects}
 use Rattle.nj_one_answer.specs.Answers.{SameKnown, SameKnownHaveSameAnswers}
 
 -- ---- faults of depfiles
@@ -346,6 +354,62 @@ module _ (one other : DiscoveredGraph) (same : SameKnown one other) where
   stale-said entries edges =
       ap (λ (c : List ℕ). c ++ dyndep_text one.graph entries [] (numbers_of_stale edges)) (sym same.caveats)
 
+  stop-for : (entries : List ReadStatement) (log : BuildLogModel) (times : DeclaredTimes)
+      (targets : List (List ℕ)) (source : Option MissingSource) → IsStop one entries log times targets source
+      → IsStop mid entries log times targets source
+  stop-for entries log times targets source is = record {
+    evidence = is.evidence;
+    is = subst (λ (ns : List EdgeNo). IsEvidence one.graph.built.graph entries
+        (map (λ (e : EdgeNo). e.0) ns) log times is.evidence) same.unknown is.is;
+    first = λ s of. subst (λ (ds : List EdgeDiscovery). IsFirstMissing (files_of one.graph) is.evidence
+        (is_named (stated_edges (edges_of one.graph) ds)) s (required_files (edges_of one.graph) targets)
+        source)
+        same.discoveries (is.first s of);
+  }
+
+  writes-for : (entries : List ReadStatement) (log : BuildLogModel) (times : DeclaredTimes)
+      (options : StaleModel) (edges : List StaleEdge) (output : List ℕ)
+      → WritesStale one entries log times options edges output
+      → WritesStale mid entries log times options edges output
+  writes-for entries log times options edges _ (plain_lines plain) = plain_lines plain
+  writes-for entries log times options edges _ (json_objects {evidence = e} asked is text) =
+      json_objects {evidence = e} asked (subst (λ (ns : List EdgeNo). IsEvidence one.graph.built.graph entries
+      (map (λ (e : EdgeNo). e.0) ns) log times e) same.unknown is) text
+
+  current-for : (entries : List ReadStatement) (log : BuildLogModel) (times : DeclaredTimes)
+      (options : StaleModel) → IsCurrent one entries log times options
+      → IsCurrent mid entries log times options
+  current-for entries log times options is = record {
+    unstopped = stop-for entries log times (manifest_targets one.graph options) None is.unstopped;
+    stale = is.stale;
+    are_stale = stale-for entries log times (manifest_needs one.graph options) is.stale is.are_stale;
+    current = is.current;
+  }
+
+  build-moves : (entries : List ReadStatement) (log : BuildLogModel) (times : DeclaredTimes)
+      (options : StaleModel) (targets : List (List ℕ)) (output : List ℕ) (ending : Ending)
+      → AnswersBuild one entries log times options targets output ending
+      → AnswersBuild mid entries log times options targets output ending
+  build-moves entries log times options targets _ _ (manifest_stops {source = a} stop) =
+      manifest_stops (stop-for entries log times (manifest_targets one.graph options) (Some a) stop)
+  build-moves entries log times options targets _ _ (remade {stale = s} {output = o} none are some writes) =
+      subst (λ (c : List ℕ). AnswersBuild mid entries log times options targets o
+      (answered (not (is_empty s)) (c ++ manifest_text one.graph s (manifest_asked one.graph options))))
+      (stale-said entries s)
+      (remade (stop-for entries log times (manifest_targets one.graph options) None none)
+      (stale-for entries log times (manifest_needs one.graph options) s are) some
+      (writes-for entries log times options s o writes))
+  build-moves entries log times options targets _ _ (target_stops {source = a} current stop) =
+      target_stops (current-for entries log times options current)
+      (stop-for entries log times targets (Some a) stop)
+  build-moves entries log times options targets _ _
+      (listed {stale = s} {output = o} current none are writes) =
+      subst (λ (c : List ℕ). AnswersBuild mid entries log times options targets o
+      (answered (not (is_empty s)) c)) (stale-said entries s)
+      (listed (current-for entries log times options current) (stop-for entries log times targets None none)
+      (stale-for entries log times (files_asked one.graph options targets) s are)
+      (writes-for entries log times options s o writes))
+
   stale-moves : (entries : List ReadStatement) (log : BuildLogModel) (times : DeclaredTimes)
       (options : StaleModel) (output : List ℕ) (ending : Ending)
       → AnswersStale one entries log times options output ending
@@ -354,16 +418,8 @@ module _ (one other : DiscoveredGraph) (same : SameKnown one other) where
   stale-moves entries log times options _ _ (unjudged_depfile {line = line} at has) =
       unjudged_depfile at (faulty _ line has)
   stale-moves entries log times options _ _ (no_time at fine first) = no_time at (clear _ fine) first
-  stale-moves entries log times options _ _ (listed {stale = s} at fine are none) =
-      subst (λ (c : List ℕ). AnswersStale mid entries log times options (stale_text one.graph options.why s)
-      (answered (not (is_empty s)) c)) (stale-said entries s)
-      (listed at (clear _ fine) (stale-for entries log times _ s are) none)
-  stale-moves entries log times options _ _ (remade {all = a} {stale = s} at fine whole some are) =
-      subst (λ (c : List ℕ). AnswersStale mid entries log times options (stale_text one.graph options.why s)
-      (answered (not (is_empty s)) (c ++ manifest_text one.graph a (manifest_asked one.graph options))))
-      (stale-said entries s)
-      (remade at (clear _ fine) (stale-for entries log times _ a whole) some
-      (stale-for entries log times _ s are))
+  stale-moves entries log times options _ _ (judged {targets = ps} {output = o} {ending = e} at fine is) =
+      judged at (clear _ fine) (build-moves entries log times options ps o e is)
 
   moves : (entries : List ReadStatement) (log : BuildLogModel) (times : DeclaredTimes) (folder : List ℕ)
       (subject : SubjectModel)
