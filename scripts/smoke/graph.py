@@ -34,7 +34,7 @@ def with_sources(folder):
     """A copy of examples/project in which the sources exist: without them Ninja would not build."""
     copy = folder / "project"
     shutil.copytree(PROJECT, copy)
-    write_files(copy, dict.fromkeys(SOURCES, ""))
+    write_files(copy, dict.fromkeys(SOURCES, b""))
     return copy
 
 
@@ -99,8 +99,9 @@ def faults(graph, folder):
 @check
 def folders(graph, folder):
     """A run with `-C`, before or after the subcommand, is one in that directory, and so is `-f`."""
-    project = with_sources(folder)
+    complete = with_sources(folder)
     for name, (_, words) in SUBCOMMANDS.items():
+        project = complete if name == "stale" else PROJECT
         wanted = run(graph, project, [name, *words])
         status = LOOK if name in LOOKS else DONE
         yield from expect(f"{name}, answer", (wanted.status, wanted.output == ""), (status, False))
@@ -113,16 +114,17 @@ def folders(graph, folder):
 @check
 def outputs(graph, folder):
     """Outputs that are full or closed."""
-    project = with_sources(folder)
+    complete = with_sources(folder)
     asked = [["--help"], ["--version"], *([name, *words] for name, (_, words) in SUBCOMMANDS.items())]
     for words in asked:
+        project = complete if words[0] == "stale" else PROJECT
         with open("/dev/full", "wb") as full:
             ran = graph.run(words, project, CHANGED, output=full)
         yield from expect(f"full, {words}", ran, (OUTPUT_FAILED, b"", b""))
         ran = graph.run_by_shell(words, project, CHANGED, after=">&-")
         yield from expect(f"closed, {words}", ran, (OUTPUT_FAILED, b"", b""))
     with open("/dev/full", "wb") as full:
-        ran = graph.run(["affected"], project, b"none.c\n", error=full)
+        ran = graph.run(["affected"], PROJECT, b"none.c\n", error=full)
     yield from expect("full error output", ran, (OUTPUT_FAILED, b"", b""))
 
 

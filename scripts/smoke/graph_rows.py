@@ -33,7 +33,7 @@ def times_of(files):
 
 def is_run(files, row):
     """Whether a row is run here."""
-    is_plain = not row.limits and "fails" not in times_of(files).values() and b"-C" not in row.words()
+    is_plain = not row.limits and "fails" not in times_of(files).values() and not any(word.startswith(b"-C") for word in row.words())
     return row.kind in LEAST and is_plain and not any(FOLDER in text for text in files.values())
 
 

@@ -135,10 +135,17 @@ def is_old():
     return (int(version[0]), int(version[1])) < (1, 12)
 
 
-def is_version_apart(history, source):
+def discovered_paths(folder):
+    """The paths that depfiles or the deps log name."""
+    texts = [file.read_text(errors="replace") for file in folder.rglob("*.d")]
+    log = NINJA.run(["-f", ANOTHER, "-t", "deps"], folder).as_text().output
+    return {word.rstrip(":") for text in [*texts, log] for word in text.split()}
+
+
+def is_version_apart(history, folder, source):
     """Whether versions of Ninja differ about a missing source, so that `stale` may refuse to build and Ninja not."""
     if is_old():
-        return source.endswith(".h")
+        return source in discovered_paths(folder)
     return source not in {path for edge in history.project.build.edges for path in [*edge.paths(), *edge.validations]}
 
 
@@ -155,10 +162,10 @@ def refused_source(ending):
     return found and found[1]
 
 
-def wrong_refusal(history, removed, ran, ending, counts):
+def wrong_refusal(history, folder, removed, ran, ending, counts):
     """Whether one of them refuses to build, and the other one not; or for want of another source."""
     source, wanted = refused_source(ending), MISSING.search(ran.error)
-    if not wanted and source and is_version_apart(history, source):
+    if not wanted and source and is_version_apart(history, folder, source):
         counts["versions differ"] += 1
         return False
     counts["refusals"] += bool(wanted)
@@ -178,17 +185,20 @@ def compared_without(graph, seed, history, counts):
     with copied(history.folder) as copy:
         removed = removed_source(history, copy)
         ran, ending = asked_of_ninja(history, copy), answer(graph, history, copy)
-    if ran.status != DONE and not MISSING.search(ran.error):
-        counts["Ninja fails"] += 1
-    elif ending.status == LOOK and ending.error:
-        counts["caveats"] += 1
-    else:
-        counts["comparisons"] += 1
-        is_wrong = wrong_refusal(history, removed, ran, ending, counts)
-        if not is_wrong and ran.status == DONE and not refused_source(ending):
-            is_wrong = wrong_list(ran, ending, counts)
-        if is_wrong:
+        if ran.status != DONE and not MISSING.search(ran.error):
+            counts["Ninja fails"] += 1
+        elif ending.status == LOOK and ending.error:
+            counts["caveats"] += 1
+        elif is_wrong(history, copy, removed, ran, ending, counts):
             yield f"seed {seed}, history {history.told}, without {removed}\nNinja {ran}\nanswer {ending}"
+
+
+def is_wrong(history, folder, removed, ran, ending, counts):
+    """Whether Ninja and `stale` differ where both know an answer."""
+    counts["comparisons"] += 1
+    if wrong_refusal(history, folder, removed, ran, ending, counts):
+        return True
+    return ran.status == DONE and not refused_source(ending) and wrong_list(ran, ending, counts)
 
 
 def removals_differ(graph, folder, first):
