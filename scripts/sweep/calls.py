@@ -93,20 +93,21 @@ def dyndep_of(runs):
     return names[0] if names and (JOINING | {"stale"}) & {*runs.words} else None
 
 
-def lists_of(runs):
-    """The lists of tests and of targets that a run reads, before all other files."""
+def named_files_of(runs):
+    """The files that options name and a run reads before all others: lists of tests and of targets, and files whose
+    contents go into keys."""
     words = " ".join(map(str, runs.words))
     of_meson = (
         f"{folder}/meson-info/intro-{name}.json"
         for folder in re.findall(r"--meson[ =](\S+)", words)
         for name in ("tests", "targets")
     )
-    return [*re.findall(r"--ctest[ =](\S+)", words), *of_meson]
+    return [*re.findall(r"--(?:ctest|with-file)[ =](\S+)", words), *of_meson]
 
 
 def opened_files(runs):
     """The files that a run may open, in this order: each with the place of the statement that opens it,
-    or `None` for a list of tests, a log and a depfile."""
+    or `None` for a file that an option names, a log and a depfile."""
     places, words = list(runs.project.places.items()), runs.words
     if "-f" in words:
         name = words[words.index("-f") + 1]
@@ -114,7 +115,7 @@ def opened_files(runs):
     log = log_of(runs)
     others = [log, *depfiles_of(runs)] if log else []
     others += [it for it in [build_log_of(runs)] if it]
-    return [*((name, None) for name in lists_of(runs)), *places, *((name, None) for name in others)]
+    return [*((name, None) for name in named_files_of(runs)), *places, *((name, None) for name in others)]
 
 
 def fault_of_file(runs, number, text, text_of_log):
@@ -193,7 +194,7 @@ def wanted_statx(runs, path):
     or a depfile is not known before it is read. A dyndep file is not joined. An output counts as one that is newer
     than its record, with a caveat."""
     log = log_of(runs)
-    if path in {log, *lists_of(runs), build_log_of(runs), *depfiles_of(runs)} - {None}:
+    if path in {log, *named_files_of(runs), build_log_of(runs), *depfiles_of(runs)} - {None}:
         return runs.usual
     if path == dyndep_of(runs):
         return runs.run_with(path, None)

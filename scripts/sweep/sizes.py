@@ -18,7 +18,7 @@ from lib.random_builds import deps_log
 from lib.sweeps import Sweep, lacks_runs
 from lib.tools import EXPLAIN, GRAPH, LIST, MESON, run_of
 from smoke import audit, draw, edge_objects
-from smoke.keys import with_additions
+from smoke.keys import of_content, with_additions
 
 EDGES = 100_000
 HALF = EDGES // 2
@@ -286,10 +286,17 @@ def keys_of(kind, others=()):
     return found
 
 
-def with_gcc(line):
-    """A line of `keys` as `--with gcc` has it."""
-    digits, name = line.split()
-    return f"{with_additions(bytes.fromhex(digits), ['gcc']).hex()} {name}"
+def with_texts(lines_of_keys, *texts):
+    """Lines of `keys`, with texts in every key."""
+    for line in lines_of_keys:
+        digits, name = line.split()
+        yield f"{with_additions(bytes.fromhex(digits), texts).hex()} {name}"
+
+
+def stale_object(output, reason, file):
+    """A line of `stale --json`, where no times are compared."""
+    values = {"output": output, "reason": reason, "file": file, "time": None, "file_time": None}
+    return json.dumps(values, separators=(",", ":"))
 
 
 def chains(line_of, kind, most, least=0):
@@ -338,7 +345,9 @@ def graph_of_chain():
     yield "json -C . -f build.ninja", done(objects_of_chain)
     yield "keys", done(lines(keys))
     yield f"keys --base /w e{HALF}", done(lines(keys[: HALF + 1]))
-    yield f"keys --with gcc e{HALF}", done(lines(map(with_gcc, keys[: HALF + 1])))
+    yield f"keys --with gcc e{HALF}", done(lines(with_texts(keys[: HALF + 1], b"gcc")))
+    content = of_content(CHAIN.encode())
+    yield f"keys --with-file build.ninja e{HALF}", done(lines(with_texts(keys[: HALF + 1], content)))
     yield f"keys --take {EDGES}", done(lines(keys))
     yield "keys --take 0", (LOOK, "", "mark start\n")
     for taken in HALF, FEWEST:
@@ -348,6 +357,8 @@ def graph_of_chain():
     yield "stale", (LOOK, paths(ALL), "")
     stale = lines(f"e{n}: e{n - 1} is stale" for n in range(1, HALF + 1))
     yield f"stale --why --no-manifest e{HALF}", (LOOK, "e0: e0 is missing\n" + stale, "")
+    objects = lines(stale_object(f"e{n}", "stale-input", f"e{n - 1}") for n in range(1, HALF + 1))
+    yield f"stale --json e{HALF}", (LOOK, stale_object("e0", "missing-output", "e0") + "\n" + objects, "")
     tests = f"tests --ctest {LIST}"
     yield f"{tests} < e7", done("counts\nalways\n")
     words = "--source-dir x/.. --ignore none --ignore-unknown --allow-empty --format lines --why"
