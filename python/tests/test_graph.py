@@ -365,7 +365,8 @@ class Stale(unittest.TestCase):
 
     def test_unknown(self) -> None:
         with Graph.from_files({"build.ninja": DISCOVERING}, times={}) as graph:
-            (found,) = graph.stale(b"", {"a.c": 1, "a.o": 1}, [graph.target("a.o")])
+            made, found = graph.stale(b"", {"a.c": 1, "a.o": 1}, [graph.target("a.o")])
+            self.assertEqual((made.edge, made.reason), (graph.edges[2], StaleReason.STALE_INPUT))
             self.assertEqual(found, (graph.edges[0], StaleReason.UNKNOWN_INPUTS, None))
 
     def test_refused(self) -> None:
