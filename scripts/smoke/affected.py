@@ -468,26 +468,36 @@ def recipe(start):
     return next(it for it in plain if it.startswith(start))
 
 
-def tests_differ(graph, folder, configure, source_dir, start):
-    """The tests that the recipe finds, after a change of a source that one of them needs."""
-    write_files(folder, TESTED_SOURCES)
-    for words in configure, ["ninja", "-C", "build"]:
-        subprocess.run(words, cwd=folder, stdout=subprocess.DEVNULL, check=True)
-    words = ["-C", "build", "--source-dir", source_dir, "--no-phony"]
-    status, output, error = run(graph, folder, words, ["text.c"])
-    yield from expect("affected", (status, error), (DONE, ""))
-    (folder / "affected.txt").write_text(output)
-    ran = Program("sh").run(["-c", recipe(start)], folder).as_text()
-    yield from expect("tests", ran, (0, "first\n", ""))
+def follow_recipe(graph, folder, configure, start):
+    """How a recipe ends after a change of a source that one of the tests needs."""
+    programs, project = folder / "bin", folder / "project"
+    programs.mkdir()
+    (programs / "ninja-graph").symlink_to(graph.path)
+    write_files(project, TESTED_SOURCES)
+    author = ["-c", "user.name=a", "-c", "user.email=a@localhost"]
+    for words in (
+        ["git", "init", "-q", "-b", "main"],
+        ["git", "add", "."],
+        ["git", *author, "commit", "-q", "-m", "Start"],
+        configure,
+        ["ninja", "-C", "build"],
+    ):
+        subprocess.run(words, cwd=project, stdout=subprocess.DEVNULL, check=True)
+    (project / "text.c").write_bytes(TESTED_SOURCES["text.c"] + b"/* changed */\n")
+    path = os.pathsep.join([str(programs), os.environ["PATH"]])
+    return project, Program("sh").run(["-c", recipe(start)], project, PATH=path).as_text()
 
 
-@check(needs=["cmake", "ctest", "ninja", "cc", "jq"])
+@check(needs=["git", "cmake", "ctest", "ninja", "cc"])
 def recipe_for_ctest(graph, folder):
-    configure = ["cmake", "-G", "Ninja", "-B", "build"]
-    yield from tests_differ(graph, folder, configure, str(folder), "ctest ")
+    project, ran = follow_recipe(graph, folder, ["cmake", "-G", "Ninja", "-B", "build"], "ctest ")
+    yield from expect("the recipe", (ran.status, ran.error), (0, ""))
+    yield from expect("tests", (project / "names").read_text(), "first\n")
 
 
-@check(needs=["meson", "ninja", "cc", "jq"])
+@check(needs=["git", "meson", "ninja", "cc"])
 def recipe_for_meson(graph, folder):
-    configure = ["meson", "setup", "build"]
-    yield from tests_differ(graph, folder, configure, "..", "meson introspect")
+    start = "git diff -z --name-only main |\n    ninja-graph tests"
+    _, ran = follow_recipe(graph, folder, ["meson", "setup", "build"], start)
+    yield from expect("the recipe", ran.status, 0)
+    yield from expect("tests", re.findall(r"^Ok: +(\d+)", ran.output, re.M), ["1"])
