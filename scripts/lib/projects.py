@@ -242,7 +242,7 @@ def targets_differ(program, folder):
     return answer_differs(EXPLAIN, program, folder)
 
 
-def write_cmake(folder):
-    """Writes the build files of CMake for examples/cmake into a directory."""
-    words = ["cmake", "-G", "Ninja", "-S", str(EXAMPLES / "cmake"), "-B", str(folder)]
+def write_cmake(folder, sources=EXAMPLES / "cmake"):
+    """Writes the build files of CMake for a project, by default examples/cmake, into a directory."""
+    words = ["cmake", "-G", "Ninja", "-S", str(sources), "-B", str(folder)]
     subprocess.run(words, stdout=subprocess.DEVNULL, check=True)

@@ -14,10 +14,11 @@ from collections import Counter
 
 from lib.checks import check
 from lib.histories import NINJA, History
-from lib.programs import DONE, FAULT, LOOK
-from lib.projects import MAIN
+from lib.programs import DONE, EXAMPLES, FAULT, LOOK
+from lib.projects import MAIN, write_cmake, write_files
 from lib.runnable_builds import random_project
 from smoke.dirty import ANOTHER, COMMAND, SHOWN, copied, too_few, would_run
+from smoke.graph import with_sources
 
 COMPARISONS = 1_000
 STATES_OF_SEED = 7
@@ -225,3 +226,59 @@ def removals(graph, folder):
 @check(needs=["ninja"])
 def other_removals(graph, folder):
     return itertools.islice(removals_differ(graph, folder, 1), SHOWN)
+
+
+# ---- first reasons
+
+# What `-d explain` says, as `--why` has it.
+EXPLANATIONS = {
+    r"output (\S+) doesn't exist": r"\1: \1 is missing",
+    r"output (\S+) older than most recent input (\S+) \(.*": r"\1: \2 is newer",
+    r"deps for '(\S+)' are missing": r"\1: its discovered inputs are not known",
+    r"command line changed for (\S+)": r"\1: the command changed",
+    r"command line not found in log for (\S+)": r"\1: \1 is not in the build log",
+    r"recorded mtime of (\S+) older than most recent input (\S+) \(.*": r"\1: \2 is newer than the last build",
+}
+STALE_INPUT = re.compile(r"^(\S+): (\S+) is stale$", re.M)
+
+
+def reasons_differ(graph, folder, state):
+    """The first reasons, beside those of Ninja: an edge with a stale input, which Ninja calls dirty, has no other."""
+    explained = NINJA.run(["-n", "-d", "explain"], folder).as_text().error.splitlines()
+    told = graph.run(["stale", "--why"], folder).as_text().output
+    wanted = set()
+    for line in (it.removeprefix("ninja explain: ") for it in explained):
+        wanted |= {re.sub(text, ours, line) for text, ours in EXPLANATIONS.items() if re.fullmatch(text, line)}
+    found = {line for line in told.splitlines() if not STALE_INPUT.match(line)}
+    if found != wanted or not found:
+        yield f"{state}: {sorted(found)} is not {sorted(wanted)}"
+    dirty = {line.removeprefix("ninja explain: ").removesuffix(" is dirty") for line in explained}
+    lost = {path for _, path in STALE_INPUT.findall(told)} - dirty
+    if lost:
+        yield f"{state}: Ninja does not call {sorted(lost)} dirty"
+
+
+@check(needs=["ninja", "cmake", "cc"])
+def first_reasons(graph, folder):
+    """In examples/project, and in a project of CMake after changes of sources, outputs, logs and commands."""
+    yield from reasons_differ(graph, with_sources(folder), "examples/project")
+    build, sources = folder / "build", folder / "sources"
+    shutil.copytree(EXAMPLES / "cmake", sources)
+    write_cmake(build, sources)
+    changes = {
+        "a header": lambda: (sources / "include/text/words.h").touch(),
+        "an object": lambda: next(build.rglob("words.c.o")).unlink(),
+        "a library": lambda: (build / "libtext.a").unlink(),
+        "the deps log": lambda: (build / ".ninja_deps").unlink(),
+        "the build log": lambda: (build / ".ninja_log").unlink(),
+        "a command": lambda: write_files(build, {MAIN: with_another_command(build / MAIN)}),
+    }
+    for state, change in changes.items():
+        NINJA.run([], build)
+        change()
+        yield from reasons_differ(graph, build, state)
+
+
+def with_another_command(manifest):
+    """A manifest of CMake in which the edge of an object has another command."""
+    return manifest.read_bytes().replace(b"  DEP_FILE = ", b"  FLAGS = -DANOTHER\n  DEP_FILE = ", 1)
