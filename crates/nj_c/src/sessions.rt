@@ -43,7 +43,10 @@ fn new_session(alloc: Global, key: u64) -> Result<Seal, AllocError>
 {
     match Box::new(alloc, Kept::new(alloc, HashKeys::new(key))) {
         Ok(kept) => Ok(Seal::new(kept)),
-        Err(_) => Err(AllocError),
+        Err(refused) => {
+            drop(refused);
+            Err(AllocError)
+        }
     }
 }
 

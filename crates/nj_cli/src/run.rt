@@ -96,12 +96,14 @@ pub fn run_tool<S: FileSource, O: Sink, E: Sink>(
     status_of(run_tool_and_keep(alloc, source, request, out, err))
 }
 
-// Returns the status alone. The files and the graph are freed here, so that no other function has
-// to prove that.
+// Returns the status alone. The call of `drop` frees the files and the graph, by a proof for each
+// type; at the end of the function, one proof would open all that they own.
 fn status_of(ended: Ended) -> Status
     ensures { result ≡ ended.status }
 {
-    ended.status
+    let status = ended.status;
+    drop(ended);
+    status
 }
 
 // The same as `run_tool`, but it also returns the loaded files and graph.

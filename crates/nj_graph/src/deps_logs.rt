@@ -10,6 +10,7 @@ use nj_discovered::clean;
 use nj_edges::{EdgeGraph, EdgeNo, JoiningInputs};
 use nj_faults::GraphFault;
 use std::alloc::{AllocError, Global};
+use std::mem::drop;
 
 impl Graph {
     /// Joins a deps log ("Deps" in the Ninja manual): each file that it names for the first output
@@ -34,14 +35,25 @@ impl Graph {
         ensures edges { IfOk result (λ graph. length (edges_of graph) ≡ length (edges_of self)) }
         ensures files { IfOk result (λ graph. IsPrefix (files_of self) (files_of graph)) }
     {
-        let numbers = self.logged_numbers(alloc, log)?;
+        let numbers = match self.logged_numbers(alloc, log) {
+            Ok(numbers) => numbers,
+            Err(failure) => {
+                drop(self);
+                return Err(GraphFault::from(failure));
+            }
+        };
         let Graph { built, declared } = self;
         let named = LoggedInputs {
             log,
             numbers: &numbers,
         };
-        let built = join_built(alloc, built, &named)?;
-        Ok(Graph { built, declared })
+        match join_built(alloc, built, &named) {
+            Ok(built) => Ok(Graph { built, declared }),
+            Err(fault) => {
+                drop(declared);
+                Err(fault)
+            }
+        }
     }
 
     // For each edge, the log's number of its first output.

@@ -9,6 +9,7 @@ use nj_faults::GraphFault;
 use nj_scope::{FileSource, FileTable};
 use std::alloc::Global;
 use std::marker::Model;
+use std::mem::drop;
 
 /// The files of a run, and their graph.
 #[derive(Drop)]
@@ -72,8 +73,13 @@ pub fn load<S: FileSource>(alloc: Global, source: &mut S, main: &str) -> Result<
     ensures main { IfOk result (λ loaded. main_of loaded.graph.origins ≡ main.now) }
 {
     let mut reader = Reader::new(alloc, source.hash_keys(), main)?;
-    reader.read_main(alloc, source, main)?;
-    reader.finish(alloc)
+    match reader.read_main(alloc, source, main) {
+        Ok(()) => reader.finish(alloc),
+        Err(fault) => {
+            drop(reader);
+            Err(fault)
+        }
+    }
 }
 
 impl Reader {
@@ -85,7 +91,13 @@ impl Reader {
         ensures { (main : List ℕ) (entries : List ReadStatement)
             → Has main self entries → Faultless entries → FinishesReading main self entries result }
     {
-        let main_rules = rules_of_main(alloc, self.declarations.rules())?;
+        let main_rules = match rules_of_main(alloc, self.declarations.rules()) {
+            Ok(main_rules) => main_rules,
+            Err(failure) => {
+                drop(self);
+                return Err(GraphFault::from(failure));
+            }
+        };
         let Reader {
             declarations,
             building,
@@ -97,8 +109,15 @@ impl Reader {
             origins,
             main_rules,
         };
-        let built = building.finish(alloc)?;
-        let graph = Graph { built, declared };
-        Ok(Loaded { files, graph })
+        match building.finish(alloc) {
+            Ok(built) => {
+                let graph = Graph { built, declared };
+                Ok(Loaded { files, graph })
+            }
+            Err(fault) => {
+                drop((files, declared));
+                Err(fault)
+            }
+        }
     }
 }
