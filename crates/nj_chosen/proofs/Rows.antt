@@ -6,7 +6,7 @@ use Rattle.nj_tests.specs.Tests.{TestModel}
 use Rattle.nj_chosen.specs.declared.reason.Link.TheVariants.{AffectedOutput, ChangedFile, Directory}
 use Rattle.nj_chosen.specs.declared.reason.Link.TheVariants.{NeedsAffected}
 use Rattle.nj_chosen.specs.declared.brought.Way.TheVariants.{Needed}
-use Rattle.nj_chosen.specs.TestPaths.{has_lost_bytes, program_of_test}
+use Rattle.nj_chosen.specs.TestPaths.{has_lost_bytes, named_by_tests, program_of_test}
 use Rattle.nj_chosen.specs.Directories.{is_below, is_telling}
 use Rattle.nj_chosen.specs.Reasons.{BuildChange, reason_of}
 use Rattle.nj_chosen.specs.Reasons.Why.{Named, UnknownCommand, Unnamed}
@@ -71,6 +71,11 @@ changed_script : reason_of (change [] [] (codes "/s/t.py" ∷ []) []) [] false s
     ≡ Some (Named ChangedFile (codes "/s/t.py"))
 unfolding clean_path_of without_leftmost_pair
 changed_script = refl
+
+named_by_a_script : named_by_tests (codes "/b") (codes "/s/t.py" ∷ codes "/s/u.py" ∷ []) (script ∷ [])
+    ≡ codes "/s/t.py" ∷ []
+unfolding clean_path_of without_leftmost_pair
+named_by_a_script = refl
 
 plugin_of_the_program : reason_of (change [] (codes "/b/p" ∷ []) [] []) [] false script
     ≡ Some (Named NeedsAffected (codes "/b/p"))

@@ -6,9 +6,9 @@ pub use Rattle.nj_changes.specs.Tables.{HasMore, SameNames}
 pub use Rattle.nj_chosen.specs.Inside.Folders.{folders_of, AreFoldersOf}
 pub use Rattle.nj_chosen.specs.Laws.{ChosenAreLeast, OthersNameNothing, OwnProgramsChooseAnyway}
 pub use Rattle.nj_names.specs.NameTables.{is_among}
-pub use Rattle.nj_chosen.specs.Inside.Numbers.{row_at, set_row}
 pub use Rattle.nj_tests.specs.Tests.{test_model}
-pub use Rattle.nj_chosen.specs.TestPaths.{first_word, has_lost_bytes, is_lost, is_unknown, names_of_test}
+pub use Rattle.nj_chosen.specs.TestPaths.{named_by_tests, first_word, has_lost_bytes, is_lost, is_unknown, names_of_test}
+pub use Rattle.nj_chosen.specs.Inside.Numbers.{row_at, set_row}
 pub use Rattle.nj_chosen.specs.Directories.{is_at_or_above, is_below, is_telling}
 pub use Rattle.nj_chosen.specs.ChangedPaths.{change_by}
 pub use Rattle.nj_chosen.specs.Inside.Tables.{kinds_in}

@@ -1,7 +1,8 @@
 -- The paths that a test may name.
 use Rattle.std.specs.Prelude.{ℕ, Bool, false, ◌||◌, if◌then◌else◌, Option, Some, None, option_map, unwrap_or, List, [], ◌∷◌, ◌++◌, nat_eq, is_none}
-use Rattle.std.specs.List.{flat_map, list_any, starts_with}
+use Rattle.std.specs.List.{filter, flat_map, list_any, starts_with}
 use Rattle.nj_text.specs.Calls.{is_empty}
+use Rattle.nj_names.specs.NameTables.{is_among}
 use Rattle.nj_tests.specs.Tests.{TestModel}
 use Rattle.nj_tests.specs.Words.{names_of, path_of}
 
@@ -12,6 +13,10 @@ words_of_test test = unwrap_or test.command [] ++ test.texts
 -- The full paths that the words of a test may name. Spellings of the same path are not distinguished.
 abbrev pub names_of_test : (build : List ℕ) → TestModel → List (List ℕ)
 names_of_test build test = flat_map (names_of build test.folder) (words_of_test test)
+
+-- those of the given full paths that words of tests may name
+abbrev pub named_by_tests : (build : List ℕ) → (paths : List (List ℕ)) → List TestModel → List (List ℕ)
+named_by_tests build paths tests = filter (is_among paths) (flat_map (names_of_test build) tests)
 
 -- ---- the program of a test
 

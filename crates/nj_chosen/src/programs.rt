@@ -47,7 +47,11 @@ fn add_program(
 }
 
 /// Adds a path if it is among the given outputs.
-fn add_if_among(outputs: &Names, path: &[u8], programs: &mut Names) -> Result<(), AllocError>
+pub(crate) fn add_if_among(
+    outputs: &Names,
+    path: &[u8],
+    programs: &mut Names,
+) -> Result<(), AllocError>
     ensures { OnOk result (HasMore programs.old
         (filter (is_among outputs.now) (path.now ∷ [])) programs.new) }
 {
