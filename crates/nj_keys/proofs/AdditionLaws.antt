@@ -9,8 +9,7 @@ use Rattle.std.proofs.lemmas.Slice.Eq.{bytes_eq-Decides}
 use Rattle.std.proofs.Math.Seq.{drop-append_seam, take-append_seam}
 use Rattle.sha2.specs.Sha256.{sha256}
 use Rattle.sha2.proofs.Facts256.{length-sha256}
-use Rattle.nj_graph.specs.Edges.{EdgePaths}
-use Rattle.nj_keys.specs.Keys.{additions_text, field, fields_text, key_with, line, number}
+use Rattle.nj_keys.specs.Keys.{additions_text, field, fields_text, key_with, number}
 use Rattle.nj_keys.specs.Keys.{AdditionsTell, AreShort, AreShortAdditions, Fields, HasConfusion}
 use Rattle.nj_keys.specs.Inside.Additions.{digest_of_additions, key_after}
 use Rattle.nj_keys.proofs.EdgeLaws.{key-is}
@@ -25,12 +24,9 @@ after-is (text ∷ additions) key = refl
 
 pub with-additions : (additions : List (List ℕ)) (digest : Option (List ℕ))
     → digest ≡ digest_of_additions additions
-    → (text lines : List ℕ) (edges : List EdgePaths) (e : ℕ) (key : List ℕ)
-    → text ≡ lines ++ line edges e (key_after digest key)
-    → text ≡ lines ++ line edges e (key_with additions key)
-with-additions additions digest is text lines edges e key line_is =
-    line_is ∙ ap (λ d. lines ++ line edges e (key_after d key)) is
-    ∙ ap (λ k. lines ++ line edges e k) (after-is additions key)
+    → (added key : List ℕ) → added ≡ key_after digest key → added ≡ key_with additions key
+with-additions additions digest is added key added_is =
+    added_is ∙ ap (λ d. key_after d key) is ∙ after-is additions key
 
 -- ---- texts with the same digest
 

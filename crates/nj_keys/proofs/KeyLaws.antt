@@ -11,8 +11,9 @@ use Rattle.nj_graph.specs.declared.Kind.TheVariants.{Explicit, Implicit, OrderOn
 use Rattle.nj_graph.specs.Edges.{EdgePaths, edge_at, maker_of}
 use Rattle.nj_graph.specs.Graph.{edges_of}
 use Rattle.nj_keys.specs.Keys.{fields_of, fields_text, input_fields, inputs_with_keys, maker_key}
-use Rattle.nj_keys.specs.Keys.{EdgesHaveKeys, IsKey, KeysAreUnique, Needs}
+use Rattle.nj_keys.specs.Keys.{EdgesHaveKeys, IsKey, KeysAreUnique, Needs, edges_stated}
 use Rattle.nj_keys.specs.Keys.IsKey.{digest}
+use Rattle.nj_keys.proofs.StatedLemmas.{needs-stated}
 
 contains-later : {X : Type 0} (y : X) (xs : List X) (x : X) → Contains xs x → Contains (y ∷ xs) x
 contains-later y xs x (k, below, is) = (suc k, omega (arith, below), is)
@@ -103,10 +104,12 @@ pub unique : KeysAreUnique
 unique folders edges entries e key other is also = one-key folders edges entries is also
 
 pub all : EdgesHaveKeys
-all folders g entries graph e below =
+all folders counts g entries graph e below =
     let edges = edges_of g in
+    let stated = edges_stated counts edges in
     let rank = graph.acyclic.0 in
     let ranked = graph.acyclic.1 in (
-      key_by folders edges entries (length edges) e,
-      is-key folders edges entries rank ranked.falls (length edges) e (ranked.bounded e below),
+      key_by folders stated entries (length edges) e,
+      is-key folders stated entries rank (λ e f needs. ranked.falls e f (needs-stated counts edges e f needs))
+          (length edges) e (ranked.bounded e below),
     )

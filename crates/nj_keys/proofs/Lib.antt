@@ -3,12 +3,15 @@ mod BaseLaws
 mod BaseLemmas
 mod BaseRows
 mod ContentLaws
+mod DiscoveryLaws
 mod EdgeLaws
 mod FieldLaws
 mod InputLemmas
 mod KeyLaws
+mod KeyLines
 mod LineLaws
 mod MakerLemmas
 mod OpenLemmas
 mod PageLaws
 mod PageLemmas
+mod StatedLemmas

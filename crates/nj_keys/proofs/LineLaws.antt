@@ -8,10 +8,10 @@ use Rattle.nj_keys.specs.Keys.{key_with, line, IsKey, LinesAreUnique, ListsKeys,
 use Rattle.nj_keys.specs.Keys.ListsKeys.{none, last}
 use Rattle.nj_keys.proofs.KeyLaws.{unique}
 
-last-apart : (xs : List ℕ) (x : ℕ) → [] ≡ xs ++ x ∷ [] → ⊥
+pub last-apart : (xs : List ℕ) (x : ℕ) → [] ≡ xs ++ x ∷ [] → ⊥
 last-apart xs x is = absurd (omega (arith, ap length is, length_push xs x))
 
-last-same : (xs ys : List ℕ) (x y : ℕ) → xs ++ x ∷ [] ≡ ys ++ y ∷ [] → (xs ≡ ys) × (x ≡ y)
+pub last-same : (xs ys : List ℕ) (x y : ℕ) → xs ++ x ∷ [] ≡ ys ++ y ∷ [] → (xs ≡ ys) × (x ≡ y)
 last-same xs ys x y is =
     let turned : x ∷ reverse xs ≡ y ∷ reverse ys =
     sym (reverse-append xs (x ∷ [])) ∙ ap reverse is ∙ reverse-append ys (y ∷ []) in

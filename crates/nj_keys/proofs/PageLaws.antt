@@ -11,6 +11,7 @@ use Rattle.nj_needs.proofs.PageLaws.{mark-keeps_the_rest}
 use Rattle.nj_needs.proofs.Striking.{without-none}
 use Rattle.nj_graph.specs.ReadingList.{ReadStatement}
 use Rattle.nj_graph.specs.declared.FileNo.{FileNo}
+use Rattle.nj_graph.specs.Edges.{EdgePaths}
 use Rattle.nj_graph.specs.Graph.{edges_of, IsGraphOf}
 use Rattle.nj_graph.specs.Handles.{edges_in, GraphFiles}
 use Rattle.nj_keys.specs.Keys.{ListsKeys}
@@ -78,23 +79,23 @@ leaves files entries graph mark limit (Some next) stopped =
           ∙ ap (λ es. written limit (left_at files mark) ++ es) (sym kept.1),
     )
 
-module _ (additions folders : List (List ℕ)) (files : GraphFiles) (entries : List ReadStatement)
-    (graph : IsGraphOf files.graph entries) where
+module _ (additions folders : List (List ℕ)) (edges : List EdgePaths) (files : GraphFiles)
+    (entries : List ReadStatement) (graph : IsGraphOf files.graph entries) where
   joined : (mark : Option (List ℕ)) (texts : List (List ℕ))
-      → ArePages additions folders files entries mark texts
-      → ListsKeys additions folders (edges_of files.graph) entries (left_from files mark) (concat texts)
+      → ArePages additions folders edges files entries mark texts
+      → ListsKeys additions folders edges entries (left_from files mark) (concat texts)
   joined _ _ none = nothing
   joined _ _ (page {mark = mark} {text = text} {next = next} {texts = texts} limit stops lists more) =
-      subst (λ ns. ListsKeys additions folders (edges_of files.graph) entries ns (text ++ concat texts))
+      subst (λ ns. ListsKeys additions folders edges entries ns (text ++ concat texts))
       (sym (leaves files entries graph mark limit next stops).1)
-      (join additions folders (edges_of files.graph) entries (written limit (left_at files mark))
+      (join additions folders edges entries (written limit (left_at files mark))
       (left_from files next)
       text
       (concat texts) lists (joined next texts more))
 
 pub all-pages : PagesAreAll
-all-pages additions folders files entries graph mark texts pages =
-    joined additions folders files entries graph (Some mark) texts pages
+all-pages additions folders edges files entries graph mark texts pages =
+    joined additions folders edges files entries graph (Some mark) texts pages
 
 pub start : StartLeavesAll
 start files = ap (edges_in files.graph) (without-none _)

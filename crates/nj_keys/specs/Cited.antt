@@ -1,10 +1,10 @@
 -- What the contracts of this crate cite: each name comes from the module in its line.
-pub use Rattle.nj_keys.specs.Keys.{additions_text, content_addition, field, number, bars, fields_of, fields_text, input_text}
+pub use Rattle.nj_keys.specs.Keys.{additions_text, content_addition, field, number, edges_stated, bars, fields_of, fields_text, input_text}
 pub use Rattle.nj_keys.specs.Keys.{inputs_with_keys, maker_key, response_of, variable_of, IsKey, Needs, AdditionsTell}
-pub use Rattle.nj_keys.specs.Keys.{AdditionsTellContents, EdgesHaveKeys, KeysAreUnique, LinesAreUnique, PagesOfLinesJoin, TextsTellFields}
-pub use Rattle.nj_keys.specs.Keys.{TextsTellEdges, TextsTellMapped, KeysTellFields, line, ListsKeys}
+pub use Rattle.nj_keys.specs.Keys.{AdditionsTellContents, DiscoveriesChangeNoKey, EdgesHaveKeys, KeysAreUnique, LinesAreUnique}
+pub use Rattle.nj_keys.specs.Keys.{ListsOfKeysAreUnique, PagesOfLinesJoin, TextsTellFields, TextsTellEdges, TextsTellMapped, KeysTellFields}
+pub use Rattle.nj_keys.specs.Keys.{line, HaveKeys, ListsKeys}
 pub use Rattle.nj_keys.specs.Inside.Additions.{digest_of_additions, key_after}
-pub use Rattle.hex.specs.Hex.{encode_lower}
 pub use Rattle.std.specs.List.{flat_map}
 pub use Rattle.sha2.specs.Sha256.{sha256}
 pub use Rattle.nj_text.specs.Paths.{clean_path_of, is_absolute}
@@ -12,10 +12,11 @@ pub use Rattle.nj_keys.specs.Bases.{is_quote, is_separator, is_path_byte, ends_b
 pub use Rattle.nj_keys.specs.Bases.{front_mapped, mapped, MappedTells}
 pub use Rattle.nj_keys.specs.Inside.Folders.{may_begin_after, paths}
 pub use Rattle.nj_graph.specs.Graph.{edges_of, OfStatements}
-pub use Rattle.nj_graph.specs.Handles.{OfEdge, edge_of, file_of, paths_of, GraphEdge}
-pub use Rattle.nj_graph.specs.Edges.{outputs_of, maker_of, first_output}
+pub use Rattle.nj_graph.specs.Handles.{OfEdge, edge_of, file_of, files_in, paths_of, GraphEdge}
+pub use Rattle.nj_graph.specs.Edges.{edge_at, outputs_of, maker_of, first_output}
 pub use Rattle.nj_keys.specs.Inside.Keeping.{kept_key, inputs_in, made_by, IsAcyclic, IsKept, IsMissing, KeepsKeys, MakesOne}
 pub use Rattle.nj_keys.specs.Inside.FileTexts.{input_texts, path_texts}
 pub use Rattle.nj_keys.specs.Pages.{PagesAreAll, PagesLeaveTheRest, StartLeavesAll, leads, left_at, BeginsAfter}
+pub use Rattle.hex.specs.Hex.{encode_lower}
 pub use Rattle.nj_needs.specs.Walks.{WalkState}
 pub use Rattle.nj_needs.specs.PageWalks.{written, StopsAt}

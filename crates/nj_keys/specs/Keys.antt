@@ -1,6 +1,6 @@
 -- Keys of edges, made from their commands and files and from the keys of the edges that make their inputs.
-use Rattle.std.specs.Prelude.{◌≡◌, ◌≢◌, ◌<◌, ◌^◌, ◌⊎◌, ℕ, Option, Some, None, unwrap_or, if◌then◌else◌, List, [], ◌∷◌, ◌++◌}
-use Rattle.std.specs.Prelude.{map, length, All, Contains, codes, decimal}
+use Rattle.std.specs.Prelude.{◌≡◌, ◌≢◌, ◌↔◌, ◌<◌, ◌^◌, ◌⊎◌, ℕ, Option, Some, None, unwrap_or, if◌then◌else◌, List, [], ◌∷◌, ◌++◌}
+use Rattle.std.specs.Prelude.{map, length, take, All, Contains, codes, decimal}
 use Rattle.std.specs.List.{flat_map, AllByRecursion}
 use Rattle.sha2.specs.Sha256.{sha256}
 use Rattle.hex.specs.Hex.{encode_lower}
@@ -8,8 +8,21 @@ use Rattle.nj_graph.specs.ReadingList.{ReadStatement}
 use Rattle.nj_graph.specs.declared.Kind.{Kind}
 use Rattle.nj_graph.specs.declared.Kind.TheVariants.{Explicit, Implicit, OrderOnly}
 use Rattle.nj_graph.specs.Edges.{EdgePaths, edge_at, inputs_of, outputs_of, first_output, maker_of}
+use Rattle.nj_graph.specs.EdgeList.{edges_read, paths_of_edges}
+use Rattle.nj_graph.specs.DepsLogs.{with_named}
 use Rattle.nj_graph.specs.Graph.{edges_of, late_text_of, GraphModel, IsGraphOf}
+use Rattle.nj_keys.specs.declared.pages.EdgeKey.{EdgeKey}
 use Rattle.nj_keys.specs.Bases.{mapped, HasNoZero}
+
+-- ---- the edges of the manifest
+
+-- The edges without the inputs that builds discovered, which are their last implicit inputs: `counts` says how many implicit inputs the
+-- manifest itself states for each edge. An edge past the last count keeps all its inputs.
+abbrev pub edges_stated : (counts : List ℕ) → List EdgePaths → List EdgePaths
+edges_stated [] edges = edges
+edges_stated (count ∷ counts) [] = []
+edges_stated (count ∷ counts) (e ∷ edges) =
+    record e { implicit_inputs = take count e.implicit_inputs } ∷ edges_stated counts edges
 
 -- ---- the contents of a key
 
@@ -137,6 +150,15 @@ additions_of texts contents = texts ++ map content_addition contents
 abbrev pub line : List EdgePaths → (edge : ℕ) → (key : List ℕ) → List ℕ
 line edges edge key = encode_lower key ++ 32 ∷ unwrap_or (first_output (edge_at edges edge)) [] ++ 10 ∷ []
 
+-- The keys of the given edges, in their order, with the additions.
+pub data HaveKeys (additions folders : List (List ℕ)) (edges : List EdgePaths) (entries : List ReadStatement) :
+    (numbers : List ℕ) → List EdgeKey → Type 0 where
+  none : HaveKeys additions folders edges entries [] []
+  last : {numbers : List ℕ} {keys : List EdgeKey} {e : ℕ} {key : List ℕ} {next : EdgeKey}
+      → HaveKeys additions folders edges entries numbers keys → IsKey folders edges entries e key
+      → next.edge.0 ≡ e → next.key ≡ key_with additions key
+      → HaveKeys additions folders edges entries (numbers ++ e ∷ []) (keys ++ next ∷ [])
+
 -- The text has a line for each of the given edges, in their order, with its key and the additions.
 pub data ListsKeys (additions folders : List (List ℕ)) (edges : List EdgePaths) (entries : List ReadStatement) :
     (numbers : List ℕ) → (text : List ℕ) → Type 0 where
@@ -252,10 +274,22 @@ abbrev pub KeysAreUnique : Type 0
 KeysAreUnique = (folders : List (List ℕ)) (edges : List EdgePaths) (entries : List ReadStatement) (e : ℕ) (key other : List ℕ)
     → IsKey folders edges entries e key → IsKey folders edges entries e other → key ≡ other
 
--- each edge of a graph has a key, and so has each edge that a walk visits
+-- each edge of a graph has a key, and so has each edge that a walk visits, whatever builds discovered
 abbrev pub EdgesHaveKeys : Type 0
-EdgesHaveKeys = (folders : List (List ℕ)) (g : GraphModel) (entries : List ReadStatement) → IsGraphOf g entries
-    → (e : ℕ) → e < length (edges_of g) → (key : List ℕ) × IsKey folders (edges_of g) entries e key
+EdgesHaveKeys = (folders : List (List ℕ)) (counts : List ℕ) (g : GraphModel) (entries : List ReadStatement) → IsGraphOf g entries
+    → (e : ℕ) → e < length (edges_of g) → (key : List ℕ) × IsKey folders (edges_stated counts (edges_of g)) entries e key
+
+-- how many implicit inputs each edge has
+abbrev pub counts_of : List EdgePaths → List ℕ
+counts_of edges = map (λ e. length e.implicit_inputs) edges
+
+-- Inputs that builds discovered change no key: whatever is joined to the edges of a manifest, an edge has the same key as by the
+-- manifest alone.
+abbrev pub DiscoveriesChangeNoKey : Type 0
+DiscoveriesChangeNoKey = (folders : List (List ℕ)) (named : (edge : ℕ) → List (List ℕ)) (stated : List ReadStatement) (e : ℕ) (key : List ℕ)
+    → IsKey folders (paths_of_edges (edges_read stated)) stated e key
+    ↔ IsKey folders (edges_stated (counts_of (paths_of_edges (edges_read stated))) (paths_of_edges (edges_read (with_named named stated))))
+    (with_named named stated) e key
 
 -- two different texts have the same SHA-256
 abbrev pub HasConfusion : Type 0
@@ -280,6 +314,12 @@ AdditionsTell = (additions others folders bases : List (List ℕ)) (e f : Stated
 abbrev pub AdditionsTellContents : Type 0
 AdditionsTellContents = (texts others contents more : List (List ℕ)) → All HasNoZero texts → All HasNoZero others
     → additions_of texts contents ≡ additions_of others more → ((texts ≡ others) × (contents ≡ more)) ⊎ HasConfusion
+
+-- a list of edges has only one list of keys
+abbrev pub ListsOfKeysAreUnique : Type 0
+ListsOfKeysAreUnique = (additions folders : List (List ℕ)) (edges : List EdgePaths) (entries : List ReadStatement)
+    (numbers : List ℕ) (keys others : List EdgeKey) → HaveKeys additions folders edges entries numbers keys
+    → HaveKeys additions folders edges entries numbers others → keys ≡ others
 
 -- a list of edges has only one text
 abbrev pub LinesAreUnique : Type 0

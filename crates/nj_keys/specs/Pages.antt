@@ -7,6 +7,7 @@ use Rattle.nj_needs.specs.PageWalks.{written, StopsAt}
 use Rattle.nj_needs.specs.Walks.{BeginsAt, WalkState}
 use Rattle.nj_graph.specs.ReadingList.{ReadStatement}
 use Rattle.nj_graph.specs.declared.FileNo.{FileNo}
+use Rattle.nj_graph.specs.Edges.{EdgePaths}
 use Rattle.nj_graph.specs.Files.{path_at}
 use Rattle.nj_graph.specs.Graph.{edges_of, files_of, IsGraphOf}
 use Rattle.nj_graph.specs.Handles.{commands_needed, edges_in, GraphFiles}
@@ -54,19 +55,20 @@ PagesLeaveTheRest = (files : GraphFiles) (entries : List ReadStatement) → IsGr
     → IfSome next (λ m. leads files m ≡ true) × (left_at files mark ≡ written limit (left_at files mark) ++ left_from files next)
 
 -- The texts of pages with any limits: each page begins at the mark where the page before stopped, and the last page stops
--- without a mark.
-pub data ArePages (additions folders : List (List ℕ)) (files : GraphFiles) (entries : List ReadStatement) :
+-- without a mark. The keys are those of the given edges.
+pub data ArePages (additions folders : List (List ℕ)) (edges : List EdgePaths) (files : GraphFiles) (entries : List ReadStatement) :
     (mark : Option (List ℕ)) → (texts : List (List ℕ)) → Type 0 where
-  none : ArePages additions folders files entries None []
+  none : ArePages additions folders edges files entries None []
   page : {mark text : List ℕ} {next : Option (List ℕ)} {texts : List (List ℕ)} (limit : Option ℕ) → StopsFrom files mark limit next
-      → ListsKeys additions folders (edges_of files.graph) entries (written limit (left_at files mark)) text
-      → ArePages additions folders files entries next texts → ArePages additions folders files entries (Some mark) (text ∷ texts)
+      → ListsKeys additions folders edges entries (written limit (left_at files mark)) text
+      → ArePages additions folders edges files entries next texts → ArePages additions folders edges files entries (Some mark) (text ∷ texts)
 
 -- so the texts of pages, one after another, are the text of all edges that were left at the first mark
 abbrev pub PagesAreAll : Type 0
-PagesAreAll = (additions folders : List (List ℕ)) (files : GraphFiles) (entries : List ReadStatement) → IsGraphOf files.graph entries
-    → (mark : List ℕ) (texts : List (List ℕ)) → ArePages additions folders files entries (Some mark) texts
-    → ListsKeys additions folders (edges_of files.graph) entries (left_at files mark) (concat texts)
+PagesAreAll = (additions folders : List (List ℕ)) (edges : List EdgePaths) (files : GraphFiles) (entries : List ReadStatement)
+    → IsGraphOf files.graph entries
+    → (mark : List ℕ) (texts : List (List ℕ)) → ArePages additions folders edges files entries (Some mark) texts
+    → ListsKeys additions folders edges entries (left_at files mark) (concat texts)
 
 -- and at the empty mark, before the first page, every command that the files need is left
 abbrev pub StartLeavesAll : Type 0

@@ -1,7 +1,7 @@
 //! Texts that go into every key.
 
-ghost use Rattle.std.specs.Prelude.{◌≡◌, ◌++◌, ◌∷◌, IfOk, OnOk, length, map, string_bytes};
-ghost use Rattle.nj_keys.specs.Cited.{additions_text, content_addition, digest_of_additions, encode_lower, field, flat_map, key_after, number, sha256};
+ghost use Rattle.std.specs.Prelude.{◌≡◌, ◌++◌, ◌∷◌, IfOk, OnOk, length, map};
+ghost use Rattle.nj_keys.specs.Cited.{additions_text, content_addition, digest_of_additions, field, flat_map, key_after, number, sha256};
 
 use crate::fields::{Key, push_field, push_number};
 use sha2::{Digest, Sha256};
@@ -59,18 +59,17 @@ fn push_additions(text: &mut Vec<u8>, additions: &[&[u8]]) -> Result<(), AllocEr
     Ok(())
 }
 
-/// Returns the hexadecimal digits of a key with additions that have the given digest.
-pub(crate) fn digits_of(
+/// Returns a key with additions that have the given digest.
+pub(crate) fn with_additions(
     alloc: Global,
     additions: Option<Key>,
-    key: &[u8],
-) -> Result<String, AllocError>
-    ensures { IfOk result (λ digits.
-        string_bytes digits ≡ encode_lower (key_after additions key.now)) }
+    key: Key,
+) -> Result<Key, AllocError>
+    ensures { IfOk result (λ added. added ≡ key_after additions key) }
 {
     match additions {
-        Some(digest) => hex::encode(alloc, &key_after(alloc, &digest, key)?),
-        None => hex::encode(alloc, key),
+        Some(digest) => key_after(alloc, &digest, &key),
+        None => Ok(key),
     }
 }
 

@@ -1,7 +1,7 @@
 //! The contents of an edge's key.
 
-ghost use Rattle.std.specs.Prelude.{◌≡◌, ◌++◌, codes, IfOk, OnOk, length, map};
-ghost use Rattle.nj_keys.specs.Cited.{edges_of, OfEdge, edge_of, file_of, paths_of, flat_map, outputs_of, maker_of, mapped, bars, field, fields_of, fields_text, input_text, inputs_with_keys, maker_key, number, response_of, variable_of, kept_key, input_texts, path_texts};
+ghost use Rattle.std.specs.Prelude.{◌≡◌, ◌++◌, codes, IfOk, OnOk, length, map, slice_get};
+ghost use Rattle.nj_keys.specs.Cited.{edges_of, OfEdge, edge_at, edge_of, edges_stated, file_of, files_in, paths_of, flat_map, outputs_of, maker_of, mapped, bars, field, fields_of, fields_text, input_text, inputs_with_keys, maker_key, number, response_of, variable_of, kept_key, input_texts, path_texts};
 
 use crate::bases::Bases;
 use itoa::Buffer;
@@ -11,22 +11,25 @@ use std::alloc::{AllocError, Global};
 // The key of an edge.
 pub(crate) type Key = [u8; 32];
 
-/// Returns the text of the fields of an edge. The keys of the edges that make its inputs are kept.
+/// Returns the text of the fields of an edge, without discovered inputs. The keys of the edges that
+/// make its inputs are kept.
 pub(crate) fn fields_text(
     alloc: Global,
     edge: Edge<'_>,
     bases: &Bases,
+    counts: &[usize],
     keys: &[Option<Key>],
 ) -> Result<Vec<u8>, AllocError>
     ensures { OfEdge (edge_of edge.entry) (λ entries number.
         IfOk result (λ text. text.items ≡ fields_text (fields_of bases.now
-        (edges_of (edge_of edge.entry).graph) entries (kept_key keys.now) number))) }
+        (edges_stated counts.now (edges_of (edge_of edge.entry).graph)) entries
+        (kept_key keys.now) number))) }
 {
     let mut text = Vec::new(alloc);
     push_command(&mut text, edge, bases)?;
     push_response(&mut text, edge, bases)?;
     push_outputs(&mut text, edge, bases)?;
-    push_inputs(&mut text, edge, bases, keys)?;
+    push_inputs(&mut text, edge, bases, counts, keys)?;
     Ok(text)
 }
 
@@ -89,20 +92,49 @@ fn push_paths(text: &mut Vec<u8>, files: Files<'_>, bases: &Bases) -> Result<(),
     Ok(())
 }
 
-// Appends the inputs of an edge, kind by kind.
+// Appends the inputs of an edge, kind by kind, without discovered inputs.
 fn push_inputs(
     text: &mut Vec<u8>,
     edge: Edge<'_>,
     bases: &Bases,
+    counts: &[usize],
     keys: &[Option<Key>],
 ) -> Result<(), AllocError>
     ensures { OnOk result (text.new.items ≡ text.old.items ++ flat_map input_text
         (inputs_with_keys bases.now (edges_of (edge_of edge.entry).graph) (kept_key keys.now)
-        (paths_of (edge_of edge.entry)))) }
+        (edge_at (edges_stated counts.now (edges_of (edge_of edge.entry).graph))
+        (edge_of edge.entry).number))) }
 {
     push_files(text, Kind::Explicit, edge.explicit_inputs(), bases, keys)?;
-    push_files(text, Kind::Implicit, edge.implicit_inputs(), bases, keys)?;
+    push_files(
+        text,
+        Kind::Implicit,
+        stated_inputs(edge, counts),
+        bases,
+        keys,
+    )?;
     push_files(text, Kind::OrderOnly, edge.order_only_inputs(), bases, keys)
+}
+
+/// Returns the implicit inputs that the manifest itself states for an edge: as many as `counts` says,
+/// or all if it has no count for the edge.
+pub(crate) fn stated_inputs<'g>(edge: Edge<'g>, counts: &[usize]) -> Files<'g>
+    ensures { result ≡ files_in (edge_of edge.entry).graph
+        (edge_at (edges_stated counts.now (edges_of (edge_of edge.entry).graph))
+        (edge_of edge.entry).number).implicit_inputs }
+{
+    let inputs = edge.implicit_inputs();
+    match count_of(counts, edge) {
+        Some(count) => inputs.split_at(count).0,
+        None => inputs,
+    }
+}
+
+// Returns the count for an edge; `None` if there is none.
+fn count_of(counts: &[usize], edge: Edge<'_>) -> Option<usize>
+    ensures { result ≡ slice_get counts.now (edge_of edge.entry).number }
+{
+    counts.get(edge.number().0).copied()
 }
 
 // Appends inputs of a kind: for each its kind, its path and the key of the edge that makes it.

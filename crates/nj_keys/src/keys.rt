@@ -1,7 +1,7 @@
 //! The keys of edges, each from the keys of the edges that make its inputs.
 
 ghost use Rattle.std.specs.Prelude.{◌≡◌, ℕ, IfNone, IfOk, IfSome, OnOk, Some, length};
-ghost use Rattle.nj_keys.specs.Cited.{edges_of, GraphEdge, OfEdge, edge_of, file_of, IsKey, Needs, inputs_in, made_by, IsAcyclic, IsKept, IsMissing, KeepsKeys, MakesOne};
+ghost use Rattle.nj_keys.specs.Cited.{edges_of, edges_stated, GraphEdge, OfEdge, edge_of, file_of, IsKey, Needs, inputs_in, made_by, IsAcyclic, IsKept, IsMissing, KeepsKeys, MakesOne};
 
 use crate::bases::Bases;
 use crate::fields::{Key, fields_text};
@@ -17,18 +17,21 @@ struct Frame<'g> {
 }
 
 // Keeps the key of an edge, after the missing keys of all edges that it needs. `keys` has a place
-// for each edge.
+// for each edge. Discovered inputs are not part of a key, but their makers get keys too.
 pub(crate) fn keep_key(
     alloc: Global,
     edge: Edge<'_>,
     bases: &Bases,
+    counts: &[usize],
     keys: &mut [Option<Key>],
 ) -> Result<(), AllocError>
     requires count { length keys.old ≡ length (edges_of (edge_of edge).graph) }
     requires acyclic { IsAcyclic (edges_of (edge_of edge).graph) }
     ensures keys { OfEdge (edge_of edge.entry) (λ entries number.
-        KeepsKeys bases.now (edges_of (edge_of edge.entry).graph) entries keys.old
-        → KeepsKeys bases.now (edges_of (edge_of edge.entry).graph) entries keys.new) }
+        KeepsKeys bases.now (edges_stated counts.now (edges_of (edge_of edge.entry).graph))
+        entries keys.old
+        → KeepsKeys bases.now (edges_stated counts.now (edges_of (edge_of edge.entry).graph))
+        entries keys.new) }
     ensures kept { OnOk result (IsKept keys.new (edge_of edge.entry).number) }
 {
     if keys[edge.number().0].is_some() {
@@ -44,7 +47,7 @@ pub(crate) fn keep_key(
                 open.push(Frame { edge: user, inputs })?;
                 open.push(opened(maker))?;
             }
-            None => keys[user.number().0] = Some(key_of(alloc, user, bases, keys)?),
+            None => keys[user.number().0] = Some(key_of(alloc, user, bases, counts, keys)?),
         }
     }
     Ok(())
@@ -100,15 +103,17 @@ fn key_of(
     alloc: Global,
     edge: Edge<'_>,
     bases: &Bases,
+    counts: &[usize],
     keys: &[Option<Key>],
 ) -> Result<Key, AllocError>
     requires { (maker : ℕ)
         → Needs (edges_of (edge_of edge).graph) (edge_of edge).number maker
         → IsKept keys.now maker }
     ensures { OfEdge (edge_of edge.entry) (λ entries number.
-        KeepsKeys bases.now (edges_of (edge_of edge.entry).graph) entries keys.now → IfOk result
-        (λ key. IsKey bases.now (edges_of (edge_of edge.entry).graph) entries number key)) }
+        KeepsKeys bases.now (edges_stated counts.now (edges_of (edge_of edge.entry).graph))
+        entries keys.now → IfOk result (λ key. IsKey bases.now
+        (edges_stated counts.now (edges_of (edge_of edge.entry).graph)) entries number key)) }
 {
-    let fields = fields_text(alloc, edge, bases, keys)?;
+    let fields = fields_text(alloc, edge, bases, counts, keys)?;
     Ok(Sha256::digest(fields.as_slice()))
 }

@@ -1,6 +1,6 @@
 //! Laws of keys and their lines.
 
-ghost use Rattle.nj_keys.specs.Cited.{AdditionsTell, AdditionsTellContents, EdgesHaveKeys, KeysAreUnique, LinesAreUnique, PagesOfLinesJoin, TextsTellFields, MappedTells, TextsTellEdges, TextsTellMapped, KeysTellFields, PagesAreAll, PagesLeaveTheRest, StartLeavesAll};
+ghost use Rattle.nj_keys.specs.Cited.{AdditionsTell, AdditionsTellContents, DiscoveriesChangeNoKey, EdgesHaveKeys, KeysAreUnique, LinesAreUnique, ListsOfKeysAreUnique, PagesOfLinesJoin, TextsTellFields, MappedTells, TextsTellEdges, TextsTellMapped, KeysTellFields, PagesAreAll, PagesLeaveTheRest, StartLeavesAll};
 
 /// Bases lose nothing: two texts without a zero byte are the same if they agree once numbers stand
 /// for the same directories.
@@ -41,9 +41,10 @@ pub fn additions_law()
     ensures contents { AdditionsTellContents }
 {}
 
-/// A list of edges has only one text, and the texts of pages, one after another, are the text of
-/// all their edges.
+/// A list of edges has only one list of keys and only one text, and the texts of pages, one after
+/// another, are the text of all their edges.
 pub fn lines_law()
+    ensures keys { ListsOfKeysAreUnique }
     ensures unique { LinesAreUnique }
     ensures join { PagesOfLinesJoin }
 {}
@@ -56,4 +57,10 @@ pub fn pages_law()
     ensures rest { PagesLeaveTheRest }
     ensures all { PagesAreAll }
     ensures start { StartLeavesAll }
+{}
+
+/// Inputs that builds discovered change no key: an edge has the same key before anything was built
+/// and after, if the manifest is the same.
+pub fn discoveries_law()
+    ensures { DiscoveriesChangeNoKey }
 {}

@@ -10,5 +10,8 @@ mod pages;
 
 pub use additions::content_addition;
 pub use bases::Bases;
-pub use laws::{additions_law, bases_law, edges_law, fields_law, keys_law, lines_law, pages_law};
-pub use pages::{Page, page_from};
+pub use laws::{
+    additions_law, bases_law, discoveries_law, edges_law, fields_law, keys_law, lines_law,
+    pages_law,
+};
+pub use pages::{EdgeKey, KeyPage, Page, keys_from, page_from};

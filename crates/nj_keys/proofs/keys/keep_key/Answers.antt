@@ -5,7 +5,7 @@ use Rattle.nj_graph.specs.Graph.{edges_of, GraphModel, IsGraphOf}
 use Rattle.nj_graph.specs.ReadingList.{ReadStatement}
 use Rattle.nj_graph.specs.Handles.{edge_of}
 use Rattle.nj_keys.specs.declared.keys.Frame.{Frame}
-use Rattle.nj_keys.specs.Keys.{IsKey}
+use Rattle.nj_keys.specs.Keys.{IsKey, edges_stated}
 use Rattle.nj_keys.specs.Inside.Keeping.{AreOpen, BeganWith, IsMissing, KeepsKeys}
 use Rattle.nj_keys.proofs.MakerLemmas.{kept-at, missing-at}
 use Rattle.nj_keys.proofs.OpenLemmas.{began-closed, began-next, keys-set, makers-kept, missing-set}
@@ -121,6 +121,8 @@ open-preserved c =
     let i = c.open.invariant in
     let edge = edge_of c.args.edge in
     let bases = c.args.bases.now in
+    let counts = c.args.counts.now in
+    let stated = edges_stated counts (edges_of edge.graph) in
     let keys = c.open.keys in
     let frame = c.in-Some.frame in
     let user = edge_of frame.edge in
@@ -134,7 +136,8 @@ open-preserved c =
     let within : user.number < length keys =
     omega (arith, place, known, c.number-in-None.ensures.known, c.requires.count, c.open.auto.keys) in
     let is_key = subst (λ (g : GraphModel). (entries : List ReadStatement) → IsGraphOf g entries
-    → KeepsKeys bases (edges_of g) entries keys → IsKey bases (edges_of g) entries user.number key)
+    → KeepsKeys bases (edges_stated counts (edges_of g)) entries keys
+    → IsKey bases (edges_stated counts (edges_of g)) entries user.number key)
     are.0.graph c.in_ok-key_of-in-None.ensures in
     record {
       rank = i.rank;
@@ -146,7 +149,6 @@ open-preserved c =
           (subst (BeganWith keys edge.number) popped i.began));
       keys = λ entries graph kept.
           let so_far = i.keys entries graph kept in
-          subst (λ n. KeepsKeys bases (edges_of edge.graph) entries (set keys n (Some key))) place
-          (keys-set keys user.number key bases (edges_of edge.graph) entries (is_key entries graph so_far)
-          so_far);
+          subst (λ n. KeepsKeys bases stated entries (set keys n (Some key))) place
+          (keys-set keys user.number key bases stated entries (is_key entries graph so_far) so_far);
     }

@@ -1,3 +1,4 @@
+use Rattle.nj_keys.proofs.KeyLines.{one-list}
 use Rattle.nj_keys.proofs.LineLaws.{join, one}
 use Rattle.nj_keys.proofs.laws.lines_law.Goals as goal
 
@@ -6,3 +7,6 @@ returns-clause-unique c = one
 
 pub returns-clause-join : goal.returns-clause-join
 returns-clause-join c = join
+
+pub returns-clause-keys : goal.returns-clause-keys
+returns-clause-keys c = one-list

@@ -1,34 +1,34 @@
-use Rattle.std.proofs.Common.{map, subst, true}
+use Rattle.std.proofs.Common.{◌<◌, ◌∙◌, ap, length, map, subst, sym}
+use Rattle.std.specs.Prelude.{All}
+use Rattle.std.specs.List.{flat_map}
 use Rattle.nj_graph.specs.Graph.{GraphModel, edges_of}
 use Rattle.nj_needs.specs.PageWalks.{written}
-use Rattle.nj_keys.specs.Keys.{ListsKeys}
-use Rattle.nj_keys.proofs.PageLemmas.{begins-after, leads-is, left-is}
+use Rattle.nj_keys.specs.Keys.{ListsKeys, edges_stated, line}
+use Rattle.nj_keys.specs.Pages.{left_at}
+use Rattle.nj_keys.specs.declared.pages.EdgeKey.{EdgeKey}
+use Rattle.nj_keys.proofs.KeyLines.{lines-of}
 use Rattle.nj_keys.proofs.pages.page_from.Goals as goal
 
-pub returns-clause-valid : goal.returns-clause-valid
-returns-clause-valid c =
-    leads-is c.args.targets.now c.graph-graph.result.now c.numbers.result.now c.graph-graph.ensures
-    c.numbers.ensures.paths
-    c.args.mark.now true (rw c.deref.ensures at c.in_ok-needs.ensures.0)
+pub lines_of-requires : goal.lines_of-requires
+lines_of-requires c =
+    subst (λ (h : GraphModel). All (λ (n : EdgeKey). n.edge.0 < length (edges_of h)) c.deref.result.now)
+    (sym c.graph-graph.ensures)
+    (subst (All (λ (n : EdgeKey). n.edge.0 < length (edges_of c.args.targets.now.graph)))
+    (sym c.deref.ensures.value) c.in_ok-page.ensures.known)
 
 pub returns-clause-lines : goal.returns-clause-lines
 returns-clause-lines c entries graph =
-    let needs = c.in_ok-needs.needs in
-    let left = left-is c.args.targets.now c.graph-graph.result.now c.numbers.result.now c.graph-graph.ensures
-    c.numbers.ensures.paths c.args.mark.now needs (rw c.deref.ensures at c.in_ok-needs.ensures.1) in
-    subst (λ numbers. ListsKeys (map (λ text. text.now) c.args.additions.now) c.args.bases.now
-    (edges_of c.args.targets.now.graph) entries
-    (written c.args.take numbers) c.in_ok-page.page.lines.items) left
-    (subst (λ (h : GraphModel). ListsKeys (map (λ text. text.now) c.args.additions.now) c.args.bases.now
-    (edges_of h) entries
-    (written c.args.take needs.left) c.in_ok-page.page.lines.items) c.graph-graph.ensures
-    (c.in_ok-page.ensures.lines entries (rw c.graph-graph.ensures graph)))
-
-pub returns-clause-mark : goal.returns-clause-mark
-returns-clause-mark c = (
-  c.in_ok-needs.needs,
-  begins-after c.args.targets.now c.graph-graph.result.now c.numbers.result.now c.graph-graph.ensures
-      c.numbers.ensures.paths c.args.mark.now c.in_ok-needs.needs
-      (rw c.deref.ensures at c.in_ok-needs.ensures.1),
-  c.in_ok-page.ensures.mark,
-)
+    let files = c.args.targets.now in
+    let edges = edges_of files.graph in
+    let counts = c.args.counts.now in
+    let additions = map (λ text. text.now) c.args.additions.now in
+    let numbers = written c.args.take (left_at files c.args.mark.now) in
+    let page = c.in_ok-page.page in
+    let lines_are = c.in_ok-lines.ensures
+    ∙ ap (flat_map (λ (n : EdgeKey). line (edges_of c.graph-graph.result.now) n.edge.0 n.key))
+    c.deref.ensures.value
+    ∙ ap (λ (h : GraphModel). flat_map (λ (n : EdgeKey). line (edges_of h) n.edge.0 n.key) page.keys.items)
+    c.graph-graph.ensures in
+    subst (ListsKeys additions c.args.bases.now (edges_stated counts edges) entries numbers) (sym lines_are)
+    (lines-of additions c.args.bases.now counts edges entries numbers page.keys.items
+    (c.in_ok-page.ensures.keys entries graph))

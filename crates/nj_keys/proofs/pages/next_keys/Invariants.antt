@@ -1,0 +1,25 @@
+use Rattle.std.proofs.Common.{◌<◌, ℕ, List, length, map}
+use Rattle.std.specs.Prelude.{All}
+use Rattle.nj_graph.specs.ReadingList.{ReadStatement}
+use Rattle.nj_needs.specs.PageWalks.{HasSoFar}
+use Rattle.nj_graph.specs.Graph.{edges_of, IsGraphOf}
+use Rattle.nj_keys.specs.Keys.{HaveKeys, edges_stated}
+use Rattle.nj_keys.specs.Inside.Keeping.{KeepsKeys}
+use Rattle.nj_keys.specs.declared.pages.EdgeKey.{EdgeKey}
+use Rattle.nj_keys.proofs.pages.next_keys.Given as goal
+
+abbrev pub invariant-commands : goal.invariant-commands
+invariant-commands l = record {
+  numbers : List ℕ;
+  page : HasSoFar l.fn.needs l.fn.take numbers l.needs l.room;
+  kept : (entries : List ReadStatement) → IsGraphOf l.graph entries
+      → KeepsKeys l.bases (edges_stated l.counts (edges_of l.graph)) entries l.kept_keys;
+  keys : (entries : List ReadStatement) → IsGraphOf l.graph entries
+      → HaveKeys (map (λ text. text.now) l.additions) l.bases (edges_stated l.counts (edges_of l.graph))
+      entries
+      numbers l.keys.items;
+  known : All (λ (next : EdgeKey). next.edge.0 < length (edges_of l.graph)) l.keys.items;
+}
+
+abbrev pub decreases-commands : goal.decreases-commands
+decreases-commands l = length l.needs.left
