@@ -4,3 +4,4 @@ pub mod PathLemmas
 pub mod ReportLemmas
 pub mod SlowestLemmas
 pub mod TimesRows
+pub mod OrderedLemmas

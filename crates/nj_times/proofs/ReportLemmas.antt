@@ -2,8 +2,7 @@
 use Rattle.std.proofs.Common.{◌≡◌, ◌++◌, ◌∙◌, ℕ, Bool, true, Option, List, [], ap, append_assoc, codes, subst}
 use Rattle.std.proofs.Common.{sym}
 use Rattle.std.specs.Fmt.{decimal}
-use Rattle.std.specs.Prelude.{nat_eq}
-use Rattle.std.specs.List.{IsDistinct}
+use Rattle.std.specs.List.Sorted.{IsStrictlyIncreasing}
 use Rattle.nj_build_log.specs.Logs.{LineModel}
 use Rattle.nj_edges.specs.Edges.{EdgePaths}
 use Rattle.nj_times.specs.Times.{durations_of}
@@ -53,17 +52,17 @@ object_text start commands unknown sum critical none =
 -- what is written is a report
 pub reported : (edges : List EdgePaths) (lines : List LineModel) (files : List (List ℕ)) (top : Option ℕ)
     (is_json : Bool) (durations : List (Option ℕ)) (needed commands path shown text : List ℕ)
-    → durations ≡ durations_of lines edges → AreNeededBy edges files needed → IsDistinct nat_eq needed
+    → durations ≡ durations_of lines edges → AreNeededBy edges files needed → IsStrictlyIncreasing needed
     → commands ≡ commands_in edges needed → IsCriticalPath edges files durations path
     → AreShown durations top commands path shown
     → text ≡ report_text edges durations is_json commands path shown
     → IsReport edges lines files top is_json text
-reported edges lines files top is_json durations needed commands path shown text are are_needed once
+reported edges lines files top is_json durations needed commands path shown text are are_needed rises
     commands_are
     critical are_shown text_is = record {
       needed = needed;
       are_needed = are_needed;
-      once = once;
+      rises = rises;
       path = path;
       critical = subst (λ (ds : List (Option ℕ)). IsCriticalPath edges files ds path) are critical;
       shown = shown;

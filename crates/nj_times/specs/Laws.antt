@@ -1,4 +1,4 @@
--- Laws of critical paths: there is one, and what it means for a build.
+-- Laws of critical paths and of slowest edges: there is one, and what a critical path means for a build.
 use Rattle.std.specs.Prelude.{◌≡◌, ℕ, ◌+◌, ◌≤◌, Option, List, ◌∷◌}
 use Rattle.nj_cycles.specs.Cycles.{Needs}
 use Rattle.nj_edges.specs.Edges.{EdgePaths}
@@ -6,6 +6,7 @@ use Rattle.nj_edges.specs.Distances.{IsNeeded}
 use Rattle.nj_edges.specs.Needs.{makers_of_inputs}
 use Rattle.nj_times.specs.Times.{sum_of, time_at}
 use Rattle.nj_times.specs.Critical.{IsCriticalPath}
+use Rattle.nj_times.specs.Slowest.{AreSlowest}
 
 -- When each edge ends in a build of the files that began at 0, if each takes its duration and starts after the makers of its inputs end.
 -- How many edges run at once is left open.
@@ -24,3 +25,8 @@ BuildsTakeTheCriticalPath = (edges : List EdgePaths) (files : List (List ℕ)) (
 abbrev pub OnePathIsCritical : Type 0
 OnePathIsCritical = (edges : List EdgePaths) (files : List (List ℕ)) (durations : List (Option ℕ)) (path other : List ℕ)
     → IsCriticalPath edges files durations path → IsCriticalPath edges files durations other → path ≡ other
+
+-- edges and their durations determine the slowest of the edges
+abbrev pub OneListIsSlowest : Type 0
+OneListIsSlowest = (durations : List (Option ℕ)) (edges : List ℕ) (count : ℕ) (slowest other : List ℕ)
+    → AreSlowest durations edges count slowest → AreSlowest durations edges count other → slowest ≡ other

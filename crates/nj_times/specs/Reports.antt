@@ -1,7 +1,8 @@
 -- What is written of where the time of a build went.
-use Rattle.std.specs.Prelude.{◌≡◌, ℕ, ◌/◌, ◌%◌, Bool, true, false, not, if◌then◌else◌, Option, Some, None, unwrap_or, List, [], ◌∷◌, ◌++◌, length, reverse, codes, nat_eq}
+use Rattle.std.specs.Prelude.{◌≡◌, ℕ, ◌/◌, ◌%◌, Bool, true, false, not, if◌then◌else◌, Option, Some, None, unwrap_or, List, [], ◌∷◌, ◌++◌, length, reverse, codes}
 use Rattle.std.specs.Fmt.{decimal}
-use Rattle.std.specs.List.{IsDistinct, filter, flat_map}
+use Rattle.std.specs.List.{filter, flat_map}
+use Rattle.std.specs.List.Sorted.{IsStrictlyIncreasing}
 use Rattle.std.specs.Str.Lossy.{utf8_lossy}
 use Rattle.serde_json.specs.Data.{string}
 use Rattle.serde_json.specs.Written.{compact_text}
@@ -63,12 +64,12 @@ report_text edges durations is_json commands path shown =
     summary is_json (length commands) (unknown_of durations commands) (sum_of durations commands) (sum_of durations path)
     ++ flat_map (edge_line edges durations is_json) shown
 
--- the report on the edges that files need, by the lines of a build log
+-- the report on the edges that files need, in the order of the manifest, by the lines of a build log
 pub record IsReport (edges : List EdgePaths) (lines : List LineModel) (files : List (List ℕ)) (top : Option ℕ) (is_json : Bool)
     (text : List ℕ) : Type 0 where
   pub needed : List ℕ
   pub are_needed : AreNeededBy edges files needed
-  pub once : IsDistinct nat_eq needed
+  pub rises : IsStrictlyIncreasing needed
   pub path : List ℕ
   pub critical : IsCriticalPath edges files (durations_of lines edges) path
   pub shown : List ℕ

@@ -1,7 +1,7 @@
 //! What is written of where the time of a build went.
 
 ghost use Rattle.std.specs.Prelude.{◌≡◌, ◌++◌, ◌<◌, ℕ, All, IfOk, OnOk, codes, false, length, map, reverse, true};
-ghost use Rattle.nj_times.specs.Cited.{AreShown, IsReport, commands_in, compact_text, decimal, duration_text, duration_value, edge_line, flat_map, output_of, path_at, report_text, seconds, string, summary, utf8_lossy};
+ghost use Rattle.nj_times.specs.Cited.{AreNeededBy, AreShown, IsReport, IsStrictlyIncreasing, commands_in, compact_text, decimal, duration_text, duration_value, edge_line, flat_map, output_of, path_at, report_text, seconds, string, summary, utf8_lossy};
 
 use crate::edge_times::{duration_at, durations, first_output, sum_of, unknown_of};
 use crate::path::critical_path;
@@ -25,8 +25,8 @@ struct Sums {
 /// edge of the critical path, from its first edge to its last, or for each of the `top` slowest
 /// commands. With `is_json` the lines are objects of JSON.
 ///
-/// Takes time in proportion to all edges and their inputs; with `top` also to the commands times
-/// the logarithm of their number. Fails only if an allocation fails.
+/// Takes time in proportion to all edges and their inputs, and to the needed edges times the
+/// logarithm of their number. Fails only if an allocation fails.
 pub fn report(
     alloc: Global,
     graph: &EdgeGraph,
@@ -40,11 +40,30 @@ pub fn report(
         (map (path_at graph.now.files) files.now) top is_json text.items) }
 {
     let durations = durations(alloc, graph, log)?;
-    let needed = graph.needed_by(alloc, files)?;
+    let needed = needed_edges(alloc, graph, files)?;
     let commands = commands_in(alloc, graph, &needed)?;
     let path = critical_path(alloc, graph, &durations, &needed)?;
     let shown = shown_of(alloc, &durations, top, &commands, &path)?;
     written(alloc, graph, &durations, is_json, &commands, &path, &shown)
+}
+
+// The edges that files need, in the order of the manifest.
+fn needed_edges(
+    alloc: Global,
+    graph: &EdgeGraph,
+    files: &[FileNo],
+) -> Result<Vec<EdgeNo>, AllocError>
+    requires { All (λ file. file.0 < length graph.now.files) files.now }
+    ensures needed { IfOk result (λ needed. AreNeededBy graph.now.edges
+        (map (path_at graph.now.files) files.now) (map (λ edge. edge.0) needed.items)) }
+    ensures rises { IfOk result (λ needed.
+        IsStrictlyIncreasing (map (λ edge. edge.0) needed.items)) }
+    ensures known { IfOk result (λ needed.
+        All (λ edge. edge.0 < length graph.now.edges) needed.items) }
+{
+    let mut needed = graph.needed_by(alloc, files)?;
+    needed.sort_unstable_by_key(|edge| edge.0);
+    Ok(needed)
 }
 
 // The text of a report.

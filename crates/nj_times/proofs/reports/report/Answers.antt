@@ -36,7 +36,7 @@ returns c =
     IfOk-weaker c.written.result _ _
     (λ text is. reported edges c.args.log.now.lines files c.args.top is_json durations needed commands path
     shown
-    text.items c.in_ok-durations.ensures c.in_ok-needed.ensures.needed c.in_ok-needed.ensures.each_once
+    text.items c.in_ok-durations.ensures c.in_ok-needed.ensures.needed c.in_ok-needed.ensures.rises
     commands_are
     critical are_shown
     (is
