@@ -25,6 +25,7 @@ _ninja_graph_options() {
         audit) echo '--all --only --except --json --list' ;;
         keys) echo '--base --with --with-file --take --resume' ;;
         stale) echo '--why --json --no-manifest' ;;
+        times) echo '--top --json' ;;
         tests)
             echo '--ctest --meson --source-dir -z --ignore --ignore-unknown --allow-empty --format --why --json --unnamed'
             ;;
@@ -68,7 +69,7 @@ _ninja_graph_words() {
             --) ended=yes ;;
             -C | -f | --deps-log-file | --source-dir | --ignore | --rule | --prefix | --only | --except | \
                 --base | --with | --with-file | --take | --resume | --limit | --inputs | --ctest | --meson | \
-                --format | --unnamed)
+                --format | --unnamed | --top)
                 [[ ${COMP_WORDS[index + 1]} == '=' ]] && ((index++))
                 if ((++index >= COMP_CWORD)); then
                     wanted=$option
@@ -125,11 +126,11 @@ _ninja_graph() {
     elif [[ ! $subcommand && $current == -* ]]; then
         offer=(-W '-h --help -V --version')
     elif [[ ! $subcommand ]]; then
-        offer=(-W 'affected audit draw json keys stale tests why')
+        offer=(-W 'affected audit draw json keys stale tests times why')
     elif [[ ! $ended && $current == -* ]]; then
         offer=(-W "-C -f --dyndep --deps --deps-log-file -h --help --
             $(_ninja_graph_options "$subcommand")")
-    elif [[ $subcommand == draw || $subcommand == keys || $subcommand == stale || $subcommand == why ]]; then
+    elif [[ $subcommand =~ ^(draw|keys|stale|times|why)$ ]]; then
         _ninja_graph_offer_targets
     fi
 

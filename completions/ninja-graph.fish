@@ -19,6 +19,7 @@ function __ninja_graph_subcommands
         keys 'A key for each command that targets need' \
         stale 'What Ninja would run now' \
         tests 'The tests that a change of files reaches' \
+        times 'Where the time of the last builds went' \
         why 'A chain of inputs by which a file needs another'
 end
 
@@ -104,7 +105,7 @@ complete -c ninja-graph -n '__ninja_graph_is affected' -l ignore-unknown \
     -d 'Do not report paths that no edge names'
 complete -c ninja-graph -n '__ninja_graph_is affected' -l allow-empty -d 'Accept an input without a changed path'
 
-complete -c ninja-graph -n '__ninja_graph_is draw keys stale why' -a '(__ninja_graph_targets)'
+complete -c ninja-graph -n '__ninja_graph_is draw keys stale times why' -a '(__ninja_graph_targets)'
 complete -c ninja-graph -n '__ninja_graph_is draw' -l affected -d 'Draw the edges that a change of the files affects'
 complete -c ninja-graph -n '__ninja_graph_is draw' -l fold -d 'Draw each phony edge as a point'
 complete -c ninja-graph -n '__ninja_graph_is draw' -l limit -x -d 'How many nodes at most'
@@ -132,6 +133,9 @@ complete -c ninja-graph -n '__ninja_graph_is stale' -l why -d 'Write the first r
 complete -c ninja-graph -n '__ninja_graph_is stale' -l json -d 'An object of JSON for each stale edge'
 complete -c ninja-graph -n '__ninja_graph_is stale' -l no-manifest \
     -d 'Do not ask whether the manifest itself is stale'
+
+complete -c ninja-graph -n '__ninja_graph_is times' -l top -x -d 'The slowest commands, at most so many'
+complete -c ninja-graph -n '__ninja_graph_is times' -l json -d 'An object of JSON for each line'
 
 complete -c ninja-graph -n '__ninja_graph_is tests' -l ctest -r -F -d 'What ctest --show-only=json-v1 wrote'
 complete -c ninja-graph -n '__ninja_graph_is tests' -l meson -x \

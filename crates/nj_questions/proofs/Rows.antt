@@ -6,9 +6,9 @@ use Rattle.clap.proofs.OnLiterals.{clap_on_literals}
 use Rattle.nj_questions.specs.CommandLine.{command}
 use Rattle.nj_questions.specs.QuestionOf.{RefusalModel, question_of, old_option, shows_help, unparsed}
 use Rattle.nj_questions.specs.Questions.{AskedGraph, AffectedModel, AuditModel, DrawModel, KeysModel}
-use Rattle.nj_questions.specs.Questions.{StaleModel, TestsModel, WhyModel}
+use Rattle.nj_questions.specs.Questions.{StaleModel, TestsModel, TimesModel, WhyModel}
 use Rattle.nj_questions.specs.Questions.{QuestionModel, SubjectModel, affected, audit, draw, json, keys}
-use Rattle.nj_questions.specs.Questions.{stale, tests, why}
+use Rattle.nj_questions.specs.Questions.{stale, tests, timings, why}
 
 -- the graph without options
 abbrev plain : AskedGraph
@@ -57,6 +57,10 @@ judges targets reasons objects no_manifest = Ok (record {
   graph = record plain { deps = true };
   subject = stale (record { targets = targets; why = reasons; json = objects; no_manifest = no_manifest });
 })
+
+-- `times`, which joins it too
+abbrev timed : TimesModel → Result QuestionModel RefusalModel
+timed options = Ok (record { folder = None; graph = record plain { deps = true }; subject = timings options })
 
 abbrev chain : (start end : List ℕ) (validations no_order_only : Bool) → WhyModel
 chain start end validations no_order_only =
@@ -113,6 +117,17 @@ stale_options_row = refl
 stale_json_row : question_of (codes "stale" ∷ codes "--json" ∷ []) ≡ judges [] false true false
 unfolding question_of command clap_on_literals
 stale_json_row = refl
+
+times_row : question_of (codes "times" ∷ []) ≡ timed (record { targets = []; top = None; json = false })
+unfolding question_of command clap_on_literals
+times_row = refl
+
+times_options_row : question_of (codes "times" ∷ codes "app" ∷ codes "--json" ∷ codes "--top" ∷ codes "9" ∷
+    codes
+    "lib" ∷ [])
+    ≡ timed (record { targets = codes "app" ∷ codes "lib" ∷ []; top = Some 9; json = true })
+unfolding question_of command clap_on_literals
+times_options_row = refl
 
 -- ---- a directory before the subcommand
 

@@ -87,7 +87,7 @@ unfolding command clap_on_literals
 all_topics =
     also (λ rows. refl) (also (λ rows. refl) (also (λ rows. refl)
     (also (λ rows. refl) (also (λ rows. refl) (also (λ rows. refl) (also (λ rows. refl)
-    (also (λ rows. refl) tt)))))))
+    (also (λ rows. refl) (also (λ rows. refl) tt))))))))
 
 required : (built command).top.subcommand_required ≡ true
 unfolding command clap_on_literals

@@ -83,6 +83,10 @@ tests_options = long_option (codes "ctest") ∷ long_option (codes "meson") ∷ 
     ∷ repeated (codes "ignore") ∷ flag (codes "ignore-unknown") ∷ flag (codes "allow-empty") ∷ long_option (codes "format")
     ∷ flag (codes "why") ∷ flag (codes "json") ∷ long_option (codes "unnamed") ∷ []
 
+-- the options of `times`
+abbrev pub times_options : List Rule
+times_options = number (codes "top") ∷ flag (codes "json") ∷ words (codes "targets") ∷ []
+
 -- the options of `why`
 abbrev pub why_options : List Rule
 why_options = flag (codes "validations") ∷ flag (codes "no-order-only") ∷ word (codes "A") ∷ word (codes "B") ∷ []
@@ -92,7 +96,8 @@ abbrev pub subcommands : List Shape
 subcommands = subcommand (codes "affected") affected_options ∷ subcommand (codes "audit") audit_options
     ∷ subcommand (codes "draw") draw_options ∷ subcommand (codes "json") []
     ∷ subcommand (codes "keys") keys_options ∷ subcommand (codes "stale") stale_options
-    ∷ subcommand (codes "tests") tests_options ∷ subcommand (codes "why") why_options ∷ []
+    ∷ subcommand (codes "tests") tests_options ∷ subcommand (codes "times") times_options
+    ∷ subcommand (codes "why") why_options ∷ []
 
 -- ---- the program
 

@@ -9,15 +9,16 @@ use Rattle.clap.specs.declared.error.kind.ErrorKind.TheVariants.{DisplayHelp, Di
 use Rattle.nj_questions.specs.CommandLine.{command}
 use Rattle.nj_questions.specs.Fields.{is_on, number_in, text_or, values_in}
 use Rattle.nj_questions.specs.Questions.{AskedGraph, AffectedModel, AuditModel, DrawModel, KeysModel, StaleModel, TestsModel}
-use Rattle.nj_questions.specs.Questions.{WhyModel, QuestionModel, SubjectModel, affected, audit, draw, json, keys, stale, tests, why}
+use Rattle.nj_questions.specs.Questions.{TimesModel, WhyModel, QuestionModel, SubjectModel, affected, audit, draw, json, keys, stale, tests}
+use Rattle.nj_questions.specs.Questions.{timings, why}
 use Rattle.nj_questions.specs.declared.refusals.Refusal.{Refusal}
 use Rattle.nj_questions.specs.declared.refusals.Refusal.TheVariants as refusal
 
 -- ---- the question of a subcommand and its rows
 
--- `stale` joins the inputs that builds discovered even without `--deps`
+-- `stale` and `times` join the inputs that builds discovered even without `--deps`
 abbrev pub takes_deps : (name : List ℕ) → Bool
-takes_deps name = bytes_eq name (codes "stale")
+takes_deps name = bytes_eq name (codes "stale") || bytes_eq name (codes "times")
 
 -- the options that name the graph, of the subcommand with the given name
 abbrev pub graph_in : (name : List ℕ) → List Row → AskedGraph
@@ -93,6 +94,14 @@ tests_in rows = record {
   unnamed = first_of (codes "unnamed") rows;
 }
 
+-- the options of `times`
+abbrev pub times_in : List Row → TimesModel
+times_in rows = record {
+  targets = values_in (codes "targets") rows;
+  top = number_in (codes "top") rows;
+  json = is_on (codes "json") rows;
+}
+
 -- the options of `why`
 abbrev pub why_in : List Row → WhyModel
 why_in rows = record {
@@ -112,6 +121,7 @@ subject_in name rows =
     else if bytes_eq name (codes "keys") then Some (keys (keys_in rows))
     else if bytes_eq name (codes "stale") then Some (stale (stale_in rows))
     else if bytes_eq name (codes "tests") then Some (tests (tests_in rows))
+    else if bytes_eq name (codes "times") then Some (timings (times_in rows))
     else if bytes_eq name (codes "why") then Some (why (why_in rows))
     else None
 

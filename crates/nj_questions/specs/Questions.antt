@@ -10,6 +10,7 @@ use Rattle.nj_questions.specs.declared.questions.DrawOptions.{DrawOptions}
 use Rattle.nj_questions.specs.declared.questions.KeysOptions.{KeysOptions}
 use Rattle.nj_questions.specs.declared.questions.StaleOptions.{StaleOptions}
 use Rattle.nj_questions.specs.declared.questions.TestsOptions.{TestsOptions}
+use Rattle.nj_questions.specs.declared.questions.TimesOptions.{TimesOptions}
 use Rattle.nj_questions.specs.declared.questions.WhyOptions.{WhyOptions}
 
 -- ---- the graph
@@ -78,6 +79,12 @@ pub record TestsModel : Type 0 where
   pub json : Bool
   pub unnamed : Option (List ℕ)
 
+-- `times`: the `top` slowest commands, or the critical path; `json` asks for objects
+pub record TimesModel : Type 0 where
+  pub targets : List (List ℕ)
+  pub top : Option ℕ
+  pub json : Bool
+
 -- `why`: the file that needs the other, and the file that is needed
 pub record WhyModel : Type 0 where
   pub start : List ℕ
@@ -94,6 +101,7 @@ pub data SubjectModel : Type 0 where
   keys : KeysModel → SubjectModel
   stale : StaleModel → SubjectModel
   tests : TestsModel → SubjectModel
+  timings : TimesModel → SubjectModel
   why : WhyModel → SubjectModel
 
 -- `folder` is the directory to change to first
@@ -202,6 +210,14 @@ tests_model options = record {
   unnamed = option_map string_bytes options.unnamed;
 }
 
+-- the options of `times`
+abbrev pub times_model : TimesOptions → TimesModel
+times_model options = record {
+  targets = map string_bytes options.targets.items;
+  top = options.top;
+  json = options.json;
+}
+
 -- the options of `why`
 abbrev pub why_model : WhyOptions → WhyModel
 why_model options = record {
@@ -220,6 +236,7 @@ subject_model subject.Json = json
 subject_model (subject.Keys options) = keys (keys_model options)
 subject_model (subject.Stale options) = stale (stale_model options)
 subject_model (subject.Tests options) = tests (tests_model options)
+subject_model (subject.Times options) = timings (times_model options)
 subject_model (subject.Why options) = why (why_model options)
 
 -- a question

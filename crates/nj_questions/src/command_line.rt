@@ -1,12 +1,13 @@
 //! The command line as `clap` knows it.
 
-ghost use Rattle.std.specs.Prelude.{◌≡◌, IfOk, fold, map};
-ghost use Rattle.nj_questions.specs.Cited.{app_of, with_rule, with_subcommand, command, rule_at, without_subcommands, new_app, subcommand_in};
+ghost use Rattle.std.specs.Prelude.{◌≡◌, [], IfOk, codes, fold, map};
+ghost use Rattle.nj_questions.specs.Cited.{app_of, with_rule, with_subcommand, command, rule_at, without_subcommands, new_app, subcommand_in, subcommand, affected_options, audit_options, draw_options, keys_options, stale_options, tests_options, times_options, why_options};
 
 use crate::forms::{Entry, arg_of};
 use crate::subcommands::{
     AFFECTED, AFFECTED_OPTIONS, AUDIT, AUDIT_OPTIONS, DRAW, DRAW_OPTIONS, GRAPH_OPTIONS, JSON,
-    KEYS, KEYS_OPTIONS, STALE, STALE_OPTIONS, TESTS, TESTS_OPTIONS, Topic, WHY, WHY_OPTIONS,
+    KEYS, KEYS_OPTIONS, STALE, STALE_OPTIONS, TESTS, TESTS_OPTIONS, TIMES, TIMES_OPTIONS, Topic,
+    WHY, WHY_OPTIONS,
 };
 use clap::Command;
 use std::alloc::{AllocError, Global};
@@ -18,15 +19,83 @@ pub fn command<'a>(alloc: Global) -> Result<Command<'a>, AllocError>
     ensures { IfOk result (λ made. app_of made ≡ command) }
 {
     let made = without_subcommands(alloc)?;
-    let made = with_subcommand(alloc, made, AFFECTED, &AFFECTED_OPTIONS)?;
-    let made = with_subcommand(alloc, made, AUDIT, &AUDIT_OPTIONS)?;
-    let made = with_subcommand(alloc, made, DRAW, &DRAW_OPTIONS)?;
-    let made = with_subcommand(alloc, made, JSON, &[])?;
-    let made = with_subcommand(alloc, made, KEYS, &KEYS_OPTIONS)?;
-    let made = with_subcommand(alloc, made, STALE, &STALE_OPTIONS)?;
-    let made = with_subcommand(alloc, made, TESTS, &TESTS_OPTIONS)?;
-    with_subcommand(alloc, made, WHY, &WHY_OPTIONS)
+    let made = with_affected(alloc, made)?;
+    let made = with_audit(alloc, made)?;
+    let made = with_draw(alloc, made)?;
+    let made = with_json(alloc, made)?;
+    let made = with_keys(alloc, made)?;
+    let made = with_stale(alloc, made)?;
+    let made = with_tests(alloc, made)?;
+    let made = with_times(alloc, made)?;
+    with_why(alloc, made)
 }
+
+// ---- each subcommand, in a function of its own: its table and its texts are in one proof
+
+fn with_affected<'a>(alloc: Global, program: Command<'a>) -> Result<Command<'a>, AllocError>
+    ensures { IfOk result (λ made. app_of made
+        ≡ with_subcommand (app_of program.entry) (subcommand (codes "affected") affected_options)) }
+{
+    with_subcommand(alloc, program, AFFECTED, &AFFECTED_OPTIONS)
+}
+
+fn with_audit<'a>(alloc: Global, program: Command<'a>) -> Result<Command<'a>, AllocError>
+    ensures { IfOk result (λ made. app_of made
+        ≡ with_subcommand (app_of program.entry) (subcommand (codes "audit") audit_options)) }
+{
+    with_subcommand(alloc, program, AUDIT, &AUDIT_OPTIONS)
+}
+
+fn with_draw<'a>(alloc: Global, program: Command<'a>) -> Result<Command<'a>, AllocError>
+    ensures { IfOk result (λ made. app_of made
+        ≡ with_subcommand (app_of program.entry) (subcommand (codes "draw") draw_options)) }
+{
+    with_subcommand(alloc, program, DRAW, &DRAW_OPTIONS)
+}
+
+fn with_json<'a>(alloc: Global, program: Command<'a>) -> Result<Command<'a>, AllocError>
+    ensures { IfOk result (λ made. app_of made
+        ≡ with_subcommand (app_of program.entry) (subcommand (codes "json") [])) }
+{
+    with_subcommand(alloc, program, JSON, &[])
+}
+
+fn with_keys<'a>(alloc: Global, program: Command<'a>) -> Result<Command<'a>, AllocError>
+    ensures { IfOk result (λ made. app_of made
+        ≡ with_subcommand (app_of program.entry) (subcommand (codes "keys") keys_options)) }
+{
+    with_subcommand(alloc, program, KEYS, &KEYS_OPTIONS)
+}
+
+fn with_stale<'a>(alloc: Global, program: Command<'a>) -> Result<Command<'a>, AllocError>
+    ensures { IfOk result (λ made. app_of made
+        ≡ with_subcommand (app_of program.entry) (subcommand (codes "stale") stale_options)) }
+{
+    with_subcommand(alloc, program, STALE, &STALE_OPTIONS)
+}
+
+fn with_tests<'a>(alloc: Global, program: Command<'a>) -> Result<Command<'a>, AllocError>
+    ensures { IfOk result (λ made. app_of made
+        ≡ with_subcommand (app_of program.entry) (subcommand (codes "tests") tests_options)) }
+{
+    with_subcommand(alloc, program, TESTS, &TESTS_OPTIONS)
+}
+
+fn with_times<'a>(alloc: Global, program: Command<'a>) -> Result<Command<'a>, AllocError>
+    ensures { IfOk result (λ made. app_of made
+        ≡ with_subcommand (app_of program.entry) (subcommand (codes "times") times_options)) }
+{
+    with_subcommand(alloc, program, TIMES, &TIMES_OPTIONS)
+}
+
+fn with_why<'a>(alloc: Global, program: Command<'a>) -> Result<Command<'a>, AllocError>
+    ensures { IfOk result (λ made. app_of made
+        ≡ with_subcommand (app_of program.entry) (subcommand (codes "why") why_options)) }
+{
+    with_subcommand(alloc, program, WHY, &WHY_OPTIONS)
+}
+
+// ---- their parts
 
 // Returns the program without its subcommands.
 fn without_subcommands<'a>(alloc: Global) -> Result<Command<'a>, AllocError>

@@ -18,6 +18,6 @@ pub use laws::reading_law;
 pub use question_of::read_words;
 pub use questions::{
     AffectedOptions, AuditOptions, DrawOptions, GraphOptions, KeysOptions, Question, StaleOptions,
-    Subject, TestsOptions, WhyOptions,
+    Subject, TestsOptions, TimesOptions, WhyOptions,
 };
 pub use refusals::Refusal;

@@ -104,7 +104,7 @@ fn question_in(alloc: Global, name: &str, options: &ArgMatches<'_>) -> Result<Qu
 fn takes_deps(name: &str) -> bool
     ensures { result ≡ takes_deps name.now }
 {
-    name == "stale"
+    name == "stale" || name == "times"
 }
 
 // Returns the options that name the graph, of the subcommand with the given name.

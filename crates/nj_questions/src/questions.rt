@@ -61,7 +61,8 @@ pub struct GraphOptions {
     pub file: String,
     /// `--dyndep`: whether what dyndep files discover is joined.
     pub dyndep: bool,
-    /// `--deps`: whether the inputs that builds discovered are joined. `stale` always joins them.
+    /// `--deps`: whether the inputs that builds discovered are joined. `stale` and `times` always join
+    /// them.
     pub deps: bool,
     /// `--deps-log-file FILE`: the same, with this deps log.
     pub log: Option<String>,
@@ -84,6 +85,8 @@ pub enum Subject {
     Stale(StaleOptions),
     /// `tests`: the tests that a change of files reaches.
     Tests(TestsOptions),
+    /// `times`: where the time of a build went.
+    Times(TimesOptions),
     /// `why`: a chain by which a file needs another file.
     Why(WhyOptions),
 }
@@ -188,6 +191,17 @@ pub struct TestsOptions {
     pub json: bool,
     /// `--unnamed WORD`: what to do with the tests of which nothing is known.
     pub unnamed: Option<String>,
+}
+
+/// The options of `times`.
+#[derive(Drop)]
+pub struct TimesOptions {
+    /// The targets; without any, the default targets.
+    pub targets: Vec<String>,
+    /// `--top N`: at most this many commands, the slowest ones, instead of the critical path.
+    pub top: Option<usize>,
+    /// `--json`: the lines are objects of JSON.
+    pub json: bool,
 }
 
 /// The options of `why`.

@@ -318,6 +318,34 @@ pub const TESTS_OPTIONS: [Entry; 11] = [
     ),
 ];
 
+pub const TIMES: Topic = Topic {
+    name: "times",
+    about: "Write where the time of the last builds went, by the build log",
+    more: "\
+The first line has the number of commands that targets need, how many of them the log does not know, the
+sum of the times of the others, and that of the critical path: the chain of inputs that took longest. A
+build takes at least that long, however many commands run at once. Then comes a line for each edge of the
+critical path, from its first edge to its last: how long it took, and its first output.
+
+The build log is .ninja_log in builddir, and the inputs that builds discovered count as with --deps. Of
+a command that ran several times the last time counts.
+  ninja-graph times -C build --top 10",
+};
+
+pub const TIMES_OPTIONS: [Entry; 3] = [
+    (
+        "top",
+        Form::Number("N"),
+        "Write the N slowest commands instead of the critical path",
+    ),
+    ("json", Form::Flag, "Write an object of JSON for each line"),
+    (
+        "targets",
+        Form::Words("TARGET"),
+        "Targets; the default ones if there are none",
+    ),
+];
+
 pub const WHY: Topic = Topic {
     name: "why",
     about: "Write a shortest chain of inputs by which A needs B",

@@ -1,12 +1,12 @@
 //! What a subcommand asks, by its options.
 
 ghost use Rattle.std.specs.Prelude.{◌≡◌, Some, IfOk, true, is_some};
-ghost use Rattle.nj_questions.specs.Cited.{number_in, subject_in, subject_model, rows_in, affected_in, affected_model, audit_in, audit_model, draw_in, draw_model, keys_in, keys_model, stale_in, stale_model, tests_in, tests_model, why_in, why_model};
+ghost use Rattle.nj_questions.specs.Cited.{number_in, subject_in, subject_model, rows_in, affected_in, affected_model, audit_in, audit_model, draw_in, draw_model, keys_in, keys_model, stale_in, stale_model, tests_in, tests_model, times_in, times_model, why_in, why_model};
 
 use crate::fields::{is_on, number_in, text_in, text_or, values_in};
 use crate::questions::{
     AffectedOptions, AuditOptions, DrawOptions, KeysOptions, StaleOptions, Subject, TestsOptions,
-    WhyOptions,
+    TimesOptions, WhyOptions,
 };
 use clap::ArgMatches;
 use std::alloc::{AllocError, Global};
@@ -29,6 +29,7 @@ pub fn subject_in(
         "keys" => Ok(Subject::Keys(keys_in(alloc, options)?)),
         "stale" => Ok(Subject::Stale(stale_in(alloc, options)?)),
         "tests" => Ok(Subject::Tests(tests_in(alloc, options)?)),
+        "times" => Ok(Subject::Times(times_in(alloc, options)?)),
         "why" => Ok(Subject::Why(why_in(alloc, options)?)),
         _ => unreachable!(),
     }
@@ -121,6 +122,17 @@ fn tests_in(alloc: Global, options: &ArgMatches<'_>) -> Result<TestsOptions, All
         why: is_on(options, "why"),
         json: is_on(options, "json"),
         unnamed: text_in(alloc, options, "unnamed")?,
+    })
+}
+
+// The options of `times`.
+fn times_in(alloc: Global, options: &ArgMatches<'_>) -> Result<TimesOptions, AllocError>
+    ensures { IfOk result (λ read. times_model read ≡ times_in (rows_in options.now)) }
+{
+    Ok(TimesOptions {
+        targets: values_in(alloc, options, "targets")?,
+        top: count_in(options, "top"),
+        json: is_on(options, "json"),
     })
 }
 

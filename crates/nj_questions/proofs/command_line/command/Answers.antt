@@ -12,5 +12,6 @@ returns c =
     let five = added _ _ _ _ four c.in_ok-made-6.ensures in
     let six = added _ _ _ _ five c.in_ok-made-7.ensures in
     let seven = added _ _ _ _ six c.in_ok-made-8.ensures in
-    IfOk-weaker c.with_subcommand-8.result _ _ (λ made then. added _ _ _ _ seven then ∙ in_turn)
-    c.with_subcommand-8.ensures
+    let eight = added _ _ _ _ seven c.in_ok-made-9.ensures in
+    IfOk-weaker c.with_why.result _ _ (λ made then. added _ _ _ _ eight then ∙ in_turn)
+    c.with_why.ensures
