@@ -31,11 +31,11 @@ def as_bytes(text):
 
 
 def write_files(folder, files):
-    """Writes files, given as contents by name, into a directory."""
+    """Writes files, given as contents by name, as bytes or as text, into a directory."""
     for name, text in files.items():
         path = Path(folder, name)
         path.parent.mkdir(parents=True, exist_ok=True)
-        path.write_bytes(text)
+        path.write_bytes(as_bytes(text))
 
 
 DIAMOND = """\

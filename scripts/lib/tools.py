@@ -383,6 +383,7 @@ GRAPH_RUNS = {
         "json",
         "keys --resume 0.0 test",
         "stale --why test",
+        "times test",
         "why test text/words.c",
     ],
     "not UTF-8": ["audit --all", "draw", "json", "keys"],
@@ -437,6 +438,7 @@ GRAPH_CHAIN = (
     "json",
     "keys --take 6000",
     "stale",
+    "times",
     "why e6999 e0",
 )
 

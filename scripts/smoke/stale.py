@@ -143,11 +143,12 @@ def discovered_paths(folder):
     return {word.rstrip(":") for text in [*texts, log] for word in text.split()}
 
 
-def is_version_apart(history, folder, source):
-    """Whether versions of Ninja differ about a missing source, so that `stale` may refuse to build and Ninja not."""
-    if is_old():
-        return source in discovered_paths(folder)
-    return source not in {path for edge in history.project.build.edges for path in [*edge.paths(), *edge.validations]}
+def is_version_apart(history, folder, source, wanted):
+    """Whether versions of Ninja differ about a missing source, so that only one of `stale` and Ninja refuses to build."""
+    if not is_old() or bool(source) == bool(wanted):
+        return False
+    stated = {path for edge in history.project.build.edges for path in [*edge.paths(), *edge.validations]}
+    return source in discovered_paths(folder) if source else wanted not in stated
 
 
 def asked_of_ninja(history, folder):
@@ -165,12 +166,13 @@ def refused_source(ending):
 
 def wrong_refusal(history, folder, removed, ran, ending, counts):
     """Whether one of them refuses to build, and the other one not; or for want of another source."""
-    source, wanted = refused_source(ending), MISSING.search(ran.error)
-    if not wanted and source and is_version_apart(history, folder, source):
+    source, refused = refused_source(ending), MISSING.search(ran.error)
+    wanted = refused and refused[1]
+    if is_version_apart(history, folder, source, wanted):
         counts["versions differ"] += 1
         return False
     counts["refusals"] += bool(wanted)
-    return source != (wanted and wanted[1]) or source not in (None, removed)
+    return source != wanted or source not in (None, removed)
 
 
 def wrong_list(ran, ending, counts):

@@ -17,8 +17,8 @@ from lib.test_kinds import (
     run,
 )
 
-CHANGE = ["--deps", "--ignore-unknown", "--source-dir", "../source"]
-WORDS = ["affected", *CHANGE]
+CHANGE = ["--deps", "--source-dir", "../source"]
+WORDS = ["affected", "--ignore-unknown", *CHANGE]
 TESTS = ["tests", "--ctest", "tests.json", *CHANGE]
 
 

@@ -1,5 +1,8 @@
 -- How an answer that is given returns once it is written, and how what returns ends.
-use Rattle.std.proofs.Common.{◌≡◌, ◌++◌, ℕ, List, [], Result, Ok, Err, inl, inr, refl, sym, subst, ◌∙◌}
+use Rattle.std.proofs.Common.{◌≡◌, ◌++◌, ℕ, List, [], Result, Ok, Err, inl, inr, refl, sym, subst, true≢false}
+use Rattle.std.proofs.Common.{◌∙◌}
+use Rattle.std.specs.Prelude.{IsErr}
+use Rattle.std.specs.Result.{IsErrAnd}
 use Rattle.nj_tools.specs.Sinks.{SinkState}
 use Rattle.nj_tools.proofs.SinkLemmas.{Takes-nil}
 use Rattle.nj_ask.specs.declared.answer.Answer.{Answer}

@@ -2,6 +2,7 @@
 use Rattle.std.proofs.Common.{◌≡◌, ◌<◌, ◌+◌, ℕ, zero, suc, Bool, true, false, nat_lt, Option, Some, Result}
 use Rattle.std.proofs.Common.{Ok, Err, IfErr, IfOk, List, [], ◌∷◌, ◌++◌, length, map}
 use Rattle.std.proofs.Common.{refl, sym, ap, subst, ◌∙◌, arith}
+use Rattle.std.specs.Global.{Vec}
 use Rattle.std.specs.List.{cons_option}
 use Rattle.std.proofs.lemmas.Bool.{lt-ltb}
 use Rattle.std.proofs.lemmas.List.{length-append}
@@ -29,7 +30,8 @@ use Rattle.nj_ask.specs.declared.failure.Failure.{Failure}
 use Rattle.nj_ask.specs.declared.status.Status.TheVariants.{Fault}
 use Rattle.nj_ask.specs.Joined.{Follows}
 use Rattle.nj_ask.specs.LogsRead.{ReadsLog}
-use Rattle.nj_ask.specs.KnownGraphs.{IsDeclared, Sources, KnowsGraph, LacksGraph, ReadsManifest}
+use Rattle.nj_ask.specs.KnownGraphs.{AreStatedInputs, IsDeclared, IsDiscovered, Sources, KnowsGraph}
+use Rattle.nj_ask.specs.KnownGraphs.{LacksGraph, ReadsManifest}
 use Rattle.nj_ask.specs.KnownGraphs.{asks_discovered}
 use Rattle.nj_ask.specs.KnownGraphs.ReadsManifest.{refused, plain, joined, joined_present}
 use Rattle.nj_ask.specs.KnownGraphs.KnowsGraph.{declared, discovered}
@@ -106,6 +108,31 @@ module _ (asked : AskedGraph) (times : DeclaredTimes) (before between after : So
       let stated = stated-after [] before between (main_reached asked.file) (Ok loaded) loads in
       joined_present not_all is loads stated.1 (joins stated.0 stated.1)
 
+-- ---- with the counts of the inputs that the manifest itself has
+
+declared-with : (graph : GraphModel) (known : DiscoveredGraph) (counts : Vec ℕ) → IsDeclared graph known
+    → IsDeclared graph (record known { stated_inputs = counts })
+declared-with graph known counts is = record {
+  graph_is = is.graph_is;
+  has_discovered = is.has_discovered;
+  unknown = is.unknown;
+  faults = is.faults;
+  discoveries = is.discoveries;
+  caveats = is.caveats;
+  undeclared = is.undeclared;
+}
+
+discovered-with : (found : Discovered) (caveat : List ℕ) (known : DiscoveredGraph) (counts : Vec ℕ)
+    → IsDiscovered found caveat known → IsDiscovered found caveat (record known { stated_inputs = counts })
+discovered-with found caveat known counts is = record {
+  graph_is = is.graph_is;
+  has_discovered = is.has_discovered;
+  unknown = is.unknown;
+  faults = is.faults;
+  discoveries = is.discoveries;
+  caveats = is.caveats;
+}
+
 -- ---- with what builds discovered
 
 module _ (asked : AskedGraph) (times : DeclaredTimes) (old new built after : SourceState) where
@@ -124,13 +151,16 @@ module _ (asked : AskedGraph) (times : DeclaredTimes) (old new built after : Sou
 
   -- a graph of a manifest alone
   pub knows-declared : (undeclared : Bool) (loaded : LoadedModel) (graph : GraphModel)
-      (known : DiscoveredGraph)
+      (known made : DiscoveredGraph) (counts : Vec ℕ)
       → graph ≡ loaded.graph
-      → asks_discovered asked ≡ false → ReadsManifest asked times old new (Ok loaded) → after ≡ built
-      → IsDeclared graph known
-      → KnowsGraph asked undeclared times (sources_of old built) (sources_of new after) known
-  knows-declared undeclared loaded graph known is asks reads same made =
-      declared asks reads same (subst (λ g. IsDeclared g known) is made)
+      → asks_discovered asked ≡ false → ReadsManifest asked times old new (Ok loaded)
+      → AreStatedInputs asked old counts.items → after ≡ built
+      → IsDeclared graph known → made ≡ record known { stated_inputs = counts }
+      → KnowsGraph asked undeclared times (sources_of old built) (sources_of new after) made
+  knows-declared undeclared loaded graph known made counts is asks reads are same alone with =
+      subst (KnowsGraph asked undeclared times (sources_of old built) (sources_of new after)) (sym with)
+      (declared asks reads are same (declared-with loaded.graph known counts
+      (subst (λ g. IsDeclared g known) is alone)))
 
   module _ (loaded : LoadedModel) (graph : GraphModel) (named : Option (List ℕ)) (is : graph ≡ loaded.graph)
       (named_is : named ≡ asked.log) (asks : asks_discovered asked ≡ true)
@@ -145,17 +175,19 @@ module _ (asked : AskedGraph) (times : DeclaredTimes) (old new built after : Sou
     of-graph = subst (λ g. IsGraphOf g entries) (sym is) of-loaded
 
     -- a graph with what builds discovered
-    pub knows-by-log : (undeclared : Bool) (result : Result DiscoveredGraph Failure)
+    pub knows-by-log : (undeclared : Bool) (known made : DiscoveredGraph) (counts : Vec ℕ)
+        → AreStatedInputs asked old counts.items → made ≡ record known { stated_inputs = counts }
         → ((stated : List ReadStatement) → IsGraphOf graph stated
-        → IfOk result (KnowsByLog named undeclared built after times stated))
-        → IfOk result (KnowsGraph asked undeclared times (sources_of old built) (sources_of new after))
-    knows-by-log undeclared result knows =
-        ok-as (KnowsByLog named undeclared built after times entries)
-        (KnowsGraph asked undeclared times (sources_of old built) (sources_of new after)) result
-        (λ known by. discovered asks reads of-loaded
+        → KnowsByLog named undeclared built after times stated known)
+        → KnowsGraph asked undeclared times (sources_of old built) (sources_of new after) made
+    knows-by-log undeclared known made counts are with knows =
+        let by = knows entries of-graph in
+        subst (KnowsGraph asked undeclared times (sources_of old built) (sources_of new after)) (sym with)
+        (discovered asks reads are of-loaded
         (subst (λ path. ReadsLog path entries built by.between by.log by.caveat) named_is by.reads)
-        by.discovers.joins by.discovers.is_found by.finds)
-        (knows entries of-graph)
+        by.discovers.joins
+        (discovered-with by.discovers.found by.caveat known counts by.discovers.is_found)
+        by.finds)
 
     lacks-line : (line : List ℕ) → LacksByLog asked.log built after times entries line
         → LacksGraph asked times (sources_of old built) (sources_of new after) line
@@ -190,11 +222,11 @@ joined-stated before after times log stated found
 
 pub knows-stated : (asked : AskedGraph) (undeclared : Bool) (times : DeclaredTimes) (old new : Sources)
     (known : DiscoveredGraph) → KnowsGraph asked undeclared times old new known → HasStatements known.graph
-knows-stated asked undeclared times old new known (declared {loaded} asks reads same made) =
+knows-stated asked undeclared times old new known (declared {loaded} asks reads counts same made) =
     subst HasStatements (sym made.graph_is) (stated-of asked times old.files new.files reads)
 knows-stated asked undeclared times old new known
     (discovered {loaded} {stated} {between} {log} {caveat} {found} asks
-    reads is read joins are finds) =
+    reads counts is read joins are finds) =
     subst HasStatements (sym are.graph_is) (joined-stated between new.built times log stated found joins)
 
 -- ---- undeclared inputs

@@ -5,6 +5,7 @@ use Rattle.nj_text.specs.Paths.{clean_path_of, is_absolute}
 use Rattle.nj_graph.specs.ReadingList.{ReadStatement}
 use Rattle.nj_graph.specs.declared.ChainKinds.{ChainKinds}
 use Rattle.nj_graph.specs.declared.GraphFault.{GraphFault}
+use Rattle.nj_graph.specs.Edges.{EdgePaths}
 use Rattle.nj_graph.specs.Graph.{GraphModel, edges_of}
 use Rattle.nj_graph.specs.Handles.{GraphFiles}
 use Rattle.nj_graph.specs.Targets.{picked, targets_or}
@@ -33,11 +34,11 @@ use Rattle.nj_ask.specs.Shape.{caveat_text}
 
 -- ---- depfiles with faults, at which Ninja stops
 
--- no edge that these files need has one
+-- no edge that the files need has one
 abbrev pub IsClear : DiscoveredGraph → (files : List (List ℕ)) → Type 0
 IsClear known files = (known.faults.items ≡ []) ⊎ IsFirstFault known files None
 
--- an edge that these files need has one: of several the edge of the lowest number
+-- an edge that the files need has one: of several the edge with the lowest number
 pub record HasDepfileFault (known : DiscoveredGraph) (files : List (List ℕ)) (line : List ℕ) : Type 0 where
   pub fault : EdgeFault
   pub first : IsFirstFault known files (Some fault)
@@ -136,7 +137,7 @@ keys_misuse options =
 abbrev pub asked_targets : GraphModel → (words : List (List ℕ)) → Result (List (List ℕ)) GraphFault
 asked_targets g words = targets_or (defaults_in_force g.built.defaults (edges_of g)) (edges_of g) words
 
--- the files at these paths
+-- the files at the given paths
 abbrev pub files_at : GraphModel → (paths : List (List ℕ)) → GraphFiles
 files_at g paths = record { graph = g; paths = paths }
 

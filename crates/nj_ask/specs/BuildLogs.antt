@@ -18,7 +18,7 @@ built_path (Some folder) = folder_text folder ++ codes ".ninja_log"
 abbrev pub build_log_path : List ReadStatement → List ℕ
 build_log_path entries = built_path (value_if_bound entries (0 ∷ []) (codes "builddir"))
 
--- the build log in these bytes; a file that is not there has no line
+-- the build log in a file with the given bytes; a file that is not there has no lines
 abbrev pub build_log_in : Option (List ℕ) → Result BuildLogModel BuildLogFault
 build_log_in bytes = build_log_of (unwrap_or bytes [])
 

@@ -11,11 +11,11 @@ pub use Rattle.nj_ask.specs.Inside.Lent.{asked_of, change_model, texts}
 pub use Rattle.nj_ask.specs.Reports.{no_path_line, changed_numbers, made_from_line, HasCaveats, HasWarnings, IsReport, IsTouchedBy}
 pub use Rattle.nj_ask.specs.declared.status.Status.TheVariants.{Fault, Usage}
 pub use Rattle.nj_ask.specs.Endings.{Concludes, Reported, answered, memory_line, program_line, Ends, ReportsError}
+pub use Rattle.nj_ask.specs.Drawings.{stated_count, End, arrow_line, arrows_from, arrows_to, drawn_ends, edge_arrows, end_at, ends}
+pub use Rattle.nj_ask.specs.Drawings.{ends_after, ends_before, node_arrows, count_line, drawing_text, IsDrawing, label, node_line}
+pub use Rattle.nj_ask.specs.Drawings.{edge_look, ellipse_look, left_out, more_text, node_look, node_name, point_look}
 pub use Rattle.std.specs.List.{flat_map, list_any, filter_map, fold, range_with_len, cons_option}
 pub use Rattle.nj_graph.specs.Handles.{edge_of, file_of, GraphEdge, paths_of, OfEdge, edges_in, files_in, detail_of_edge}
-pub use Rattle.nj_ask.specs.Drawings.{End, arrow_line, arrows_from, arrows_to, drawn_ends, edge_arrows, end_at, ends, ends_after}
-pub use Rattle.nj_ask.specs.Drawings.{ends_before, node_arrows, count_line, drawing_text, IsDrawing, label, node_line, edge_look}
-pub use Rattle.nj_ask.specs.Drawings.{ellipse_look, left_out, more_text, node_look, node_name, point_look}
 pub use Rattle.nj_ask.specs.Inside.NodeLists.{node_model, is_full, AreFlagsWithin, SameFlags, SetsFlag, UnsetsFlag}
 pub use Rattle.nj_ask.specs.DrawnNodes.{of_edge, drawn_nodes, has_node, mention, mention_edge, node_of, is_folded}
 pub use Rattle.nj_ask.specs.BuildLogs.{LacksBuildLog, ReadsBuildLog, bad_log_line, built_path}
@@ -23,8 +23,8 @@ pub use Rattle.nj_ask.specs.Asks.{TakesBuildLog, no_lines, takes_build_log, Lack
 pub use Rattle.nj_ask.specs.Asks.{around, Misuses, sinks_of, Refuses}
 pub use Rattle.nj_ask.specs.Inside.GraphSteps.{HasStatements, AreInputsIn, KnowsByLog, LacksByLog, Discovers, LacksDiscovered, LacksMain}
 pub use Rattle.nj_ask.specs.Inside.GraphSteps.{LacksManifest}
-pub use Rattle.nj_ask.specs.KnownGraphs.{sources_of, FindsUndeclared, undeclared_in, IsDeclared, IsDiscovered, KnowsGraph, LacksGraph}
-pub use Rattle.nj_ask.specs.KnownGraphs.{ReadsManifest, asks_discovered, discovered_line}
+pub use Rattle.nj_ask.specs.KnownGraphs.{sources_of, AreStatedInputs, implicit_counts, FindsUndeclared, undeclared_in, IsDeclared}
+pub use Rattle.nj_ask.specs.KnownGraphs.{IsDiscovered, KnowsGraph, LacksGraph, ReadsManifest, asks_discovered, discovered_line}
 pub use Rattle.nj_ask.specs.Audits.{kind_lines, selection_in, AnswersAudit, WouldBeMissing, unknown_kind_line, finding_line, finding_lines}
 pub use Rattle.nj_ask.specs.Audits.{finding_object, kind_line, line_about, lookup_lines, LookUp, LookUpIf, LooksUp}
 pub use Rattle.nj_ask.specs.AskedWords.{AsksWith, ended_status, AsksWords}
@@ -89,7 +89,7 @@ pub use Rattle.nj_ask.specs.OptionFiles.{ReadsNamedFiles}
 pub use Rattle.nj_ask.specs.TestLists.{LacksText, LacksList, LacksLists, LacksMeson, LacksNamed, LacksTests, ReadsList, ReadsLists}
 pub use Rattle.nj_ask.specs.TestLists.{ReadsMeson, ReadsNamed, ReadsTests, faulty_path, info_path, is_of_targets, list_line, list_path}
 pub use Rattle.nj_graph.specs.Changes.{IsAffected}
-pub use Rattle.nj_ask.specs.Laws.{DoneMissesNothing, ListedHaveReasons, WarningsAreUnique}
+pub use Rattle.nj_ask.specs.Laws.{DoneMissesNothing, DoneMissesNoTest, ListedHaveReasons, WarningsAreUnique}
 pub use Rattle.nj_audit.specs.declared.kinds.Kind.TheVariants.{MissingSource}
 pub use Rattle.nj_ask.specs.Stales.{AnswersBuild, AnswersStale, AreStaleFor, IsCurrent, WritesStale, files_asked, if_named, is_stale_maker}
 pub use Rattle.nj_ask.specs.Stales.{main_path, manifest_asked, manifest_targets, manifest_text, stale_misuse}

@@ -1,12 +1,14 @@
 -- The graph that a question is about: the files that its options name, joined with what builds discovered.
-use Rattle.std.specs.Prelude.{◌≡◌, ℕ, Bool, true, false, ◌||◌, is_some, Result, Ok, Err, List, [], ◌++◌, codes}
+use Rattle.std.specs.Prelude.{◌≡◌, ℕ, Bool, true, false, ◌||◌, is_some, Result, Ok, Err, List, [], ◌++◌, codes, length, map}
+use Rattle.std.specs.List.{range_with_len}
 use Rattle.nj_scope.specs.ReadingList.{ReadStatement}
 use Rattle.nj_scope.specs.Sources.{SourceState}
 use Rattle.nj_faults.specs.FaultLines.{fault_line_for}
 use Rattle.nj_deps.specs.Logs.{LogModel}
 use Rattle.nj_discovered.specs.Times.{DeclaredTimes}
 use Rattle.nj_graph.specs.declared.GraphFault.{GraphFault}
-use Rattle.nj_graph.specs.Graph.{GraphModel, IsGraphOf}
+use Rattle.nj_graph.specs.Edges.{EdgePaths, edge_at}
+use Rattle.nj_graph.specs.Graph.{GraphModel, IsGraphOf, edges_of}
 use Rattle.nj_graph.specs.Joining.{Joins, JoinsPresent}
 use Rattle.nj_graph.specs.Loads.{LoadedModel, Loads}
 use Rattle.nj_graph.specs.Undeclared.{AreUndeclared, InputOfEdge}
@@ -39,6 +41,17 @@ pub data ReadsManifest (asked : AskedGraph) (times : DeclaredTimes) (before afte
       → asked.dyndep ≡ false → asks_discovered asked ≡ true → Loads asked.file before between (Ok loaded)
       → IsGraphOf loaded.graph stated → JoinsPresent times stated loaded.files between after result
       → ReadsManifest asked times before after result
+
+-- how many implicit inputs each edge has, by number
+abbrev pub implicit_counts : List EdgePaths → List ℕ
+implicit_counts edges = map (λ edge. length (edge_at edges edge).implicit_inputs) (range_with_len 0 (length edges))
+
+-- how many implicit inputs the manifest itself has for each edge, before dyndep files and discovered inputs are joined
+pub record AreStatedInputs (asked : AskedGraph) (before : SourceState) (counts : List ℕ) : Type 0 where
+  pub after : SourceState
+  pub loaded : LoadedModel
+  pub loads : Loads asked.file before after (Ok loaded)
+  pub counts_are : counts ≡ implicit_counts (edges_of loaded.graph)
 
 -- ---- with what builds discovered
 
@@ -83,9 +96,11 @@ FindsUndeclared false log stated inputs = inputs ≡ []
 pub data KnowsGraph (asked : AskedGraph) (undeclared : Bool) (times : DeclaredTimes) (old new : Sources) (known : DiscoveredGraph)
     : Type 0 where
   declared : {loaded : LoadedModel} → asks_discovered asked ≡ false → ReadsManifest asked times old.files new.files (Ok loaded)
-      → new.built ≡ old.built → IsDeclared loaded.graph known → KnowsGraph asked undeclared times old new known
+      → AreStatedInputs asked old.files known.stated_inputs.items → new.built ≡ old.built → IsDeclared loaded.graph known
+      → KnowsGraph asked undeclared times old new known
   discovered : {loaded : LoadedModel} {stated : List ReadStatement} {between : SourceState} {log : LogModel} {caveat : List ℕ}
       {found : Discovered} → asks_discovered asked ≡ true → ReadsManifest asked times old.files new.files (Ok loaded)
+      → AreStatedInputs asked old.files known.stated_inputs.items
       → IsGraphOf loaded.graph stated → ReadsLog asked.log stated old.built between log caveat
       → JoinsDiscovered between new.built times log stated (Ok found) → IsDiscovered found caveat known
       → FindsUndeclared undeclared log stated (undeclared_in known) → KnowsGraph asked undeclared times old new known

@@ -1,4 +1,4 @@
--- What status 0 of `affected` means, and that a report is determined.
+-- What status 0 of `affected` and `tests` means, and that a report is determined.
 use Rattle.std.specs.Prelude.{◌≡◌, ◌≢◌, ◌⊎◌, ◌↔◌, ℕ, Bool, true, false, List, [], ◌∷◌, Contains, map}
 use Rattle.nj_graph.specs.ReadingList.{ReadStatement}
 use Rattle.nj_graph.specs.Changes.{has_input_of, IsOrNeeds}
@@ -6,16 +6,18 @@ use Rattle.nj_graph.specs.Dirty.{has_counted_input_of, has_output_of}
 use Rattle.nj_graph.specs.Edges.{EdgePaths, edge_at, outputs_of}
 use Rattle.nj_graph.specs.Graph.{GraphModel, edges_of}
 use Rattle.nj_tools.specs.Sinks.{SinkState, Takes}
-use Rattle.nj_questions.specs.Questions.{AffectedModel}
+use Rattle.nj_tests.specs.Tests.{TestModel}
+use Rattle.nj_questions.specs.Questions.{AffectedModel, TestsModel}
 use Rattle.nj_ask.specs.declared.discovered.DiscoveredGraph.{DiscoveredGraph}
 use Rattle.nj_ask.specs.declared.status.Status.TheVariants.{Done}
 use Rattle.nj_ask.specs.Affected.{Asked, ListsOutputs}
 use Rattle.nj_ask.specs.Answers.{AnswersAffected, change_asked, outputs_asked}
+use Rattle.nj_ask.specs.ChosenTests.{AnswersTests, WritesTests, tests_change}
 use Rattle.nj_ask.specs.Endings.{Ends, Sinks}
 use Rattle.nj_ask.specs.Given.{given_paths, LeavesPaths}
 use Rattle.nj_ask.specs.Manifest.{makes_manifest, opened_files}
-use Rattle.nj_ask.specs.Reports.{ChangeModel, changed_numbers, changed_paths, files_meant, is_opened, HasWarnings, IsReport, IsTouchedBy}
-use Rattle.nj_ask.specs.Reports.{IsUnnamed}
+use Rattle.nj_ask.specs.Reports.{ChangeModel, changed_numbers, changed_paths, files_meant, is_opened, is_test_file, HasWarnings, IsReport}
+use Rattle.nj_ask.specs.Reports.{IsTouchedBy, IsUnnamed}
 use Rattle.nj_ask.specs.SameFiles.{path_of}
 use Rattle.nj_ask.specs.Shape.{shape_text}
 

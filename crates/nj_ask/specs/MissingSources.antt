@@ -1,5 +1,5 @@
 -- Where a build stops: at a missing source that the manifest itself names.
-use Rattle.std.specs.Prelude.{ℕ, Bool, is_some, Option, List, ◌++◌, codes, filter, length, map, slice_get, take}
+use Rattle.std.specs.Prelude.{ℕ, Bool, is_some, Option, List, ◌++◌, codes, filter, length, map, slice_get, take, unwrap_or}
 use Rattle.std.specs.List.{range_with_len}
 use Rattle.nj_names.specs.Files.{path_at}
 use Rattle.nj_names.specs.NameTables.{name_at}
@@ -15,26 +15,25 @@ use Rattle.nj_stale.specs.States.{Evidence, State, IsStateOf}
 use Rattle.nj_stale.specs.declared.missing.MissingSource.{MissingSource}
 use Rattle.nj_stale.specs.declared.missing.MissingSource.TheVariants.{Input, Target}
 use Rattle.nj_state.specs.Stale.{IsEvidence}
-use Rattle.nj_tools.specs.EdgeObjects.{stated_count}
-use Rattle.nj_tools.specs.declared.EdgeDiscovery.{EdgeDiscovery}
 use Rattle.nj_ask.specs.declared.discovered.DiscoveredGraph.{DiscoveredGraph}
 use Rattle.nj_ask.specs.Endings.{program_line}
 
 -- ---- what the manifest itself names
 
--- an edge without the inputs that builds discovered for it, which are its last implicit inputs
-abbrev pub stated_edge : List EdgePaths → List EdgeDiscovery → (edge : ℕ) → EdgePaths
-stated_edge edges discoveries edge =
+-- An edge with as many implicit inputs as the manifest itself has for it: those that a dyndep file names and that builds discovered come
+-- after them.
+abbrev pub stated_edge : List EdgePaths → (stated : List ℕ) → (edge : ℕ) → EdgePaths
+stated_edge edges stated edge =
     let e = edge_at edges edge in
-    record e { implicit_inputs = take (stated_count (slice_get discoveries edge) (length e.implicit_inputs)) e.implicit_inputs }
+    record e { implicit_inputs = take (unwrap_or (slice_get stated edge) (length e.implicit_inputs)) e.implicit_inputs }
 
--- the edges of the manifest, before discovered inputs were joined
-abbrev pub stated_edges : List EdgePaths → List EdgeDiscovery → List EdgePaths
-stated_edges edges discoveries = map (stated_edge edges discoveries) (range_with_len 0 (length edges))
+-- the edges with the inputs that the manifest itself has for them
+abbrev pub stated_edges : List EdgePaths → (stated : List ℕ) → List EdgePaths
+stated_edges edges stated = map (stated_edge edges stated) (range_with_len 0 (length edges))
 
--- the manifest itself names the file: an edge of it does
+-- the manifest itself names the source: an edge of it does
 abbrev pub is_stated : DiscoveredGraph → (path : List ℕ) → Bool
-is_stated known path = is_named (stated_edges (edges_of known.graph) known.discoveries.items) path
+is_stated known path = is_named (stated_edges (edges_of known.graph) known.stated_inputs.items) path
 
 -- ---- where a build stops
 

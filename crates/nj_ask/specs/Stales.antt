@@ -59,7 +59,7 @@ files_asked g options targets = manifest_needs g options ++ grown_targets (edges
 
 -- ---- what is stale
 
--- of the edges whose commands the files at these paths need, those that are stale, in the order of these commands
+-- the stale edges among those whose commands the files at the given paths need, in the order of their commands
 pub record AreStaleFor (known : DiscoveredGraph) (entries : List ReadStatement) (log : BuildLogModel) (times : DeclaredTimes)
     (paths : List (List ℕ)) (stale : List StaleEdge) : Type 0 where
   pub files : List FileNo
@@ -70,7 +70,7 @@ pub record AreStaleFor (known : DiscoveredGraph) (entries : List ReadStatement) 
 abbrev pub numbers_of_stale : List StaleEdge → List ℕ
 numbers_of_stale stale = map (λ item. item.edge.0) stale
 
--- the lines of stale edges, with their reasons if these are requested
+-- the lines of stale edges, with their reasons if reasons are requested
 abbrev pub stale_text : GraphModel → (why : Bool) → List StaleEdge → List ℕ
 stale_text g why stale = flat_map (stale_line why (edges_of g)) stale
 
@@ -81,12 +81,12 @@ abbrev pub stale_caveats : DiscoveredGraph → List ReadStatement → List Stale
 stale_caveats known entries stale =
     known.caveats.items ++ dyndep_text known.graph entries [] (numbers_of_stale stale)
 
--- one of these stale edges is the maker
+-- the maker is among the stale edges
 abbrev pub is_stale_maker : List StaleEdge → (maker : Option ℕ) → Bool
 is_stale_maker stale None = false
 is_stale_maker stale (Some edge) = list_any (λ item. edge == item.edge.0) stale
 
--- the line about the manifest, if one of these stale edges makes it
+-- the line about the manifest, if a stale edge makes it
 abbrev pub manifest_text : GraphModel → List StaleEdge → (manifest : Option (List ℕ)) → List ℕ
 manifest_text g stale None = []
 manifest_text g stale (Some path) =

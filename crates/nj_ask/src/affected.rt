@@ -12,6 +12,7 @@ use crate::report::{Change, report_of};
 use crate::status::Status;
 use nj_changes::without_ignored;
 use nj_globs::Glob;
+use nj_names::Names;
 use nj_questions::AffectedOptions;
 use std::alloc::{AllocError, Global};
 
@@ -48,7 +49,8 @@ pub(crate) fn answer_affected(
         return Ok(without_paths(alloc)?);
     }
     let paths = without_ignored(alloc, globs, &given)?;
-    let change = change_of(options, folder, &paths);
+    let no_files = Names::new(alloc, known.keys);
+    let change = change_of(options, folder, &paths, &no_files);
     let listed = listed_by(options);
     Ok(report_of(alloc, known, change, listed)?)
 }
@@ -67,7 +69,8 @@ fn without_paths(alloc: Global) -> Result<Answer, AllocError>
     })
 }
 
-/// The change of the files at the given paths, by the working directory.
+/// The change of the files at the given paths, by the working directory, where tests name the given
+/// files.
 pub(crate) fn change_of<'a>(
     options: &'a AffectedOptions,
     folder: &'a [u8],

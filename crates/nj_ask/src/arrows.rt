@@ -1,8 +1,7 @@
 //! The arrows of a drawing.
 
 ghost use Rattle.std.specs.Prelude.{◌≡◌, ◌++◌, ◌∷◌, [], List, OnOk, map, slice_get};
-ghost use Rattle.nj_ask.specs.Drawings.{stated_count};
-ghost use Rattle.nj_ask.specs.Cited.{flat_map, edge_of, file_of, GraphEdge, End, arrow_line, arrows_from, arrows_to, drawn_ends, edge_arrows, end_at, ends, ends_after, ends_before, node_arrows, node_model, of_edge};
+ghost use Rattle.nj_ask.specs.Cited.{stated_count, flat_map, edge_of, file_of, GraphEdge, End, arrow_line, arrows_from, arrows_to, drawn_ends, edge_arrows, end_at, ends, ends_after, ends_before, node_arrows, node_model, of_edge};
 
 use crate::node_lines::push_name;
 use crate::nodes::{Node, NodeList, is_folded, node_of};

@@ -182,6 +182,7 @@ fn task_of<'q>(alloc: Global, subject: &'q Subject) -> Result<Task<'q>, Failure>
             Ok(globs) => Ok(Task::Tests(options, globs)),
             Err(failure) => Err(failure),
         },
+        Subject::Times(options) => Ok(Task::Times(options)),
         Subject::Why(options) => Ok(Task::Why(options)),
     }
 }
@@ -203,7 +204,7 @@ fn takes_build_log(task: &Task<'_>) -> bool
         → result ≡ takes_build_log subject }
 {
     match task {
-        Task::Stale(_) => true,
+        Task::Stale(_) | Task::Times(_) => true,
         _ => false,
     }
 }

@@ -16,6 +16,7 @@ use crate::test_options::style_asked;
 use nj_changes::{full_path, without_ignored};
 use nj_chosen::choose;
 use nj_globs::Glob;
+use nj_names::Names;
 use nj_questions::TestsOptions;
 use nj_reached::changed_paths;
 use nj_test_texts::tests_text;

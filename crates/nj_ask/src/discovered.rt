@@ -5,6 +5,7 @@ ghost use Rattle.nj_graph.specs.ReadingList.{ReadStatement};
 ghost use Rattle.nj_ask.specs.Cited.{LogModel, DeclaredTimes, AreDiscovered, IsGraphOf, SourceState, JoinsDiscovered, Follows, HasDoubtfulEdges, AreFindingsOf};
 
 use crate::doubts::{Doubts, EdgeFault, doubts_of};
+use crate::keeping::keep_if_ok;
 use nj_deps::DepsLog;
 use nj_graph::{
     Discoveries, EdgeNo, FileSource, FileTimes, Graph, GraphFault, HashKeys, UndeclaredInput,
@@ -25,6 +26,9 @@ pub struct DiscoveredGraph {
     /// By edge number, how many implicit inputs each edge has without the discovered ones, and
     /// whether the discovered ones are known. Empty if they are not requested.
     pub discoveries: Vec<EdgeDiscovery>,
+    /// By edge number, how many implicit inputs the manifest itself has for each edge: those that a
+    /// dyndep file names and that builds discovered come after them.
+    pub stated_inputs: Vec<usize>,
     /// Why the discovered inputs may differ from those of the last build, a line each.
     pub caveats: Vec<u8>,
     /// The inputs in the deps log that edges do not declare, if they are requested.
@@ -67,7 +71,8 @@ pub fn with_discovered<S: FileSource, T: FileTimes>(
     ensures edges { IfOk result HasDoubtfulEdges }
     ensures follows { IfOk result (λ known. Follows graph known.graph) }
 {
-    let findings = findings_of(alloc, &graph, log, files, times)?;
+    let findings = findings_of(alloc, &graph, log, files, times);
+    let (graph, findings) = keep_if_ok(graph, findings)?;
     with_findings(alloc, graph, findings)
 }
 

@@ -2,7 +2,7 @@
 
 ghost use Rattle.std.specs.Prelude.{◌≡◌, List, Err, IfErr, IfOk, Ok, map, option_copied, string_bytes};
 ghost use Rattle.nj_scope.specs.ReadingList.{ReadStatement};
-ghost use Rattle.nj_ask.specs.Cited.{FindsUndeclared, undeclared_in, AreInputsIn, KnowsByLog, LacksByLog, SourceState, IsGraphOf, OfStatements, files_of, Loads, input_of_edge, asked_graph, Fault, line, HasEdges, IsDeclared, IsDiscovered, KnowsGraph, LacksGraph, ReadsManifest, asks_discovered, discovered_line, FailsBy, Discovers, LacksDiscovered, LacksMain, LacksManifest, HasStatements, sources_of};
+ghost use Rattle.nj_ask.specs.Cited.{AreStatedInputs, implicit_counts, FindsUndeclared, undeclared_in, AreInputsIn, KnowsByLog, LacksByLog, SourceState, IsGraphOf, OfStatements, files_of, Loads, input_of_edge, asked_graph, Fault, line, HasEdges, IsDeclared, IsDiscovered, KnowsGraph, LacksGraph, ReadsManifest, asks_discovered, discovered_line, FailsBy, Discovers, LacksDiscovered, LacksMain, LacksManifest, HasStatements, sources_of};
 
 use crate::deps_log::{ReadLog, read_log};
 use crate::discovered::{Discovered, DiscoveredGraph, with_discovered};
@@ -44,15 +44,23 @@ pub fn known_graph<S: FileSource, B: FileSource, T: FileTimes>(
         (T.times times.now) (sources_of (S.state files.old) (B.state built.old))
         (sources_of (S.state files.new) (B.state built.new)))) }
 {
-    let loaded = match read_manifest(alloc, files, times, asked) {
-        Ok(loaded) => loaded,
+    let read = match read_manifest(alloc, files, times, asked) {
+        Ok(read) => read,
         Err(failure) => return Err(failure),
     };
     let keys = files.hash_keys();
-    match known_by(alloc, loaded, keys, built, times, asked, seeks_undeclared) {
+    match known_by(alloc, read, keys, built, times, asked, seeks_undeclared) {
         Ok(known) => Ok(Box::new(alloc, known)?),
         Err(failure) => Err(failure),
     }
+}
+
+/// A manifest with the dyndep files that were joined, and how many implicit inputs it has for each
+/// edge without them.
+#[derive(Drop)]
+struct ReadManifest {
+    loaded: Box<Loaded>,
+    stated_inputs: Vec<usize>,
 }
 
 /// The main file and all that it includes; with `--dyndep` joined with all dyndep files, and where
@@ -63,9 +71,11 @@ fn read_manifest<S: FileSource, T: FileTimes>(
     files: &mut S,
     times: &T,
     asked: &GraphOptions,
-) -> Result<Box<Loaded>, Failure>
-    ensures reads { IfOk result (λ loaded. ReadsManifest (asked_graph asked.now)
-        (T.times times.now) (S.state files.old) (S.state files.new) (Ok loaded.value)) }
+) -> Result<ReadManifest, Failure>
+    ensures reads { IfOk result (λ read. ReadsManifest (asked_graph asked.now)
+        (T.times times.now) (S.state files.old) (S.state files.new) (Ok read.loaded.value)) }
+    ensures stated { IfOk result (λ read. AreStatedInputs (asked_graph asked.now)
+        (S.state files.old) read.stated_inputs.items) }
     ensures lacks { IfErr result (FailsBy Fault (LacksManifest (asked_graph asked.now)
         (T.times times.now) (S.state files.old) (S.state files.new))) }
 {
@@ -73,10 +83,38 @@ fn read_manifest<S: FileSource, T: FileTimes>(
         Ok(loaded) => loaded,
         Err(failure) => return Err(failure),
     };
+    let stated_inputs = implicit_counts(alloc, loaded.graph())?;
     match with_dyndeps(alloc, files, times, asked, loaded) {
-        Ok(loaded) => Ok(boxed(alloc, loaded)?),
+        Ok(loaded) => Ok(read_manifest_of(alloc, loaded, stated_inputs)?),
         Err(fault) => Err(Failure::of_fault(alloc, &fault)),
     }
+}
+
+/// The manifest that was read, on the heap.
+fn read_manifest_of(
+    alloc: Global,
+    loaded: Loaded,
+    stated_inputs: Vec<usize>,
+) -> Result<ReadManifest, AllocError>
+    ensures loaded { IfOk result (λ read. read.loaded.value ≡ loaded) }
+    ensures stated { IfOk result (λ read. read.stated_inputs ≡ stated_inputs) }
+{
+    let loaded = boxed(alloc, loaded)?;
+    Ok(ReadManifest {
+        loaded,
+        stated_inputs,
+    })
+}
+
+/// How many implicit inputs each edge has, by number.
+fn implicit_counts(alloc: Global, graph: &EdgeGraph) -> Result<Vec<usize>, AllocError>
+    ensures { IfOk result (λ counts. counts.items ≡ implicit_counts graph.now.edges) }
+{
+    let mut counts = Vec::new(alloc);
+    'edges: for number in 0..graph.edge_count() {
+        counts.push(graph.implicit_input_files(EdgeNo(number)).len())?;
+    }
+    Ok(counts)
 }
 
 /// The main file and all that it includes. Included files are read by recursion, so few functions
@@ -151,7 +189,7 @@ fn named_log(asked: &GraphOptions) -> Option<&str>
 #[inline(never)]
 fn known_by<B: FileSource, T: FileTimes>(
     alloc: Global,
-    loaded: Box<Loaded>,
+    read: ReadManifest,
     keys: HashKeys,
     built: &mut B,
     times: &T,
@@ -159,21 +197,39 @@ fn known_by<B: FileSource, T: FileTimes>(
     seeks_undeclared: bool,
 ) -> Result<DiscoveredGraph, Failure>
     ensures known { (old new : SourceState) → ReadsManifest (asked_graph asked.now)
-        (T.times times.now) old new (Ok loaded.value)
+        (T.times times.now) old new (Ok read.loaded.value)
+        → AreStatedInputs (asked_graph asked.now) old read.stated_inputs.items
         → IfOk result (KnowsGraph (asked_graph asked.now) seeks_undeclared (T.times times.now)
         (sources_of old (B.state built.old)) (sources_of new (B.state built.new))) }
     ensures edges { IfOk result HasEdges }
     ensures lacks { (old new : SourceState) → ReadsManifest (asked_graph asked.now)
-        (T.times times.now) old new (Ok loaded.value)
+        (T.times times.now) old new (Ok read.loaded.value)
         → IfErr result (FailsBy Fault (LacksGraph (asked_graph asked.now) (T.times times.now)
         (sources_of old (B.state built.old)) (sources_of new (B.state built.new)))) }
 {
+    let ReadManifest {
+        loaded,
+        stated_inputs,
+    } = read;
     let graph = Box::into_inner(loaded).into_graph();
     if asks_discovered(asked) {
         let named = named_log(asked);
-        return with_log(alloc, graph, keys, built, times, named, seeks_undeclared);
+        return match with_log(alloc, graph, keys, built, times, named, seeks_undeclared) {
+            Ok(known) => Ok(with_stated_inputs(known, stated_inputs)),
+            Err(failure) => Err(failure),
+        };
     }
-    Ok(undiscovered(alloc, graph, keys))
+    let known = undiscovered(alloc, graph, keys);
+    Ok(with_stated_inputs(known, stated_inputs))
+}
+
+/// A graph with the counts of the implicit inputs that the manifest itself has.
+fn with_stated_inputs(known: DiscoveredGraph, stated_inputs: Vec<usize>) -> DiscoveredGraph
+    ensures { result ≡ record known { stated_inputs = stated_inputs } }
+{
+    let mut known = known;
+    known.stated_inputs = stated_inputs;
+    known
 }
 
 /// A graph with what builds discovered, by the named deps log or Ninja's own.
@@ -238,6 +294,7 @@ fn undiscovered(alloc: Global, graph: Graph, keys: HashKeys) -> DiscoveredGraph
         unknown: Vec::new(alloc),
         faults: Vec::new(alloc),
         discoveries: Vec::new(alloc),
+        stated_inputs: Vec::new(alloc),
         caveats: Vec::new(alloc),
         undeclared: Vec::new(alloc),
         keys,
@@ -288,13 +345,14 @@ fn discover<B: FileSource, T: FileTimes>(
 {
     let ReadLog { path, log, caveat } = log;
     match with_discovered(alloc, graph, &log, built, times) {
-        Ok(discovered) => Ok(with_doubts(discovered, caveat, undeclared, keys)?),
+        Ok(discovered) => Ok(with_doubts(alloc, discovered, caveat, undeclared, keys)?),
         Err(fault) => Err(of_discovered(alloc, &path, &fault)),
     }
 }
 
 /// A graph with discovered inputs, and what is not known of the inputs and of the deps log.
 fn with_doubts(
+    alloc: Global,
     discovered: Discovered,
     caveat: Vec<u8>,
     undeclared: Vec<UndeclaredInput>,
@@ -318,6 +376,7 @@ fn with_doubts(
         unknown: edges,
         faults,
         discoveries,
+        stated_inputs: Vec::new(alloc),
         caveats,
         undeclared,
         keys,

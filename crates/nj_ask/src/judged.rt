@@ -42,7 +42,7 @@ pub(crate) fn judged_graph<T: FileTimes>(
         Ok(build) => build,
         Err(failure) => return Err(failure),
     };
-    let stated = stated_flags(alloc, &known.graph, &known.discoveries)?;
+    let stated = stated_flags(alloc, &known.graph, &known.stated_inputs)?;
     Ok(JudgedGraph { build, stated })
 }
 

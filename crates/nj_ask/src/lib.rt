@@ -24,6 +24,7 @@ mod given;
 mod graph_reading;
 mod json;
 mod judged;
+mod keeping;
 mod keys;
 mod listing;
 mod made_files;

@@ -68,7 +68,7 @@ fn first_source(
     )
 }
 
-/// The targets, and those validations of the edges that they need which an edge makes.
+/// The targets, and the validations of needed edges, without validations that no edge makes.
 fn required_files(
     alloc: Global,
     graph: &EdgeGraph,
@@ -87,7 +87,7 @@ fn required_files(
     Ok(files)
 }
 
-/// Those of some files that an edge makes.
+/// The files of a list that edges make.
 fn made_files(alloc: Global, graph: &EdgeGraph, files: &[FileNo]) -> Result<Vec<FileNo>, AllocError>
     requires { All (λ file. file.0 < length graph.now.files) files.now }
     ensures paths { IfOk result (λ made. map (path_at graph.now.files) made.items
@@ -119,7 +119,7 @@ fn push_if_made(files: &mut Vec<FileNo>, graph: &EdgeGraph, file: FileNo) -> Res
     Ok(())
 }
 
-/// That a build stops at a missing source.
+/// The failure that reports a missing source.
 fn of_source(alloc: Global, graph: &EdgeGraph, source: MissingSource) -> Failure
     ensures { FailsBy Fault (λ line. line ≡ missing_line graph.now source) result }
 {
@@ -132,7 +132,7 @@ fn of_source(alloc: Global, graph: &EdgeGraph, source: MissingSource) -> Failure
     }
 }
 
-/// That a build stops at a missing input of an edge.
+/// The failure that reports a missing input of an edge.
 fn of_input(alloc: Global, graph: &EdgeGraph, edge: EdgeNo, file: FileNo) -> Failure
     ensures { FailsBy Fault (λ line. line ≡ program_line (codes "'"
         ++ path_at graph.now.files file ++ codes "', needed by '"
@@ -142,7 +142,7 @@ fn of_input(alloc: Global, graph: &EdgeGraph, edge: EdgeNo, file: FileNo) -> Fai
     of_paths(alloc, path_or_none(graph, file), first_output(graph, edge))
 }
 
-/// The same, by the path of the input, and an output of the edge.
+/// The failure that reports a missing input by its path, and its edge by an output.
 fn of_paths(alloc: Global, path: &[u8], output: &[u8]) -> Failure
     ensures { FailsBy Fault (λ line. line ≡ program_line (codes "'" ++ path.now
         ++ codes "', needed by '" ++ output.now
@@ -154,7 +154,7 @@ fn of_paths(alloc: Global, path: &[u8], output: &[u8]) -> Failure
     }
 }
 
-/// What is said of a missing source after its path, where the edge with this output needs it.
+/// What follows the path of a missing input in its report; the edge that needs it has this output.
 fn needed_by(alloc: Global, output: &[u8]) -> Result<Vec<u8>, AllocError>
     ensures { IfOk result (λ words. words.items ≡ codes "', needed by '" ++ output.now
         ++ codes "', missing and no known rule to make it") }

@@ -270,7 +270,7 @@ fn files_asked(
 
 // ---- what is stale
 
-/// Of the edges whose commands these files need, those that are stale.
+/// The stale edges among those whose commands the files need.
 fn stale_of(
     alloc: Global,
     known: &DiscoveredGraph,
@@ -289,7 +289,7 @@ fn stale_of(
     stale_in(alloc, &known.graph, build, files)
 }
 
-/// The line about the manifest, if one of these stale edges makes it.
+/// The line about the manifest, if a stale edge makes it.
 fn manifest_line(
     alloc: Global,
     graph: &Graph,
@@ -306,7 +306,7 @@ fn manifest_line(
     }
 }
 
-/// The line about the manifest at a file, if one of these stale edges makes it.
+/// The line about the manifest at a file, if a stale edge makes it.
 fn line_if_stale(
     alloc: Global,
     graph: &Graph,
@@ -334,7 +334,7 @@ fn line_about(alloc: Global, path: &[u8]) -> Result<Vec<u8>, AllocError>
     Ok(text)
 }
 
-/// Whether one of these stale edges is the maker.
+/// Whether the maker is among the stale edges.
 fn is_stale_maker(stale: &[StaleEdge], maker: Option<EdgeNo>) -> bool
     ensures { result ≡ is_stale_maker stale.now (option_map (λ edge. edge.0) maker) }
 {
@@ -344,7 +344,7 @@ fn is_stale_maker(stale: &[StaleEdge], maker: Option<EdgeNo>) -> bool
     }
 }
 
-/// Whether an edge is one of these stale ones.
+/// Whether an edge is among the stale edges.
 fn has_edge(stale: &[StaleEdge], edge: EdgeNo) -> bool
     ensures { result ≡ list_any (λ item. edge.0 == item.edge.0) stale.now }
 {
@@ -353,7 +353,7 @@ fn has_edge(stale: &[StaleEdge], edge: EdgeNo) -> bool
 
 // ---- the answer
 
-/// The answer that lists these stale edges.
+/// The answer that lists the stale edges.
 fn listed(
     alloc: Global,
     known: &DiscoveredGraph,
@@ -390,7 +390,7 @@ fn with_warning(answer: Answer, line: &[u8]) -> Result<Answer, AllocError>
     Ok(said)
 }
 
-/// These stale edges, a line each.
+/// The stale edges, a line each.
 fn written(
     alloc: Global,
     known: &DiscoveredGraph,

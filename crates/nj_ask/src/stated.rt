@@ -1,25 +1,24 @@
 //! Which files the manifest itself names.
 
-ghost use Rattle.std.specs.Prelude.{◌≡◌, ◌<◌, ◌++◌, All, IfOk, OnOk, length, map, slice_get, take};
-ghost use Rattle.nj_tools.specs.EdgeObjects.{stated_count};
+ghost use Rattle.std.specs.Prelude.{◌≡◌, ◌<◌, ◌++◌, All, IfOk, OnOk, length, map, slice_get, take, unwrap_or};
 ghost use Rattle.nj_ask.specs.Cited.{AreStated, flat_map, is_named, named_paths, path_at, range_with_len, stated_edge, stated_edges};
 
 use crate::manifest::file_flags;
 use nj_graph::{EdgeGraph, EdgeNo, FileNo};
-use nj_tools::EdgeDiscovery;
 use std::alloc::{AllocError, Global};
 
-/// For each file of a graph, whether the manifest itself names it. Files that only builds discovered
-/// have no flag. Takes time in proportion to the edges and their files.
+/// For each source of a graph, whether the manifest itself names it: not a dyndep file alone, nor a
+/// build that discovered it. `stated` has, by edge number, how many implicit inputs the manifest has
+/// for each edge. Takes time in proportion to the edges and their files.
 pub(crate) fn stated_flags(
     alloc: Global,
     graph: &EdgeGraph,
-    discoveries: &[EdgeDiscovery],
+    stated: &[usize],
 ) -> Result<Vec<bool>, AllocError>
     ensures { IfOk result (λ flags. AreStated graph.now.files
-        (is_named (stated_edges graph.now.edges discoveries.now)) flags.items) }
+        (is_named (stated_edges graph.now.edges stated.now)) flags.items) }
 {
-    let files = stated_files(alloc, graph, discoveries)?;
+    let files = stated_files(alloc, graph, stated)?;
     file_flags(alloc, graph.file_count(), &files)
 }
 
@@ -27,16 +26,16 @@ pub(crate) fn stated_flags(
 fn stated_files(
     alloc: Global,
     graph: &EdgeGraph,
-    discoveries: &[EdgeDiscovery],
+    stated: &[usize],
 ) -> Result<Vec<FileNo>, AllocError>
     ensures paths { IfOk result (λ files. map (path_at graph.now.files) files.items
-        ≡ flat_map named_paths (stated_edges graph.now.edges discoveries.now)) }
+        ≡ flat_map named_paths (stated_edges graph.now.edges stated.now)) }
     ensures known { IfOk result (λ files.
         All (λ file. file.0 < length graph.now.files) files.items) }
 {
     let mut files = Vec::new(alloc);
     'edges: for number in 0..graph.edge_count() {
-        push_stated(&mut files, graph, discoveries, EdgeNo(number))?;
+        push_stated(&mut files, graph, stated, EdgeNo(number))?;
     }
     Ok(files)
 }
@@ -45,45 +44,41 @@ fn stated_files(
 fn push_stated(
     files: &mut Vec<FileNo>,
     graph: &EdgeGraph,
-    discoveries: &[EdgeDiscovery],
+    stated: &[usize],
     edge: EdgeNo,
 ) -> Result<(), AllocError>
     requires edge { edge.0 < length graph.now.edges }
     requires files { All (λ file. file.0 < length graph.now.files) files.old.items }
     ensures paths { OnOk result (map (path_at graph.now.files) files.new.items
         ≡ map (path_at graph.now.files) files.old.items
-        ++ named_paths (stated_edge graph.now.edges discoveries.now edge.0)) }
+        ++ named_paths (stated_edge graph.now.edges stated.now edge.0)) }
     ensures known { OnOk result (All (λ file. file.0 < length graph.now.files) files.new.items) }
 {
     files.extend_from_slice(graph.outputs(edge))?;
     files.extend_from_slice(graph.explicit_input_files(edge))?;
-    files.extend_from_slice(stated_inputs(graph, discoveries, edge))?;
+    files.extend_from_slice(stated_inputs(graph, stated, edge))?;
     files.extend_from_slice(graph.order_only_input_files(edge))?;
     files.extend_from_slice(graph.validations(edge))?;
     Ok(())
 }
 
-/// The implicit inputs of an edge without those that builds discovered.
-fn stated_inputs<'g>(
-    graph: &'g EdgeGraph,
-    discoveries: &[EdgeDiscovery],
-    edge: EdgeNo,
-) -> &'g [FileNo]
+/// The implicit inputs that the manifest itself has for an edge.
+fn stated_inputs<'g>(graph: &'g EdgeGraph, stated: &[usize], edge: EdgeNo) -> &'g [FileNo]
     requires { edge.0 < length graph.now.edges }
     ensures paths { map (path_at graph.entry.now.files) result.now
-        ≡ (stated_edge graph.entry.now.edges discoveries.now edge.0).implicit_inputs }
+        ≡ (stated_edge graph.entry.now.edges stated.now edge.0).implicit_inputs }
     ensures known { All (λ file. file.0 < length graph.entry.now.files) result.now }
 {
     let inputs = graph.implicit_input_files(edge);
-    first_files(inputs, stated_count(discoveries, edge, inputs.len()))
+    first_files(inputs, stated_count(stated, edge, inputs.len()))
 }
 
-/// How many of the given number of implicit inputs an edge has without the discovered ones.
-fn stated_count(discoveries: &[EdgeDiscovery], edge: EdgeNo, count: usize) -> usize
-    ensures { result ≡ stated_count (slice_get discoveries.now edge.0) count }
+/// How many of the given number of implicit inputs the manifest itself has for an edge.
+fn stated_count(stated: &[usize], edge: EdgeNo, count: usize) -> usize
+    ensures { result ≡ unwrap_or (slice_get stated.now edge.0) count }
 {
-    match discoveries.get(edge.0) {
-        Some(discovery) => discovery.stated_inputs,
+    match stated.get(edge.0) {
+        Some(stated) => *stated,
         None => count,
     }
 }

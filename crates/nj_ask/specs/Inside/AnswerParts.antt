@@ -2,7 +2,7 @@
 use Rattle.std.specs.Prelude.{◌≡◌, ℕ, true, Option, option_map, Result, Err, List, ◌++◌, codes}
 use Rattle.nj_graph.specs.ReadingList.{ReadStatement}
 use Rattle.nj_graph.specs.declared.GraphFault.{GraphFault}
-use Rattle.nj_graph.specs.Graph.{edges_of}
+use Rattle.nj_graph.specs.Edges.{EdgePaths}
 use Rattle.nj_graph.specs.Handles.{GraphFiles}
 use Rattle.nj_needs.specs.PageWalks.{written, StopsAt}
 use Rattle.nj_needs.specs.Walks.{WalkState}
@@ -29,9 +29,10 @@ abbrev pub SaysPattern : PatternFault → (line : List ℕ) → Type 0
 SaysPattern (pattern.Wrong text fault) line = line ≡ pattern_line text.now fault
 SaysPattern pattern.OutOfMemory line = ⊥
 
--- the lines of the commands that files need and that are left at a mark, up to a limit, and the mark after them
-pub record IsPageOf (files : GraphFiles) (entries : List ReadStatement) (additions folders : List (List ℕ)) (mark : List ℕ)
-    (limit : Option ℕ) (page : Page) : Type 0 where
+-- the lines of the commands that files need and that are left at a mark, up to a limit, with the keys of the given edges, and the mark
+-- after them
+pub record IsPageOf (files : GraphFiles) (edges : List EdgePaths) (entries : List ReadStatement) (additions folders : List (List ℕ))
+    (mark : List ℕ) (limit : Option ℕ) (page : Page) : Type 0 where
   pub valid : leads files mark ≡ true
   pub lines : ListsKeys additions folders (edges_of files.graph) entries (written limit (left_at files mark)) page.lines.items
   pub walk : WalkState

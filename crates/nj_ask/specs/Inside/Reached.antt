@@ -18,7 +18,7 @@ use Rattle.nj_ask.specs.declared.report.Tables.{Tables}
 use Rattle.nj_ask.specs.Affected.{line}
 use Rattle.nj_ask.specs.Inside.Flags.{AreFeeds, AreFlags}
 use Rattle.nj_ask.specs.Manifest.{is_one_of, makes_manifest, opened_files, opened_paths, FeedsManifest}
-use Rattle.nj_ask.specs.Reports.{changed_numbers, changed_paths, made_from_line, ChangeModel, IsTouchedBy}
+use Rattle.nj_ask.specs.Reports.{changed_numbers, changed_paths, is_test_file, made_from_line, ChangeModel, IsTouchedBy}
 use Rattle.nj_ask.specs.SameFiles.{full_path_of, numbers_at, path_of}
 
 -- numbers of files of a graph
@@ -88,7 +88,7 @@ abbrev pub warning_by : (opened : List (List ℕ)) → Tables → ChangeModel �
 warning_by opened tables q path =
     if has_one opened (sought q.working q.folders path) || has_one tables.feeding (sought q.working q.folders path)
     then made_from_line path
-    else (if has_one tables.changed (sought q.working q.folders path) || q.ignores_unknown then [] else line path)
+    else (if has_one tables.changed (sought q.working q.folders path) || is_test_file q path || q.ignores_unknown then [] else line path)
 
 -- exactly the edges with a property, by number
 pub record AreTouched (known : DiscoveredGraph) (IsTouched : (edge : ℕ) → Type 0) (edges : List EdgeNo) : Type 0 where

@@ -1,4 +1,4 @@
-use Rattle.std.proofs.Common.{◌==◌, Some, inl, inr, map, option_map, string_bytes, sym, ap, subst, ◌∙◌}
+use Rattle.std.proofs.Common.{◌==◌, Some, [], inl, inr, map, option_map, string_bytes, sym, ap, subst, ◌∙◌}
 use Rattle.nj_changes.specs.Ignored.{AreLeft}
 use Rattle.nj_questions.specs.Questions.{affected_model}
 use Rattle.nj_ask.specs.Affected.{unknown_rule}

@@ -24,7 +24,7 @@ returns-in_ok-new-in-Ok-known_by-clause-known g c =
     (sources_of old (g.B.FileSource.state c.args.built.now))
     (sources_of new (g.B.FileSource.state c.known_by.new.built)))
     (sym c.in_ok-new-in-Ok-known_by.ensures.ok)
-    (c.in-Ok-known_by.ensures.known old new c.in-Ok.ensures.reads)
+    (c.in-Ok-known_by.ensures.known old new c.in-Ok.ensures.reads c.in-Ok.ensures.stated)
 
 pub returns-in_ok-new-in-Ok-known_by-clause-stated :
     goal.returns-in_ok-new-in-Ok-known_by-clause-stated
@@ -36,4 +36,5 @@ returns-in_ok-new-in-Ok-known_by-clause-stated g c =
     (g.T.FileTimes.times c.args.times.now)
     (sources_of old (g.B.FileSource.state c.args.built.now))
     (sources_of new (g.B.FileSource.state c.known_by.new.built))
-    c.in-Ok-known_by.known (c.in-Ok-known_by.ensures.known old new c.in-Ok.ensures.reads))
+    c.in-Ok-known_by.known
+    (c.in-Ok-known_by.ensures.known old new c.in-Ok.ensures.reads c.in-Ok.ensures.stated))

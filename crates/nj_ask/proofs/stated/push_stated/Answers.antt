@@ -19,7 +19,7 @@ returns-clause-paths c =
     let i = c.stated_inputs.result.now in
     let d = c.order_only_input_files.result.now in
     let v = c.validations.result.now in
-    let stated = (stated_edge g.edges c.args.discoveries.now c.args.edge.0).implicit_inputs in
+    let stated = (stated_edge g.edges c.args.stated.now c.args.edge.0).implicit_inputs in
     ap (map at) c.in_ok-extend_from_slice-5.ensures.items
     ∙ map-append at c.extend_from_slice-4.new.self.items v
     ∙ ap₂ (λ x y. x ++ y)

@@ -6,7 +6,7 @@ use Rattle.nj_ask.proofs.stated.stated_files.Goals as goal
 
 pub edges-preserved : goal.edges-preserved
 edges-preserved c =
-    let edge = stated_edge c.args.graph.now.edges c.args.discoveries.now in
+    let edge = stated_edge c.args.graph.now.edges c.args.stated.now in
     let n = c.edges.number in
     record {
       paths = c.in_ok-push_stated.ensures.paths

@@ -8,6 +8,6 @@ use Rattle.nj_ask.proofs.stated.stated_files.Given as goal
 abbrev pub invariant-edges : goal.invariant-edges
 invariant-edges l = record {
   paths : map (path_at l.graph.files) l.files.items
-      ≡ flat_map named_paths (map (stated_edge l.graph.edges l.discoveries) (range_with_len 0 l.number));
+      ≡ flat_map named_paths (map (stated_edge l.graph.edges l.stated) (range_with_len 0 l.number));
   known : All (λ file. file.0 < length l.graph.files) l.files.items;
 }

@@ -12,7 +12,7 @@ returns c =
     let files = c.in_ok-files.files.items in
     let numbers = map (λ (f : FileNo). f.0) files in
     IfOk-weaker c.file_flags.result _ _ (λ flags held.
-    stated-flags g.files (stated_edges g.edges c.args.discoveries.now) files flags.items
+    stated-flags g.files (stated_edges g.edges c.args.stated.now) files flags.items
     c.file_count.ensures.each_path_once c.in_ok-files.ensures.known c.in_ok-files.ensures.paths
     (subst (λ n. AreFlags n numbers flags.items) c.file_count.ensures.count
     (subst (λ fs. AreFlags c.file_count.result (map (λ (f : FileNo). f.0) fs) flags.items)

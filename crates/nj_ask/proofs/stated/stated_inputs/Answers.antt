@@ -1,7 +1,6 @@
-use Rattle.std.proofs.Common.{map, slice_get, take, ap, ◌∙◌}
+use Rattle.std.proofs.Common.{map, slice_get, take, unwrap_or, ap, ◌∙◌}
 use Rattle.nj_edges.specs.Edges.{edge_at}
 use Rattle.nj_names.specs.Files.{path_at}
-use Rattle.nj_tools.specs.EdgeObjects.{stated_count}
 use Rattle.nj_ask.proofs.StatedLemmas.{count-is, paths-are, take-mapped}
 use Rattle.nj_ask.proofs.stated.stated_inputs.Goals as goal
 
@@ -16,5 +15,5 @@ returns-clause-paths c =
     ∙ take-mapped (path_at g.files) count inputs
     ∙ ap (take count) (paths-are g.files inputs names are)
     ∙ ap (λ n. take n names) (c.stated_count.ensures
-    ∙ ap (stated_count (slice_get c.args.discoveries.now c.args.edge.0))
+    ∙ ap (unwrap_or (slice_get c.args.stated.now c.args.edge.0))
     (count-is g.files inputs names are))
