@@ -47,7 +47,7 @@ module _ (known : DiscoveredGraph) (entries : List ReadStatement) (folder : List
     pub gives-report : (q : ChangeModel) (asked : Asked) (paths : List (List ℕ))
         → (given_paths options input ≢ []) ⊎ (options.allow_empty ≡ true)
         → LeavesPaths options (given_paths options input) paths
-        → q ≡ change_asked options folder paths → asked ≡ outputs_asked options
+        → q ≡ change_asked options folder [] paths → asked ≡ outputs_asked options
         → IsReport known entries q asked answer.output.items answer.warnings.items
         → Gives (AnswersAffected known entries folder options input) (Ok answer)
     gives-report q asked paths some leaves change listed report = rw quiet (reported all some leaves

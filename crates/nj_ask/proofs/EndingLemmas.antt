@@ -36,6 +36,12 @@ gives-refused Is given Says such (Refused line status) fails =
 gives-refused Is given Says such Write fails = absurd fails
 gives-refused Is given Says such OutOfMemory fails = tt
 
+-- a `?` for which memory ran out
+pub gives-memory : (Is : (output : List ℕ) → Ending → Type 0) (result : Result Answer Failure)
+    → IsErr result × IsErrAnd result (λ e. e ≡ OutOfMemory) → Gives Is result
+gives-memory Is (Ok answer) (is_err, is) = absurd (true≢false (sym is_err))
+gives-memory Is (Err e) (is_err, is) = subst (λ failure. Gives Is (Err failure)) (sym is) tt
+
 -- an error of the system that is reported
 pub reports-error : (what why : List ℕ) (failure : Failure) (old new : SinkState) (status : Status)
     → FailsBy Fault (λ line. line ≡ program_line (what ++ why)) failure

@@ -20,9 +20,9 @@ use Rattle.nj_ask.specs.Affected.{line}
 use Rattle.nj_ask.specs.Inside.Reached.{warning_by, AreAt, AreFullPaths, AreTables}
 use Rattle.nj_ask.specs.Manifest.{opened_paths}
 use Rattle.nj_ask.specs.Reports.{changed_numbers, files_meant, is_opened, made_from_line, ChangeModel}
-use Rattle.nj_ask.specs.Reports.{ChangesManifest, HasWarnings, IsUnnamed, IsWarning}
+use Rattle.nj_ask.specs.Reports.{ChangesManifest, HasWarnings, IsUnnamed, IsWarning, is_test_file}
 use Rattle.nj_ask.specs.Reports.HasWarnings.{none, next}
-use Rattle.nj_ask.specs.Reports.IsWarning.{ignored, made_from, nothing, unknown}
+use Rattle.nj_ask.specs.Reports.IsWarning.{ignored, made_from, nothing, of_test, unknown}
 use Rattle.nj_ask.specs.SameFiles.{full_path_of, numbers_at}
 use Rattle.nj_ask.proofs.FlagLemmas.{passes-there, there-passes}
 use Rattle.nj_ask.proofs.ManifestLemmas.{contains-mapped}
@@ -231,17 +231,22 @@ module _ (g : GraphModel) (entries : List ReadStatement) (q : ChangeModel) where
 
       warned : IsWarning g entries q path (warning_by opened tables q path)
       warned = by (has_one opened (found path)) (has_one tables.feeding (found path))
-          (has_one tables.changed (found path)) q.ignores_unknown refl refl refl refl
+          (has_one tables.changed (found path)) (is_test_file q path) q.ignores_unknown refl refl refl refl
+          refl
         where
-          by : (was fed is ignores : Bool) → has_one opened (found path) ≡ was
+          by : (was fed is test ignores : Bool) → has_one opened (found path) ≡ was
               → has_one tables.feeding (found path) ≡ fed → has_one tables.changed (found path) ≡ is
-              → q.ignores_unknown ≡ ignores → IsWarning g entries q path
-              (cond (was || fed) (made_from_line path) (cond (is || ignores) [] (line path)))
-          by true fed is ignores one two three four = made_from (inl (sym (opened-same path) ∙ one))
-          by false true is ignores one two three four = made_from (feeds two)
-          by false false true ignores one two three four = nothing (keeps one two) (named three)
-          by false false false true one two three four = ignored (keeps one two) (unnamed three) four
-          by false false false false one two three four = unknown (keeps one two) (unnamed three) four
+              → is_test_file q path ≡ test → q.ignores_unknown ≡ ignores → IsWarning g entries q path
+              (cond (was || fed) (made_from_line path) (cond (is || test || ignores) [] (line path)))
+          by true fed is test ignores one two three four five = made_from (inl (sym (opened-same path) ∙ one))
+          by false true is test ignores one two three four five = made_from (feeds two)
+          by false false true test ignores one two three four five = nothing (keeps one two) (named three)
+          by false false false true ignores one two three four five =
+              of_test (keeps one two) (unnamed three) four
+          by false false false false true one two three four five =
+              ignored (keeps one two) (unnamed three) five
+          by false false false false false one two three four five =
+              unknown (keeps one two) (unnamed three) four five
 
     have-warnings : (paths : List (List ℕ))
         → ((path : List ℕ) → Contains paths path
@@ -254,3 +259,29 @@ module _ (g : GraphModel) (entries : List ReadStatement) (q : ChangeModel) where
 
     pub all-warned : HasWarnings g entries q q.paths (flat_map (warning_by opened tables q) q.paths)
     all-warned = have-warnings q.paths (λ path has. warned path has)
+
+-- ---- another table of the files that tests name
+
+module _ (g : GraphModel) (entries : List ReadStatement) (q : ChangeModel) (files : List (List ℕ))
+    (same : SameNames q.test_files files) where
+  abbrev with_files : ChangeModel
+  with_files = record q { test_files = files }
+
+  test-same : (path : List ℕ) → is_test_file q path ≡ is_test_file with_files path
+  test-same path =
+      any-same (is_among q.test_files) (is_among files) same (sought q.working q.folders path)
+
+  warning-same : (path text : List ℕ) → IsWarning g entries q path text
+      → IsWarning g entries with_files path text
+  warning-same path _ (made_from changes) = made_from changes
+  warning-same path _ (unknown not missing other asks) =
+      unknown not missing (sym (test-same path) ∙ other) asks
+  warning-same path _ (of_test not missing is) = of_test not missing (sym (test-same path) ∙ is)
+  warning-same path _ (ignored not missing ignores) = ignored not missing ignores
+  warning-same path _ (nothing not some) = nothing not some
+
+  pub warnings-same : (paths : List (List ℕ)) (text : List ℕ) → HasWarnings g entries q paths text
+      → HasWarnings g entries with_files paths text
+  warnings-same _ _ none = none
+  warnings-same _ _ (next {path = p} {warning = warning} {paths = paths} {text = text} one are) =
+      next (warning-same p warning one) (warnings-same paths text are)

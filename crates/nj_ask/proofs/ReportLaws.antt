@@ -1,10 +1,14 @@
 -- The meaning of no warning, and that paths have one text of warnings.
-use Rattle.std.proofs.Common.{◌≡◌, ◌<◌, ℕ, ◌⊎◌, inl, inr, false, List, [], ◌∷◌, ◌++◌, length, get_or, zero}
+use Rattle.std.proofs.Common.{◌≡◌, ◌<◌, ℕ, ◌⊎◌, inl, inr, true, false, List, [], ◌∷◌, ◌++◌, length, get_or}
+use Rattle.std.proofs.Common.{zero}
 use Rattle.std.proofs.Common.{suc}
 use Rattle.std.proofs.Common.{refl, sym, ap, subst, ◌∙◌, arith}
-use Rattle.std.specs.Prelude.{Contains, codes}
+use Rattle.std.specs.Prelude.{Contains, codes, not}
 use Rattle.std.proofs.lemmas.Bool.{both_ways, false_from_ne_true}
 use Rattle.std.proofs.lemmas.List.{length_push}
+use Rattle.nj_text.specs.Calls.{is_empty}
+use Rattle.nj_tests.specs.Tests.{TestModel}
+use Rattle.nj_changes.specs.FullPaths.{has_one, sought}
 use Rattle.nj_graph.specs.ReadingList.{ReadStatement}
 use Rattle.nj_graph.specs.Graph.{GraphModel}
 use Rattle.nj_ask.specs.declared.discovered.DiscoveredGraph.{DiscoveredGraph}
@@ -16,16 +20,20 @@ use Rattle.nj_ask.specs.Answers.{AnswersAffected, change_asked, outputs_asked}
 use Rattle.nj_ask.specs.Answers.AnswersAffected.{no_path, no_rule, reported}
 use Rattle.nj_ask.specs.Endings.{Concludes, Ending, Ends, Sinks, answered_status}
 use Rattle.nj_ask.specs.Endings.Ends.{ended, memory_fails, output_fails}
-use Rattle.nj_ask.specs.Laws.{DoneMissesNothing, IsIgnored, KeepsManifest, MissesNothing, WarningsAreUnique}
+use Rattle.nj_ask.specs.ChosenTests.{AnswersTests, Reaches, WritesTests, remarks, tests_change}
+use Rattle.nj_ask.specs.ChosenTests.AnswersTests.{chosen, no_folder}
+use Rattle.nj_ask.specs.Laws.{DoneMissesNothing, DoneMissesNoTest, IsIgnored, IsOfTest, KeepsManifest}
+use Rattle.nj_ask.specs.Laws.{MissesNothing, MissesNoTest, WarningsAreUnique}
 use Rattle.nj_ask.specs.Given.{given_paths, LeavesPaths}
-use Rattle.nj_ask.specs.Reports.{changed_numbers, is_opened, made_from_line, ChangeModel, ChangesManifest}
+use Rattle.nj_ask.specs.Reports.{changed_numbers, is_opened, is_test_file, made_from_line, ChangeModel}
+use Rattle.nj_ask.specs.Reports.{ChangesManifest}
 use Rattle.nj_ask.specs.Reports.{HasWarnings, IsReport, IsWarning}
 use Rattle.nj_ask.specs.Reports.HasWarnings.{none, next}
-use Rattle.nj_ask.specs.Reports.IsWarning.{ignored, made_from, nothing, unknown}
+use Rattle.nj_ask.specs.Reports.IsWarning.{ignored, made_from, nothing, of_test, unknown}
 use Rattle.nj_ask.specs.declared.status.Status.{Status}
 use Rattle.nj_ask.specs.declared.status.Status.TheVariants.{Done}
 use Rattle.nj_tools.specs.Sinks.{Takes}
-use Rattle.nj_questions.specs.Questions.{AffectedModel}
+use Rattle.nj_questions.specs.Questions.{AffectedModel, TestsModel}
 
 last-apart : {X : Type 0} (xs : List X) (x : X) → [] ≡ xs ++ x ∷ [] → ⊥
 last-apart xs x is = absurd (omega (arith, ap length is, length_push xs x))
@@ -41,26 +49,32 @@ line-apart path is = last-apart path 10 is
 made-from-apart : (path : List ℕ) → [] ≡ made_from_line path → ⊥
 made-from-apart path is = last-apart (path ++ codes ": the manifest is made from it") 10 is
 
+none-has-one : (paths : List (List ℕ)) → has_one [] paths ≡ false
+none-has-one [] = refl
+none-has-one (path ∷ paths) = none-has-one paths
+
 module _ (g : GraphModel) (entries : List ReadStatement) (q : ChangeModel) where
   -- where a warning is empty
   abbrev Harmless : List ℕ → Type 0
-  Harmless path = KeepsManifest g entries q path ⊎ IsIgnored g q path
+  Harmless path = IsOfTest g q path ⊎ KeepsManifest g entries q path ⊎ IsIgnored g q path
 
   not-opened : (path : List ℕ) → ¬ ChangesManifest g entries q path → is_opened g q path ≡ false
   not-opened path not = false_from_ne_true (is_opened g q path) (λ was. not (inl was))
 
   not-warned : (path text : List ℕ) → [] ≡ text → IsWarning g entries q path text → Harmless path
   not-warned path _ is (made_from changes) = absurd (made-from-apart path is)
-  not-warned path _ is (unknown not missing asks) = absurd (line-apart path is)
+  not-warned path _ is (unknown not missing other asks) = absurd (line-apart path is)
+  not-warned path _ is (of_test not missing names) =
+      inl (record { unnamed = missing; unopened = not-opened path not; is_named = names })
   not-warned path _ is (ignored not missing ignores) =
-      inr (record { unnamed = missing; unopened = not-opened path not; ignores = ignores })
-  not-warned path _ is (nothing not some) = inl (record {
+      inr (inr (record { unnamed = missing; unopened = not-opened path not; ignores = ignores }))
+  not-warned path _ is (nothing not some) = inr (inl (record {
     named = some;
     unopened = not-opened path not;
     unmade = λ file maker edge has needs input.
         false_from_ne_true (makes_manifest g (opened_files g q.working) entries maker)
         (λ holds. not (inr (file, has, by_maker holds needs input)));
-  })
+  }))
 
   none-warned : (paths : List (List ℕ)) (text : List ℕ) → [] ≡ text → HasWarnings g entries q paths text
       → (path : List ℕ) → Contains paths path → Harmless path
@@ -78,21 +92,32 @@ module _ (g : GraphModel) (entries : List ReadStatement) (q : ChangeModel) where
   one-warning : (path text other : List ℕ) → IsWarning g entries q path text
       → IsWarning g entries q path other → text ≡ other
   one-warning path _ _ (made_from changes) (made_from also) = refl
-  one-warning path _ _ (made_from changes) (unknown not missing asks) = absurd (not changes)
+  one-warning path _ _ (made_from changes) (unknown not missing other asks) = absurd (not changes)
+  one-warning path _ _ (made_from changes) (of_test not missing names) = absurd (not changes)
   one-warning path _ _ (made_from changes) (ignored not missing ignores) = absurd (not changes)
   one-warning path _ _ (made_from changes) (nothing not some) = absurd (not changes)
-  one-warning path _ _ (unknown not missing asks) (made_from changes) = absurd (not changes)
-  one-warning path _ _ (unknown not missing asks) (unknown again lacks more) = refl
-  one-warning path _ _ (unknown not missing asks) (ignored again lacks ignores) =
+  one-warning path _ _ (unknown not missing other asks) (made_from changes) = absurd (not changes)
+  one-warning path _ _ (unknown not missing other asks) (unknown again lacks apart more) = refl
+  one-warning path _ _ (unknown not missing other asks) (of_test again lacks names) =
+      absurd (both_ways (is_test_file q path) other names)
+  one-warning path _ _ (unknown not missing other asks) (ignored again lacks ignores) =
       absurd (both_ways q.ignores_unknown asks ignores)
-  one-warning path _ _ (unknown not missing asks) (nothing again some) = absurd (some missing)
+  one-warning path _ _ (unknown not missing other asks) (nothing again some) = absurd (some missing)
+  one-warning path _ _ (of_test not missing names) (made_from changes) = absurd (not changes)
+  one-warning path _ _ (of_test not missing names) (unknown again lacks other asks) =
+      absurd (both_ways (is_test_file q path) other names)
+  one-warning path _ _ (of_test not missing names) (of_test again lacks also) = refl
+  one-warning path _ _ (of_test not missing names) (ignored again lacks ignores) = refl
+  one-warning path _ _ (of_test not missing names) (nothing again some) = refl
   one-warning path _ _ (ignored not missing ignores) (made_from changes) = absurd (not changes)
-  one-warning path _ _ (ignored not missing ignores) (unknown again lacks asks) =
+  one-warning path _ _ (ignored not missing ignores) (unknown again lacks other asks) =
       absurd (both_ways q.ignores_unknown asks ignores)
+  one-warning path _ _ (ignored not missing ignores) (of_test again lacks names) = refl
   one-warning path _ _ (ignored not missing ignores) (ignored again lacks more) = refl
   one-warning path _ _ (ignored not missing ignores) (nothing again some) = refl
   one-warning path _ _ (nothing not some) (made_from changes) = absurd (not changes)
-  one-warning path _ _ (nothing not some) (unknown again missing asks) = absurd (some missing)
+  one-warning path _ _ (nothing not some) (unknown again missing other asks) = absurd (some missing)
+  one-warning path _ _ (nothing not some) (of_test again missing names) = refl
   one-warning path _ _ (nothing not some) (ignored again missing ignores) = refl
   one-warning path _ _ (nothing not some) (nothing again more) = refl
 
@@ -124,13 +149,20 @@ no-warnings (b ∷ warnings) is = absurd cc
 module _ (known : DiscoveredGraph) (entries : List ReadStatement) (folder : List ℕ) (options : AffectedModel)
     (input : List ℕ) (old new : Sinks) where
   abbrev change : (paths : List (List ℕ)) → ChangeModel
-  change paths = change_asked options folder paths
+  change paths = change_asked options folder [] paths
 
   abbrev MissesOf : (paths : List (List ℕ)) → Type 0
   MissesOf paths = MissesNothing known entries (change paths) (outputs_asked options) old.output new.output
 
   abbrev Misses : Type 0
   Misses = (paths : List (List ℕ)) × LeavesPaths options (given_paths options input) paths × MissesOf paths
+
+  -- tests name no file here
+  untested : (paths : List (List ℕ)) (path : List ℕ) → Harmless known.graph entries (change paths) path
+      → KeepsManifest known.graph entries (change paths) path ⊎ IsIgnored known.graph (change paths) path
+  untested paths path (inl of) = absurd (both_ways (is_test_file (change paths) path)
+      (none-has-one (sought folder options.source_dirs path)) of.is_named)
+  untested paths path (inr harmless) = harmless
 
   without-warnings : (paths : List (List ℕ)) (outputs warnings : List ℕ) → warnings ≡ []
       → IsReport known entries (change paths) (outputs_asked options) outputs warnings
@@ -141,8 +173,8 @@ module _ (known : DiscoveredGraph) (entries : List ReadStatement) (folder : List
       report.lists.edges)
       (sym empty ∙ report.caveats.all) in
       record {
-        keeps = λ path has. none-warned known.graph entries (change paths) paths report.caveats.about texts.1
-            report.caveats.warns path has;
+        keeps = λ path has. untested paths path (none-warned known.graph entries (change paths) paths
+            report.caveats.about texts.1 report.caveats.warns path has);
         clear = sym texts.0;
         outputs = outputs;
         lists = report.lists;
@@ -169,6 +201,65 @@ module _ (known : DiscoveredGraph) (entries : List ReadStatement) (folder : List
       answer-misses answers took (subst (Concludes ending old.error new.error) is concludes)
   done-misses _ is (output_fails answers fails same) = absurd cc
   done-misses _ is (memory_fails front took told) = absurd cc
+
+module _ (known : DiscoveredGraph) (entries : List ReadStatement) (folder : List ℕ) (options : TestsModel)
+    (tests : List TestModel) (input : List ℕ) (old new : Sinks) where
+  abbrev change_of : (paths : List (List ℕ)) → ChangeModel
+  change_of paths = tests_change known.has_discovered options tests folder paths
+
+  abbrev MissesNone : Type 0
+  MissesNone = (paths : List (List ℕ)) × LeavesPaths options.change (given_paths options.change input) paths
+      × MissesNoTest known entries options tests (change_of paths) old.output new.output
+
+  chosen-miss : (paths : List (List ℕ)) (edges caveats warnings output : List ℕ) → warnings ≡ []
+      → Reaches known entries (change_of paths) edges caveats
+      → warnings ≡ remarks options (given_paths options.change input) tests ++ caveats
+      → WritesTests known entries (change_of paths) edges options tests (not (is_empty warnings)) output
+      → Takes old.output new.output output
+      → MissesNoTest known entries options tests (change_of paths) old.output new.output
+  chosen-miss paths edges caveats warnings output empty reaches said writes took =
+      let q = change_of paths in
+      let both = both-empty (remarks options (given_paths options.change input) tests) caveats
+      (sym empty ∙ said) in
+      let texts = three-empty known.caveats.items reaches.are_caveats.about
+      (shape_text known entries (opened_files known.graph folder) (changed_numbers known.graph q) edges)
+      (both.1 ∙ reaches.are_caveats.all) in
+      record {
+        keeps = λ path has. none-warned known.graph entries q paths reaches.are_caveats.about texts.1
+            reaches.are_caveats.warns path has;
+        clear = sym texts.0;
+        edges = edges;
+        touched = reaches.touched;
+        shape = sym texts.2;
+        output = output;
+        writes = subst (λ t. WritesTests known entries q edges options tests (not (is_empty t)) output) empty
+            writes;
+        took = took;
+      }
+
+  tests-miss : {output : List ℕ} {ending : Ending}
+      → AnswersTests known entries folder options tests input output ending
+      → Takes old.output new.output output → Concludes ending old.error new.error Done → MissesNone
+  tests-miss (no_folder is) took concludes = let is-fault = concludes.1 in absurd cc
+  tests-miss (chosen {paths = paths} {edges = edges} {caveats = caveats} {warnings = warnings}
+      {output = output} some leaves reaches said writes) took (inl told) = (
+        paths,
+        leaves,
+        chosen-miss paths edges caveats warnings output (no-warnings warnings told.1) reaches said writes
+            took,
+      )
+  tests-miss (chosen some leaves reaches said writes) took (inr fails) = let is-failed = fails.1 in absurd cc
+
+  done-tests : (status : Status) → status ≡ Done
+      → Ends (AnswersTests known entries folder options tests input) old new status → MissesNone
+  done-tests _ is (ended {output = output} {ending = ending} answers took concludes) =
+      tests-miss answers took (subst (Concludes ending old.error new.error) is concludes)
+  done-tests _ is (output_fails answers fails same) = absurd cc
+  done-tests _ is (memory_fails front took told) = absurd cc
+
+pub complete-tests : DoneMissesNoTest
+complete-tests known entries folder options tests input old new ends =
+    done-tests known entries folder options tests input old new Done refl ends
 
 pub complete : DoneMissesNothing
 complete known entries folder options input old new ends =

@@ -1,9 +1,16 @@
 -- How the answer to `tests` is given.
-use Rattle.std.proofs.Common.{◌≡◌, ◌≢◌, ◌++◌, ◌∷◌, ◌==◌, ℕ, true, false, Option, Some, None, List, []}
+use Rattle.std.proofs.Common.{◌≡◌, ◌≢◌, ◌++◌, ◌∷◌, ◌==◌, ℕ, Bool, true, false, cond, Option, Some, None, List}
+use Rattle.std.proofs.Common.{[]}
 use Rattle.std.proofs.Common.{Ok, Err, length, true≢false}
 use Rattle.std.proofs.Common.{refl, sym, subst, ◌∙◌, ap}
 use Rattle.std.specs.Prelude.{◌↔◌, Contains, codes, is_some, not, option_map}
 use Rattle.nj_text.specs.Calls.{is_empty}
+use Rattle.std.proofs.Math.Path.{fun_ext}
+use Rattle.std.specs.List.{filter, flat_map}
+use Rattle.nj_names.specs.NameTables.{is_among}
+use Rattle.nj_changes.specs.FullPaths.{all_sought}
+use Rattle.nj_changes.specs.Tables.{SameNames}
+use Rattle.nj_chosen.specs.TestPaths.{named_by_tests, names_of_test}
 use Rattle.nj_graph.specs.ReadingList.{ReadStatement}
 use Rattle.nj_graph.specs.Graph.{GraphModel}
 use Rattle.nj_tests.specs.Tests.{TestModel}
@@ -16,7 +23,7 @@ use Rattle.nj_ask.specs.declared.failure.Failure.{Failure}
 use Rattle.nj_ask.specs.declared.report.Reach.{Reach}
 use Rattle.nj_ask.specs.declared.status.Status.TheVariants.{Fault}
 use Rattle.nj_ask.specs.Answers.{change_asked}
-use Rattle.nj_ask.specs.ChosenTests.{AnswersTests, WritesTests, remarks}
+use Rattle.nj_ask.specs.ChosenTests.{AnswersTests, WritesTests, remarks, test_files}
 use Rattle.nj_ask.specs.ChosenTests.AnswersTests.{chosen, no_folder}
 use Rattle.nj_ask.specs.Endings.{program_line, refused}
 use Rattle.nj_ask.specs.Given.{given_paths, LeavesPaths}
@@ -25,6 +32,7 @@ use Rattle.nj_ask.specs.Inside.Failures.{FailsBy, Gives}
 use Rattle.nj_ask.specs.Inside.Reached.{IsReach, edge_numbers}
 use Rattle.nj_ask.proofs.EndingLemmas.{gives-refused}
 use Rattle.nj_ask.proofs.InputLemmas.{not-none}
+use Rattle.nj_ask.proofs.MeantLemmas.{warnings-same}
 
 -- texts with and without a byte
 pub no-bytes : (text : List ℕ) → (length text == 0) ≡ true → text ≡ []
@@ -50,27 +58,69 @@ module _ (known : DiscoveredGraph) (entries : List ReadStatement) (folder : List
   abbrev Touches : Reach → (edge : ℕ) → ChangeModel → Type 0
   Touches reach edge q = Contains (edge_numbers reach.touched.items) edge ↔ IsTouchedBy known q edge
 
+  abbrev files_at : (paths : List (List ℕ)) → List (List ℕ)
+  files_at paths = test_files known.has_discovered options tests folder paths
+
   -- the tests that a change reaches
-  pub gives-tests : (answer : Answer) (q : ChangeModel) (paths : List (List ℕ)) (reach : Reach)
+  pub gives-tests : (answer : Answer) (q : ChangeModel) (files paths : List (List ℕ)) (reach : Reach)
       (said : List ℕ) → folder ≢ [] → LeavesPaths options.change (given_paths options.change input) paths
-      → q ≡ change_asked options.change folder paths → IsReach known q reach
+      → SameNames files (files_at paths)
+      → q ≡ change_asked options.change folder files paths → IsReach known q reach
       → HasCaveats known entries q (edge_numbers reach.touched.items) reach.caveats.items
       → said ≡ remarks options (given_paths options.change input) tests
       → answer.warnings.items ≡ said ++ reach.caveats.items
       → WritesTests known entries q (edge_numbers reach.touched.items) options tests
       (not (is_empty answer.warnings.items)) answer.output.items
       → answer.looks ≡ false → Gives (AnswersTests known entries folder options tests input) (Ok answer)
-  gives-tests answer q paths reach said some leaves change reaches caveats about warnings writes quiet =
+  gives-tests answer q files paths reach said some leaves same change reaches caveats about warnings writes
+      quiet =
       let edges = edge_numbers reach.touched.items in
+      let by = change_asked options.change folder files paths in
+      let are : HasCaveats known entries by edges reach.caveats.items =
+      subst (λ x. HasCaveats known entries x edges reach.caveats.items) change caveats in
+      let all = not (is_empty answer.warnings.items) in
+      let written : WritesTests known entries by edges options tests all answer.output.items =
+      subst (λ x. WritesTests known entries x edges options tests all answer.output.items) change writes in
       rw quiet (chosen some leaves
       (record {
         touched = λ edge. subst (Touches reach edge) change (reaches.touched.touched edge);
         rises = reaches.touched.rises;
-        are_caveats = subst (λ x. HasCaveats known entries x edges reach.caveats.items) change caveats;
+        are_caveats = record {
+          about = are.about;
+          warns = warnings-same known.graph entries by (files_at paths) same paths are.about are.warns;
+          all = are.all;
+        };
       })
       (warnings ∙ ap (λ t. t ++ reach.caveats.items) about)
-      (subst (λ x. WritesTests known entries x edges options tests (not (is_empty answer.warnings.items))
-      answer.output.items) change writes))
+      (record {
+        sought = written.sought;
+        are_sought = written.are_sought;
+        change = written.change;
+        is_change = written.is_change;
+        chosen = written.chosen;
+        are_chosen = written.are_chosen;
+        text_is = written.text_is;
+      }))
+
+-- the files that tests name among changed ones
+module _ (options : TestsModel) (tests : List TestModel) (folder : List ℕ) (paths files : List (List ℕ)) where
+  abbrev all_files : List (List ℕ)
+  all_files = named_by_tests folder (all_sought folder options.change.source_dirs paths) tests
+
+  pub no-files : (is_known : Bool) → is_known ≡ false → files ≡ []
+      → SameNames files (test_files is_known options tests folder paths)
+  no-files is_known is none name =
+      ap (λ ns. is_among ns name) none ∙ ap (λ b. is_among (cond b all_files []) name) (sym is)
+
+  pub files-named : (is_known : Bool) (found : List (List ℕ)) → is_known ≡ true
+      → SameNames found (all_sought folder options.change.source_dirs paths)
+      → SameNames files (named_by_tests folder found tests)
+      → SameNames files (test_files is_known options tests folder paths)
+  files-named is_known found is same named name =
+      named name
+      ∙ ap (λ (among : List ℕ → Bool). is_among (filter among (flat_map (names_of_test folder) tests)) name)
+      (fun_ext same)
+      ∙ ap (λ b. is_among (cond b all_files []) name) (sym is)
 
 -- a change of a graph, by other descriptions of its parts
 module _ (g : GraphModel) (entries : List ReadStatement) (c : BuildChange) (folder : List ℕ)

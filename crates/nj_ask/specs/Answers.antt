@@ -46,13 +46,14 @@ pub record HasDepfileFault (known : DiscoveredGraph) (files : List (List ℕ)) (
 
 -- ---- `affected`
 
--- the change of the files at these paths, in this working directory
-abbrev pub change_asked : AffectedModel → (working : List ℕ) → (paths : List (List ℕ)) → ChangeModel
-change_asked options working paths = record {
+-- the change of the files at the given paths, in the given working directory, where tests name the files at the given full paths
+abbrev pub change_asked : AffectedModel → (working : List ℕ) → (test_files : List (List ℕ)) → (paths : List (List ℕ)) → ChangeModel
+change_asked options working test_files paths = record {
   working = working;
   folders = options.source_dirs;
   paths = paths;
   ignores_unknown = options.ignore_unknown;
+  test_files = test_files;
 }
 
 -- the outputs that are listed
@@ -72,7 +73,7 @@ pub data AnswersAffected (known : DiscoveredGraph) (entries : List ReadStatement
   reported : {paths : List (List ℕ)} {outputs warnings : List ℕ} → unknown_rule known.graph options.rules ≡ None
       → (given_paths options input ≢ []) ⊎ (options.allow_empty ≡ true)
       → LeavesPaths options (given_paths options input) paths
-      → IsReport known entries (change_asked options folder paths) (outputs_asked options) outputs warnings
+      → IsReport known entries (change_asked options folder [] paths) (outputs_asked options) outputs warnings
       → AnswersAffected known entries folder options input outputs (answered false warnings)
 
 -- ---- `why`

@@ -9,6 +9,7 @@ use Rattle.nj_graph.specs.ReadingList.{ReadStatement}
 use Rattle.nj_tests.specs.Tests.{TestModel}
 use Rattle.nj_chosen.specs.Choices.{AreChosen, ChosenModel}
 use Rattle.nj_chosen.specs.Reasons.{BuildChange}
+use Rattle.nj_chosen.specs.TestPaths.{named_by_tests}
 use Rattle.nj_reached.specs.GraphChanges.{GraphChange, IsChangeOf}
 use Rattle.nj_test_texts.specs.TestTexts.{tests_text, written_from}
 use Rattle.nj_test_texts.specs.declared.style.Style.{Style}
@@ -76,13 +77,13 @@ unnamed_misuse None = None
 unnamed_misuse (Some word) =
     if bytes_eq word (codes "skip") then None else Some (program_line (codes "'" ++ word ++ codes "' of --unnamed is not skip"))
 
--- the first of these lines
+-- the line about the first mistake in the options
 abbrev pub word_misuse : TestsModel → Option (List ℕ)
 word_misuse options =
     option_or (format_misuse options.format) (option_or (list_misuse options) (option_or (program_misuse options)
     (option_or (style_misuse options) (unnamed_misuse options.unnamed))))
 
--- Why the options are refused before anything is read: for one of these lines; or else as those of the change are.
+-- Why the options are refused before anything is read: for a mistake of their own, or else as those of the change are.
 pub data MisusesTests (options : TestsModel) (line : List ℕ) : Type 0 where
   by_word : word_misuse options ≡ Some line → MisusesTests options line
   by_change : word_misuse options ≡ None → MisusesAffected options.change line → MisusesTests options line
@@ -94,7 +95,18 @@ pub record TakesTests (options : TestsModel) : Type 0 where
 
 -- ---- the change
 
--- exactly these edges are touched by a change, and the text says why these may not be all
+-- The full paths of changed files that words of tests name, if it is known which inputs builds discovered: otherwise such a file may be a
+-- header that only a compiler knows about.
+abbrev pub test_files : (has_discovered : Bool) → TestsModel → List TestModel → (folder : List ℕ) → (paths : List (List ℕ)) → List (List ℕ)
+test_files has_discovered options tests folder paths =
+    if has_discovered then named_by_tests folder (all_sought folder options.change.source_dirs paths) tests else []
+
+-- the change of the files at the given paths, in the given working directory
+abbrev pub tests_change : (has_discovered : Bool) → TestsModel → List TestModel → (folder : List ℕ) → (paths : List (List ℕ)) → ChangeModel
+tests_change has_discovered options tests folder paths =
+    change_asked options.change folder (test_files has_discovered options tests folder paths) paths
+
+-- the edges are exactly those that a change touches, and the text says why there may be more
 pub record Reaches (known : DiscoveredGraph) (entries : List ReadStatement) (q : ChangeModel) (edges : List ℕ) (caveats : List ℕ)
     : Type 0 where
   pub touched : (edge : ℕ) → Contains edges edge ↔ IsTouchedBy known q edge
@@ -105,7 +117,7 @@ pub record Reaches (known : DiscoveredGraph) (entries : List ReadStatement) (q :
 abbrev pub roots_of : (folder : List ℕ) → (dirs : List (List ℕ)) → List (List ℕ)
 roots_of folder dirs = folder ∷ map (full_path folder) dirs
 
--- the change of the files at these full paths, which touches these edges
+-- the change of the files at the given full paths, which touches the given edges
 abbrev pub graph_change : DiscoveredGraph → ChangeModel → (sought : List (List ℕ)) → (edges : List ℕ) → GraphChange
 graph_change known q sought edges = record {
   folder = q.working;
@@ -148,7 +160,8 @@ pub data AnswersTests (known : DiscoveredGraph) (entries : List ReadStatement) (
       (refused (program_line (codes "the working directory is not known")) Fault)
   chosen : {paths : List (List ℕ)} {edges : List ℕ} {caveats warnings output : List ℕ} → folder ≢ []
       → LeavesPaths options.change (given_paths options.change input) paths
-      → Reaches known entries (change_asked options.change folder paths) edges caveats
+      → Reaches known entries (tests_change known.has_discovered options tests folder paths) edges caveats
       → warnings ≡ remarks options (given_paths options.change input) tests ++ caveats
-      → WritesTests known entries (change_asked options.change folder paths) edges options tests (not (is_empty warnings)) output
+      → WritesTests known entries (tests_change known.has_discovered options tests folder paths) edges options tests
+      (not (is_empty warnings)) output
       → AnswersTests known entries folder options tests input output (answered false warnings)

@@ -40,9 +40,10 @@ pub use Rattle.nj_ask.specs.Inside.Reached.{AreAt, AreFilesOf, AreFullPaths, num
 pub use Rattle.nj_ask.specs.Inside.Reached.{warning_by, AreFilesAt, AreTables, AreAffected, AreTouched}
 pub use Rattle.nj_ask.specs.SameFiles.{full_path_of}
 pub use Rattle.nj_graph.specs.Edges.{is_among, first_output, edge_at, outputs_of, inputs_of, maker_of}
-pub use Rattle.nj_ask.specs.ChosenTests.{AnswersTests, WritesTests, no_path_remark, no_test_remark, remarks, roots_of, MisusesTests}
-pub use Rattle.nj_ask.specs.ChosenTests.{asks_format, format_misuse, list_misuse, program_misuse, style_asked, style_misuse, unnamed_misuse}
-pub use Rattle.nj_ask.specs.ChosenTests.{word_misuse}
+pub use Rattle.nj_ask.specs.ChosenTests.{AnswersTests, WritesTests, no_path_remark, no_test_remark, remarks, roots_of, test_files}
+pub use Rattle.nj_ask.specs.ChosenTests.{MisusesTests, asks_format, format_misuse, list_misuse, program_misuse, style_asked, style_misuse}
+pub use Rattle.nj_ask.specs.ChosenTests.{unnamed_misuse, word_misuse}
+pub use Rattle.nj_changes.specs.Tables.{SameNames}
 pub use Rattle.nj_text.specs.Calls.{is_empty}
 pub use Rattle.nj_tests.specs.Tests.{test_model}
 pub use Rattle.nj_graph.specs.Files.{path_at}
@@ -83,7 +84,6 @@ pub use Rattle.nj_names.specs.NameTables.{name_at}
 pub use Rattle.nj_ask.specs.NeededFaults.{IsFirstFault}
 pub use Rattle.std.specs.Fmt.{decimal}
 pub use Rattle.nj_ask.specs.Quotes.{quoted, escaped, escapes}
-pub use Rattle.nj_changes.specs.Tables.{SameNames}
 pub use Rattle.nj_ask.specs.OptionFiles.{LacksAdditions, LacksContent, LacksNamedFiles, ReadsAdditionAt, ReadsAdditions, ReadsContents}
 pub use Rattle.nj_ask.specs.OptionFiles.{ReadsNamedFiles}
 pub use Rattle.nj_ask.specs.TestLists.{LacksText, LacksList, LacksLists, LacksMeson, LacksNamed, LacksTests, ReadsList, ReadsLists}

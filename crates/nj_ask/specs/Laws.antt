@@ -53,7 +53,40 @@ abbrev pub DoneMissesNothing : Type 0
 DoneMissesNothing = (known : DiscoveredGraph) (entries : List ReadStatement) (folder : List ℕ) (options : AffectedModel)
     (input : List ℕ) (old new : Sinks) → Ends (AnswersAffected known entries folder options input) old new Done
     → (paths : List (List ℕ)) × LeavesPaths options (given_paths options input) paths
-    × MissesNothing known entries (change_asked options folder paths) (outputs_asked options) old.output new.output
+    × MissesNothing known entries (change_asked options folder [] paths) (outputs_asked options) old.output new.output
+
+-- ---- tests
+
+-- A changed path that no edge names and at which no file was opened, where words of tests name the file.
+pub record IsOfTest (g : GraphModel) (q : ChangeModel) (path : List ℕ) : Type 0 where
+  pub unnamed : IsUnnamed g q path
+  pub unopened : is_opened g q path ≡ false
+  pub is_named : is_test_file q path ≡ true
+
+-- Changed paths do not change the manifest; each denotes a file that tests or edges name, unless paths without a file are ignored; nothing
+-- is unclear about what builds discovered; dyndep files and manifests cannot change; and standard output received the tests that are
+-- chosen, without any other.
+pub record MissesNoTest (known : DiscoveredGraph) (entries : List ReadStatement) (options : TestsModel) (tests : List TestModel)
+    (q : ChangeModel) (old new : SinkState) : Type 0 where
+  pub keeps : (path : List ℕ) → Contains q.paths path
+      → IsOfTest known.graph q path ⊎ KeepsManifest known.graph entries q path ⊎ IsIgnored known.graph q path
+  pub clear : known.caveats.items ≡ []
+  pub edges : List ℕ
+  pub touched : (edge : ℕ) → Contains edges edge ↔ IsTouchedBy known q edge
+  pub shape : shape_text known entries (opened_files known.graph q.working) (changed_numbers known.graph q) edges ≡ []
+  pub output : List ℕ
+  pub writes : WritesTests known entries q edges options tests false output
+  pub took : Takes old new output
+
+-- Where `tests` ends with status 0, nothing is missed of the paths that are not ignored.
+abbrev pub DoneMissesNoTest : Type 0
+DoneMissesNoTest = (known : DiscoveredGraph) (entries : List ReadStatement) (folder : List ℕ) (options : TestsModel)
+    (tests : List TestModel) (input : List ℕ) (old new : Sinks)
+    → Ends (AnswersTests known entries folder options tests input) old new Done
+    → (paths : List (List ℕ)) × LeavesPaths options.change (given_paths options.change input) paths
+    × MissesNoTest known entries options tests (tests_change known.has_discovered options tests folder paths) old.output new.output
+
+-- ---- one text
 
 -- A list of paths has only one text of warnings.
 abbrev pub WarningsAreUnique : Type 0

@@ -11,11 +11,13 @@ use Rattle.nj_ask.specs.SameFiles.{numbers_at, path_of}
 use Rattle.nj_ask.specs.Shape.{shape_text}
 
 -- A change of files, as a reader of the graph describes it: paths, the directories that they may be in, and the working directory.
+-- `test_files`: the full paths of files that tests name.
 pub record ChangeModel : Type 0 where
   pub working : List ℕ
   pub folders : List (List ℕ)
   pub paths : List (List ℕ)
   pub ignores_unknown : Bool
+  pub test_files : List (List ℕ)
 
 -- the numbers of the changed files: those at the full paths of changed paths
 abbrev pub changed_numbers : GraphModel → ChangeModel → List ℕ
@@ -48,6 +50,10 @@ HasFeeding g entries q path =
 abbrev pub ChangesManifest : GraphModel → List ReadStatement → ChangeModel → (path : List ℕ) → Type 0
 ChangesManifest g entries q path = (is_opened g q path ≡ true) ⊎ HasFeeding g entries q path
 
+-- a test names it
+abbrev pub is_test_file : ChangeModel → (path : List ℕ) → Bool
+is_test_file q path = has_one q.test_files (sought q.working q.folders path)
+
 -- as a line that says so
 abbrev pub made_from_line : (path : List ℕ) → List ℕ
 made_from_line path = line (path ++ codes ": the manifest is made from it")
@@ -55,8 +61,9 @@ made_from_line path = line (path ++ codes ": the manifest is made from it")
 -- The warning about it; empty without a warning.
 pub data IsWarning (g : GraphModel) (entries : List ReadStatement) (q : ChangeModel) (path : List ℕ) : (text : List ℕ) → Type 0 where
   made_from : ChangesManifest g entries q path → IsWarning g entries q path (made_from_line path)
-  unknown : ¬ ChangesManifest g entries q path → IsUnnamed g q path → q.ignores_unknown ≡ false
+  unknown : ¬ ChangesManifest g entries q path → IsUnnamed g q path → is_test_file q path ≡ false → q.ignores_unknown ≡ false
       → IsWarning g entries q path (line path)
+  of_test : ¬ ChangesManifest g entries q path → IsUnnamed g q path → is_test_file q path ≡ true → IsWarning g entries q path []
   ignored : ¬ ChangesManifest g entries q path → IsUnnamed g q path → q.ignores_unknown ≡ true → IsWarning g entries q path []
   nothing : ¬ ChangesManifest g entries q path → files_meant g q path ≢ [] → IsWarning g entries q path []
 

@@ -24,7 +24,7 @@ list_line path fault = program_line (path ++ codes ": " ++ fault_text fault)
 
 -- ---- the list of CTest
 
--- these tests were read from the file at a path
+-- the tests were read from the file at a path
 pub record ReadsList (path : List ℕ) (before after : SourceState) (list : List TestModel) : Type 0 where
   pub text : List ℕ
   pub reads : ReadsBytes before after path (Some text)
@@ -57,11 +57,11 @@ is_of_targets NoTargets = true
 is_of_targets (WrongTarget number key) = true
 is_of_targets _ = false
 
--- the list that has a fault, of two lists at these paths
+-- the list that has a fault, of the two lists at the given paths
 abbrev pub faulty_path : (at targets_at : List ℕ) → ListFault → List ℕ
 faulty_path at targets_at fault = if is_of_targets fault then targets_at else at
 
--- these tests were read from the lists of tests and of targets at two paths, which Meson wrote for a build directory
+-- the tests were read from the lists of tests and of targets at two paths, which Meson wrote for a build directory
 pub record ReadsLists (build at targets_at : List ℕ) (before after : SourceState) (list : List TestModel) : Type 0 where
   pub between : SourceState
   pub text : List ℕ
@@ -79,7 +79,7 @@ pub data LacksLists (build at targets_at : List ℕ) (before after : SourceState
       → ReadsBytes between after targets_at (Some targets) → IsMesonFault build text targets fault → fault ≢ OutOfMemory
       → LacksLists build at targets_at before after (list_line (faulty_path at targets_at fault) fault)
 
--- these tests were read from the lists of a build directory, whose full path is below the working directory
+-- the tests were read from the lists of a build directory, whose full path is below the working directory
 abbrev pub ReadsMeson : (folder dir : List ℕ) → (before after : SourceState) → List TestModel → Type 0
 ReadsMeson folder dir before after list =
     ReadsLists (full_path folder dir) (meson_tests_path dir) (meson_targets_path dir) before after list
@@ -103,7 +103,7 @@ named_list None None = []
 abbrev pub list_path : TestsModel → List ℕ
 list_path options = named_list options.ctest options.meson
 
--- these tests were read from the list that is named; options without one are refused before
+-- the tests were read from the list that is named; options without one are refused before
 abbrev pub ReadsNamed : (folder : List ℕ) → (ctest meson : Option (List ℕ)) → (before after : SourceState) → List TestModel → Type 0
 ReadsNamed folder (Some path) meson before after list = ReadsList path before after list
 ReadsNamed folder None (Some dir) before after list = ReadsMeson folder dir before after list

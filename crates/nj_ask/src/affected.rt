@@ -75,15 +75,17 @@ pub(crate) fn change_of<'a>(
     options: &'a AffectedOptions,
     folder: &'a [u8],
     paths: &'a [&'a [u8]],
+    test_files: &'a Names,
 ) -> Change<'a>
     ensures { change_model result ≡ change_asked (affected_model options.entry.now)
-        folder.entry.now (texts paths.entry.now) }
+        folder.entry.now test_files.entry.now (texts paths.entry.now) }
 {
     Change {
         working: folder,
         folders: &options.source_dirs,
         paths,
         ignores_unknown: options.ignore_unknown,
+        test_files,
     }
 }
 

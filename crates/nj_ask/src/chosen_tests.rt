@@ -1,7 +1,7 @@
 //! The answer to `tests`.
 
 ghost use Rattle.std.specs.Prelude.{◌≡◌, ◌++◌, codes, IfOk, OnOk, false, not, map, string_bytes};
-ghost use Rattle.nj_ask.specs.Cited.{AnswersTests, AreGlobsAsked, Gives, HasEdges, IsReach, OfStatements, WritesTests, change_model, edge_numbers, is_empty, no_path_remark, no_test_remark, program_line, remarks, roots_of, test_model, tests_model, texts};
+ghost use Rattle.nj_ask.specs.Cited.{AnswersTests, AreGlobsAsked, Gives, HasEdges, IsReach, OfStatements, SameNames, WritesTests, change_model, edge_numbers, is_empty, no_path_remark, no_test_remark, program_line, remarks, roots_of, test_files, test_model, tests_model, texts};
 
 use crate::affected::{NO_PATH, change_of};
 use crate::answer::Answer;
@@ -13,8 +13,8 @@ use crate::report::{Change, Reach, reach_of};
 use crate::status::Status;
 use crate::test_list::list_path;
 use crate::test_options::style_asked;
-use nj_changes::{full_path, without_ignored};
-use nj_chosen::choose;
+use nj_changes::{all_sought, full_path, without_ignored};
+use nj_chosen::{choose, named_by_tests};
 use nj_globs::Glob;
 use nj_names::Names;
 use nj_questions::TestsOptions;
@@ -51,10 +51,32 @@ pub(crate) fn answer_tests(
     }
     let given = given_paths(alloc, &options.change, input)?;
     let paths = without_ignored(alloc, globs, &given)?;
-    let change = change_of(&options.change, folder, &paths);
+    let test_files = test_files(alloc, known, folder, options, tests, &paths)?;
+    let change = change_of(&options.change, folder, &paths, &test_files);
     let reach = reach_of(alloc, known, change)?;
     let remarks = remarks(alloc, options, &given, tests)?;
     Ok(written_answer(alloc, known, change, reach, remarks, options, tests)?)
+}
+
+/// The full paths of changed files that words of tests name. None if the inputs that builds
+/// discovered are not known: such a file may be a header that only a compiler knows about.
+fn test_files(
+    alloc: Global,
+    known: &DiscoveredGraph,
+    folder: &[u8],
+    options: &TestsOptions,
+    tests: &[Test],
+    paths: &[&[u8]],
+) -> Result<Names, AllocError>
+    ensures { IfOk result (λ files. SameNames files (test_files known.now.has_discovered
+        (tests_model options.now) (map test_model tests.now) folder.now (texts paths.now))) }
+{
+    let keys = known.keys;
+    if !known.has_discovered {
+        return Ok(Names::new(alloc, keys));
+    }
+    let sought = all_sought(alloc, keys, folder, &options.change.source_dirs, paths)?;
+    named_by_tests(alloc, keys, folder, &sought, tests)
 }
 
 /// The answer about what a change reaches, where this was said of what is given.

@@ -1,7 +1,7 @@
 //! A report about a change of files.
 
 ghost use Rattle.std.specs.Prelude.{◌≡◌, ◌<◌, ◌++◌, All, IfOk, OnOk, false, length, map};
-ghost use Rattle.nj_ask.specs.Cited.{OfStatements, IsAffected, flat_map, path_at, edges_of, files_of, asked_of, changed_numbers, numbers_of, opened_files, opened_paths, warning_by, AreFilesAt, AreFilesOf, AreTables, SameNames, IsTouched, made_from_line, change_model, texts, DoneMissesNothing, ListedHaveReasons, HasCaveats, HasWarnings, IsReport, IsTouchedBy, WarningsAreUnique, HasEdges, AreAffected, AreTouched, CanTellAll, IsReach, edge_numbers};
+ghost use Rattle.nj_ask.specs.Cited.{OfStatements, IsAffected, flat_map, path_at, edges_of, files_of, asked_of, changed_numbers, numbers_of, opened_files, opened_paths, warning_by, AreFilesAt, AreFilesOf, AreTables, SameNames, IsTouched, made_from_line, change_model, texts, DoneMissesNothing, DoneMissesNoTest, ListedHaveReasons, HasCaveats, HasWarnings, IsReport, IsTouchedBy, WarningsAreUnique, HasEdges, AreAffected, AreTouched, CanTellAll, IsReach, edge_numbers};
 
 use crate::answer::Answer;
 use crate::changes::{FilesAt, files_at, full_paths};
@@ -24,8 +24,10 @@ pub struct Change<'a> {
     pub folders: &'a [String],
     /// The changed paths.
     pub paths: &'a [&'a [u8]],
-    /// Whether paths that no edge names are left unreported.
+    /// Whether paths that no edge and no test names are left unreported.
     pub ignores_unknown: bool,
+    /// The full paths of files that tests name.
+    pub test_files: &'a Names,
 }
 
 /// Tables of full paths, in which changed paths are looked up.
@@ -46,11 +48,11 @@ pub(crate) struct Reach {
     pub files: Vec<FileNo>,
     /// The edges that the change touches.
     pub touched: Vec<EdgeNo>,
-    /// Why these may not be all, a line each.
+    /// Why more edges may be touched, a line each.
     pub caveats: Vec<u8>,
 }
 
-/// The edges that a change touches, and why these may not be all.
+/// The edges that a change touches, and why there may be more.
 #[derive(Drop)]
 struct Touched {
     edges: Vec<EdgeNo>,
@@ -260,7 +262,8 @@ fn push_warning(
     if has_one(opened, &found) || has_one(&tables.feeding, &found) {
         return push_made_from(warnings, path);
     }
-    if has_one(&tables.changed, &found) || change.ignores_unknown {
+    let is_known = has_one(&tables.changed, &found) || has_one(change.test_files, &found);
+    if is_known || change.ignores_unknown {
         return Ok(());
     }
     push_line(warnings, path)
@@ -280,11 +283,13 @@ fn push_made_from(lines: &mut Vec<u8>, path: &[u8]) -> Result<(), AllocError>
 
 /// Where `affected` ends with status 0, each changed path denotes files of the graph that are not
 /// needed to make the manifest, unless it is unknown and such paths are ignored; no file was opened
-/// at it; and the written outputs are all that the change affects. A list of paths has only one
-/// text of warnings. The edges whose outputs are listed are exactly those with a reason, such as a
-/// changed input, or an input that a listed edge makes.
+/// at it; and the written outputs are all that the change affects. The same is true of `tests`,
+/// except that a path may also denote a file that only a test names, and exactly the chosen tests
+/// are written. A list of paths has only one text of warnings. The edges whose outputs are listed
+/// are exactly those with a reason, such as a changed input, or an input that a listed edge makes.
 pub fn report_law()
     ensures complete { DoneMissesNothing }
+    ensures tests { DoneMissesNoTest }
     ensures unique { WarningsAreUnique }
     ensures closed { ListedHaveReasons }
 {}

@@ -21,4 +21,5 @@ change_model change = record {
   folders = map string_bytes change.folders.now;
   paths = texts change.paths.now;
   ignores_unknown = change.ignores_unknown;
+  test_files = change.test_files.now;
 }

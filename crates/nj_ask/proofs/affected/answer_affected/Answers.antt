@@ -63,6 +63,8 @@ returns c entries graph =
           (ap texts c.deref-2.ensures.value ∙ c.in_ok-given.ensures) c.in_ok-paths.ensures.left;
     })
     (c.change_of-change.ensures
-    ∙ ap (change_asked (affected_model c.args.options.now) c.args.folder.now)
+    ∙ ap (λ files. change_asked (affected_model c.args.options.now) c.args.folder.now files
+    (texts c.deref-3.result.now)) c.new-no_files.ensures
+    ∙ ap (change_asked (affected_model c.args.options.now) c.args.folder.now [])
     (ap texts c.deref-3.ensures.value))
     c.listed_by-listed.ensures (c.in_ok-report_of.ensures.report entries graph)
