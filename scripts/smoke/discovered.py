@@ -355,7 +355,8 @@ def joined_edges(graph, folder):
 
 
 @check
-def keys_with_inputs(graph, folder):
+def keys_without_inputs(graph, folder):
+    """Keys are those of the manifest alone: by `--deps` the same, in the same order."""
     write_files(folder, FILES)
     edges = [
         Edge("gen.h", "gen.in", "mk gen.h"),

@@ -14,7 +14,7 @@ use Rattle.nj_needs.specs.Growing.{grown_targets}
 use Rattle.nj_needs.specs.MarkTexts.{given_mark}
 use Rattle.nj_needs.specs.PageWalks.{written, StopsAt}
 use Rattle.nj_needs.specs.Walks.{WalkState}
-use Rattle.nj_keys.specs.Keys.{ListsKeys}
+use Rattle.nj_keys.specs.Keys.{ListsKeys, edges_stated}
 use Rattle.nj_keys.specs.Pages.{leads, left_at, BeginsAfter}
 use Rattle.nj_tools.specs.Compdb.{text_fault}
 use Rattle.nj_tools.specs.EdgeObjects.{edge_lines, unwritable_edge}
@@ -142,6 +142,10 @@ asked_targets g words = targets_or (defaults_in_force g.built.defaults (edges_of
 abbrev pub files_at : GraphModel → (paths : List (List ℕ)) → GraphFiles
 files_at g paths = record { graph = g; paths = paths }
 
+-- the edges of the manifest alone: a key is the same whatever builds discovered
+abbrev pub manifest_edges : DiscoveredGraph → List EdgePaths
+manifest_edges known = edges_stated (map (λ discovery. discovery.stated_inputs) known.discoveries.items) (edges_of known.graph)
+
 -- `keys` from a mark on: the lines of the commands that are left there, up to the limit, and the mark after them. The additions are the
 -- texts of the options, and after them `contents`, those for the contents of files.
 pub data AnswersKeys (known : DiscoveredGraph) (entries : List ReadStatement) (options : KeysModel) (contents : List (List ℕ))
@@ -157,7 +161,7 @@ pub data AnswersKeys (known : DiscoveredGraph) (entries : List ReadStatement) (o
   page : {paths : List (List ℕ)} {lines : List ℕ} {walk : WalkState} (rest : Option (List ℕ))
       → asked_targets known.graph options.targets ≡ Ok paths → IsClear known paths
       → leads (files_at known.graph paths) mark ≡ true
-      → ListsKeys (options.additions ++ contents) (map clean_path_of options.bases) (edges_of known.graph) entries
+      → ListsKeys (options.additions ++ contents) (map clean_path_of options.bases) (manifest_edges known) entries
       (written options.take (left_at (files_at known.graph paths) mark)) lines
       → BeginsAfter (files_at known.graph paths) mark walk → StopsAt walk options.take rest
       → AnswersKeys known entries options contents mark lines (answered false (mark_line rest ++ caveat_text known entries))

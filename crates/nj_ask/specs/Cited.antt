@@ -71,6 +71,7 @@ pub use Rattle.nj_ask.specs.Shape.{remade_text, shape_text, unjoined_files}
 pub use Rattle.nj_state.specs.Judged.{HasCounts, IsJudged}
 pub use Rattle.nj_ask.specs.Inside.StaleParts.{IsJudgedBuild, IsJudgedGraph, LacksTime, StopsAt, AnswersManifest, ListsStale, named_paths}
 pub use Rattle.nj_text.specs.Paths.{clean_path_of, is_absolute}
+pub use Rattle.nj_keys.specs.Keys.{edges_stated}
 pub use Rattle.nj_needs.specs.MarkTexts.{given_mark}
 pub use Rattle.nj_keys.specs.Pages.{leads}
 pub use Rattle.nj_ask.specs.Pages.{mark_line}

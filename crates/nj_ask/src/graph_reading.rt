@@ -11,8 +11,8 @@ use crate::failure::{Failure, refused};
 use crate::status::Status;
 use nj_deps::DepsLog;
 use nj_graph::{
-    Cause, FileSource, FileTimes, Graph, GraphFault, HashKeys, Loaded, UndeclaredInput,
-    join_dyndeps, join_present_dyndeps, load, undeclared_inputs,
+    Cause, EdgeGraph, EdgeNo, FileSource, FileTimes, Graph, GraphFault, HashKeys, Loaded,
+    UndeclaredInput, join_dyndeps, join_present_dyndeps, load, undeclared_inputs,
 };
 use nj_questions::GraphOptions;
 use std::alloc::{AllocError, Global};

@@ -2,7 +2,7 @@
 
 ghost use Rattle.std.specs.Prelude.{◌≡◌, ◌≢◌, ◌++◌, ◌∷◌, [], true, false, None, Ok, Some, IfErr, IfOk, OnOk, map, string_bytes, codes};
 ghost use Rattle.nj_needs.specs.MarkFaults.{fault_text};
-ghost use Rattle.nj_ask.specs.Cited.{Fault, Usage, OfStatements, clean_path_of, is_absolute, given_mark, leads, caveat_text, mark_line, program_line, AnswersKeys, FailsBy, Gives, IsPageOf, SaysErr, asked_mark, asked_targets, base_misuse, keys_misuse, keys_model, mark_misuse};
+ghost use Rattle.nj_ask.specs.Cited.{Fault, Usage, OfStatements, clean_path_of, edges_of, edges_stated, is_absolute, given_mark, leads, caveat_text, mark_line, program_line, AnswersKeys, FailsBy, Gives, IsPageOf, SaysErr, asked_mark, asked_targets, base_misuse, keys_misuse, keys_model, mark_misuse};
 
 use crate::answer::Answer;
 use crate::depfiles::check_depfiles;
@@ -15,6 +15,7 @@ use nj_graph::FileList;
 use nj_keys::{Bases, Page, page_from};
 use nj_needs::{Mark, MarkFault};
 use nj_questions::KeysOptions;
+use nj_tools::EdgeDiscovery;
 use std::alloc::{AllocError, Global};
 
 /// What the options of `keys` specify before any file is read.
@@ -154,7 +155,8 @@ pub(crate) fn answer_keys(
         Err(failure) => return Err(failure),
     }
     let additions = additions_of(alloc, &options.additions, contents)?;
-    let page = match page_of(alloc, asked, &additions, &targets, options.take) {
+    let counts = stated_counts(alloc, &known.discoveries)?;
+    let page = match page_of(alloc, asked, &additions, &counts, &targets, options.take) {
         Ok(page) => page,
         Err(failure) => return Err(failure),
     };
@@ -234,22 +236,45 @@ fn bytes_of<'w>(alloc: Global, words: &'w [String]) -> Result<Vec<&'w [u8]>, All
     Ok(bytes)
 }
 
-/// The page from a mark on, whose keys have additions.
+/// How many implicit inputs the manifest itself states for each edge, by number; empty if nothing was
+/// joined to its graph.
+fn stated_counts(alloc: Global, discoveries: &[EdgeDiscovery]) -> Result<Vec<usize>, AllocError>
+    ensures { IfOk result (λ counts.
+        counts.items ≡ map (λ discovery. discovery.stated_inputs) discoveries.now) }
+{
+    let mut counts = Vec::new(alloc);
+    'edges: for discovery in discoveries {
+        counts.push(discovery.stated_inputs)?;
+    }
+    Ok(counts)
+}
+
+/// The page from a mark on, whose keys have additions. `counts` says how many implicit inputs the
+/// manifest itself states for each edge.
 fn page_of(
     alloc: Global,
     asked: &PageAsked,
     additions: &[&[u8]],
+    counts: &[usize],
     targets: &FileList<'_>,
     take: Option<u64>,
 ) -> Result<Page, Failure>
     ensures page { OfStatements targets.now.graph (λ entries.
-        IfOk result (IsPageOf targets.now entries (map (λ text. text.now) additions.now)
-        asked.now.bases asked.now.mark take)) }
+        IfOk result (IsPageOf targets.now (edges_stated counts.now (edges_of targets.now.graph))
+        entries (map (λ text. text.now) additions.now) asked.now.bases asked.now.mark take)) }
     ensures refused { IfErr result (FailsBy Fault
         (λ line. (leads targets.now asked.now.mark ≡ false)
         × (line ≡ program_line (codes "mark out of range")))) }
 {
-    match page_from(alloc, &asked.bases, additions, targets, &asked.mark, take) {
+    match page_from(
+        alloc,
+        &asked.bases,
+        additions,
+        counts,
+        targets,
+        &asked.mark,
+        take,
+    ) {
         Ok(page) => Ok(page),
         Err(fault) => Err(mark_failure(alloc, fault, Status::Fault)),
     }

@@ -34,7 +34,7 @@ SaysPattern pattern.OutOfMemory line = ⊥
 pub record IsPageOf (files : GraphFiles) (edges : List EdgePaths) (entries : List ReadStatement) (additions folders : List (List ℕ))
     (mark : List ℕ) (limit : Option ℕ) (page : Page) : Type 0 where
   pub valid : leads files mark ≡ true
-  pub lines : ListsKeys additions folders (edges_of files.graph) entries (written limit (left_at files mark)) page.lines.items
+  pub lines : ListsKeys additions folders edges entries (written limit (left_at files mark)) page.lines.items
   pub walk : WalkState
   pub begins : BeginsAfter files mark walk
   pub stops : StopsAt walk limit page.mark

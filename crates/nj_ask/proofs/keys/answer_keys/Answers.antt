@@ -1,7 +1,9 @@
 use Rattle.std.proofs.Common.{◌≡◌, ◌∙◌, ◌++◌, Ok, false, map, ap, sym, subst}
 use Rattle.std.specs.Prelude.{codes, string_bytes}
 use Rattle.nj_graph.specs.Files.{path_at}
-use Rattle.nj_graph.specs.Graph.{GraphModel, IsGraphOf, files_of}
+use Rattle.nj_graph.specs.Graph.{GraphModel, IsGraphOf, edges_of, files_of}
+use Rattle.nj_keys.specs.Keys.{edges_stated}
+use Rattle.nj_tools.specs.declared.EdgeDiscovery.{EdgeDiscovery}
 use Rattle.nj_keys.specs.Pages.{leads}
 use Rattle.nj_questions.specs.Questions.{keys_model}
 use Rattle.nj_ask.specs.Answers.{AnswersKeys, HasDepfileFault, IsClear, asked_targets}
@@ -79,9 +81,14 @@ returns c entries graph =
     let answer = c.in_ok-page_answer.field-0 in
     keys-page known entries options contents mark files c.in-Ok.ensures.of are
     (subst (IsClear known) paths c.in-Ok-check_depfiles.ensures.clear) c.args.asked.now.bases c.requires
-    (map (λ text. text.now) c.deref-3.result.now)
-    (ap (map (λ text. text.now)) c.deref-3.ensures.value ∙ c.in_ok-additions.ensures
+    (map (λ text. text.now) c.deref-4.result.now)
+    (ap (map (λ text. text.now)) c.deref-4.ensures.value ∙ c.in_ok-additions.ensures
     ∙ ap (λ texts. map string_bytes texts ++ contents) c.deref-2.ensures.value)
+    (edges_stated c.deref-5.result.now (edges_of files.graph))
+    (ap (λ (g : GraphModel). edges_stated c.deref-5.result.now (edges_of g)) c.in-Ok.ensures.of
+    ∙ ap (λ counts. edges_stated counts (edges_of known.graph))
+    (c.deref-5.ensures.value ∙ c.in_ok-counts.ensures ∙ ap (map (λ (d : EdgeDiscovery). d.stated_inputs))
+    c.deref-3.ensures.value))
     c.in-Ok-page_of.page
     (c.in-Ok-page_of.ensures.page entries (subst (λ (g : GraphModel). IsGraphOf g entries)
     (sym c.in-Ok.ensures.of) graph))
