@@ -300,6 +300,7 @@ GRAPH_TOOLS = {
         (f"--ctest={LIST}",),
         looks=((ANYTHING, LINES),),
     ),
+    "times": Tool({"--top": "N", "--json": None}, looks=((LINES, CAVEATS),)),
     "why": Tool({"--validations": None, "--no-order-only": None}, ("test", "text/words.c"), ((NOTHING, NOTHING),)),
 }
 GRAPH_RUNS = {
@@ -332,6 +333,9 @@ GRAPH_RUNS = {
         "stale --json b1",
         "stale --json --why",
         "stale nothing",
+        "times",
+        "times --top 2 --json b1 a^",
+        "times nothing",
         "why d a",
         "why a d",
         "why d nothing",
@@ -394,6 +398,7 @@ GRAPH_RUNS = {
         "draw --deps --affected gen.h",
         "json --deps",
         "keys --deps b.o",
+        "times --top 9 app",
         "why --deps app /usr/b.h",
     ],
     "other logs": [
@@ -459,6 +464,9 @@ GRAPH_NESTED = (
     "stale --why",
     "stale --no-manifest all",
     "stale --json",
+    "times",
+    "times --top 2 all",
+    "times --json",
     f"tests --ctest {LIST} --source-dir . -z --ignore none --ignore-unknown --allow-empty < d",
     f"tests --ctest {LIST} --format lines --why --unnamed skip < d",
     f"tests --ctest {LIST} --json < d",

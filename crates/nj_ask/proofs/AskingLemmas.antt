@@ -10,9 +10,9 @@ use Rattle.nj_graph.specs.Graph.{IsGraphOf}
 use Rattle.nj_tools.specs.Sinks.{FailsWithin, SinkState, Takes}
 use Rattle.nj_tools.proofs.SinkLemmas.{Takes-nil}
 use Rattle.nj_questions.specs.Questions.{QuestionModel, SubjectModel, affected, audit, draw, json, keys}
-use Rattle.nj_questions.specs.Questions.{stale, tests, why}
+use Rattle.nj_questions.specs.Questions.{stale, tests, timings, why}
 use Rattle.nj_questions.specs.Questions.{affected_model, audit_model, draw_model, keys_model, stale_model}
-use Rattle.nj_questions.specs.Questions.{tests_model, why_model}
+use Rattle.nj_questions.specs.Questions.{tests_model, times_model, why_model}
 use Rattle.nj_questions.specs.Questions.{reads_nothing}
 use Rattle.nj_questions.specs.declared.questions.AffectedOptions.{AffectedOptions}
 use Rattle.nj_questions.specs.declared.questions.AuditOptions.{AuditOptions}
@@ -20,6 +20,7 @@ use Rattle.nj_questions.specs.declared.questions.DrawOptions.{DrawOptions}
 use Rattle.nj_questions.specs.declared.questions.KeysOptions.{KeysOptions}
 use Rattle.nj_questions.specs.declared.questions.StaleOptions.{StaleOptions}
 use Rattle.nj_questions.specs.declared.questions.TestsOptions.{TestsOptions}
+use Rattle.nj_questions.specs.declared.questions.TimesOptions.{TimesOptions}
 use Rattle.nj_questions.specs.declared.questions.WhyOptions.{WhyOptions}
 use Rattle.nj_graph.specs.ReadingList.{ReadStatement}
 use Rattle.nj_ask.specs.declared.discovered.DiscoveredGraph.{DiscoveredGraph}
@@ -47,6 +48,7 @@ use Rattle.nj_ask.specs.Endings.Ends.{ended, output_fails}
 use Rattle.nj_ask.specs.KnownGraphs.{Sources, sources_of}
 use Rattle.nj_ask.specs.OptionFiles.{NamedFiles}
 use Rattle.nj_ask.specs.Stales.{AnswersStale}
+use Rattle.nj_ask.specs.Times.{AnswersTimes}
 use Rattle.nj_ask.specs.Inside.Asking.{IsTask, LeavesAnswer, LeavesTold}
 use Rattle.nj_ask.specs.Inside.Asking.LeavesAnswer.{answers, lacks_log, lacks_memory as no_memory}
 use Rattle.nj_ask.specs.Inside.Asking.LeavesTold.{tells, tells_memory, tells_why}
@@ -95,6 +97,7 @@ task-taken subject (task.Tests options globs) is = rw is.0 (record {
     are_globs = is.1.globs_are.are;
   };
 })
+task-taken subject (task.Times options) is = rw is tt
 task-taken subject (task.Why options) is = rw is tt
 
 -- and nothing is answered before files are read
@@ -106,6 +109,7 @@ task-unlisted subject task.Json is = rw is refl
 task-unlisted subject (task.Keys options page) is = rw is.0 refl
 task-unlisted subject (task.Stale options) is = rw is.0 refl
 task-unlisted subject (task.Tests options globs) is = rw is.0 refl
+task-unlisted subject (task.Times options) is = rw is refl
 task-unlisted subject (task.Why options) is = rw is refl
 
 -- where nothing is read, the kinds of findings are listed
@@ -117,6 +121,7 @@ listed-kinds json is = absurd cc
 listed-kinds (keys options) is = absurd cc
 listed-kinds (stale options) is = absurd cc
 listed-kinds (tests options) is = absurd cc
+listed-kinds (timings options) is = absurd cc
 listed-kinds (why options) is = absurd cc
 
 -- else nothing is
@@ -128,6 +133,7 @@ none-listed json is = refl
 none-listed (keys options) is = refl
 none-listed (stale options) is = refl
 none-listed (tests options) is = refl
+none-listed (timings options) is = refl
 none-listed (why options) is = refl
 
 -- what is answered to the task is answered to its subject
@@ -162,6 +168,11 @@ module _ (known : DiscoveredGraph) (entries : List ReadStatement) (log : BuildLo
       → Returns (AnswersStale known entries log times (stale_model options.now)) old new reported
       → Returns (Answers known entries log times folder subject named input) old new reported
   stale-returns options same is returns = rw (subst (IsTask subject) same is).0 returns
+
+  pub times-returns : (options : Bor TimesOptions) → asked ≡ task.Times options → IsTask subject asked
+      → Returns (AnswersTimes known entries log (times_model options.now)) old new reported
+      → Returns (Answers known entries log times folder subject named input) old new reported
+  times-returns options same is returns = rw (subst (IsTask subject) same is) returns
 
   pub keys-returns : (options : Bor KeysOptions) (page : PageAsked) → asked ≡ task.Keys options page
       → IsTask subject asked

@@ -36,4 +36,5 @@ mod MentionLemmas
 mod StaleLemmas
 mod StatedLemmas
 mod TestLemmas
+mod TimesLemmas
 mod ObjectLemmas

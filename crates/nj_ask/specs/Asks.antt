@@ -7,7 +7,7 @@ use Rattle.nj_graph.specs.ReadingList.{ReadStatement}
 use Rattle.nj_graph.specs.Graph.{IsGraphOf}
 use Rattle.nj_tools.specs.Sinks.{SinkState}
 use Rattle.nj_audit.specs.declared.kinds.Kind.TheVariants.{UndeclaredInput}
-use Rattle.nj_questions.specs.Questions.{QuestionModel, SubjectModel, affected, audit, draw, json, keys, stale, tests, why}
+use Rattle.nj_questions.specs.Questions.{QuestionModel, SubjectModel, affected, audit, draw, json, keys, stale, tests, timings, why}
 use Rattle.nj_questions.specs.declared.refusals.Refusal.{Refusal}
 use Rattle.nj_questions.specs.declared.refusals.Refusal.TheVariants as refusal
 use Rattle.nj_ask.specs.declared.discovered.DiscoveredGraph.{DiscoveredGraph}
@@ -22,6 +22,7 @@ use Rattle.nj_ask.specs.Given.{MisusesAffected, TakesAffected}
 use Rattle.nj_ask.specs.KnownGraphs.{KnowsGraph, LacksGraph, Sources, sources_of}
 use Rattle.nj_ask.specs.OptionFiles.{LacksNamedFiles, NamedFiles, ReadsNamedFiles}
 use Rattle.nj_ask.specs.Stales.{AnswersStale, stale_misuse}
+use Rattle.nj_ask.specs.Times.{AnswersTimes}
 
 -- ---- by its graph
 
@@ -40,6 +41,7 @@ Answers known entries log times folder (stale options) named input output ending
     AnswersStale known entries log times options output ending
 Answers known entries log times folder (tests options) named input output ending =
     AnswersTests known entries folder options named.tests input output ending
+Answers known entries log times folder (timings options) named input output ending = AnswersTimes known entries log options output ending
 Answers known entries log times folder (why options) named input output ending = AnswersWhy known entries options output ending
 
 -- its options are refused before anything is read, and a line says why
@@ -51,6 +53,7 @@ Misuses json line = ⊥
 Misuses (keys options) line = keys_misuse options ≡ Some line
 Misuses (stale options) line = stale_misuse options ≡ Some line
 Misuses (tests options) line = MisusesTests options line
+Misuses (timings options) line = ⊥
 Misuses (why options) line = ⊥
 
 -- its options are not refused
@@ -62,6 +65,7 @@ IsTaken json = Unit {0}
 IsTaken (keys options) = keys_misuse options ≡ None
 IsTaken (stale options) = stale_misuse options ≡ None
 IsTaken (tests options) = TakesTests options
+IsTaken (timings options) = Unit {0}
 IsTaken (why options) = Unit {0}
 
 -- what is answered before anything is read
@@ -74,9 +78,10 @@ abbrev pub seeks_undeclared : SubjectModel → Bool
 seeks_undeclared (audit options) = asks_for options UndeclaredInput
 seeks_undeclared other = false
 
--- `stale` is answered by the build log too
+-- `stale` and `times` are answered by the build log too
 abbrev pub takes_build_log : SubjectModel → Bool
 takes_build_log (stale options) = true
+takes_build_log (timings options) = true
 takes_build_log other = false
 
 -- ---- by its files

@@ -6,7 +6,7 @@ pub use Rattle.nj_ask.specs.Inside.Failures.{Gives, Delivers, WritesAnswer, Conc
 pub use Rattle.nj_ask.specs.Inside.Findings.{HasEdges, AreFindingsOf, text_if_faulty, if_doubtful, if_faulty}
 pub use Rattle.nj_graph.specs.Graph.{OfStatements, files_of, IsGraphOf, edges_of, rule_name}
 pub use Rattle.nj_questions.specs.Questions.{affected_model, SubjectModel, question_model, subject_model, audit_model, tests_model}
-pub use Rattle.nj_questions.specs.Questions.{draw_model, asked_graph, keys_model, stale_model, why_model}
+pub use Rattle.nj_questions.specs.Questions.{draw_model, asked_graph, keys_model, stale_model, times_model, why_model}
 pub use Rattle.nj_ask.specs.Inside.Lent.{asked_of, change_model, texts}
 pub use Rattle.nj_ask.specs.Reports.{no_path_line, changed_numbers, made_from_line, HasCaveats, HasWarnings, IsReport, IsTouchedBy}
 pub use Rattle.nj_ask.specs.declared.status.Status.TheVariants.{Fault, Usage}
@@ -105,4 +105,5 @@ pub use Rattle.nj_stale.specs.Missing.{AreStated}
 pub use Rattle.nj_edges.specs.Edges.{is_named}
 pub use Rattle.nj_ask.specs.Statuses.{exit_code}
 pub use Rattle.std.specs.IoError.{error_kind}
+pub use Rattle.nj_ask.specs.Times.{AnswersTimes}
 pub use Rattle.nj_graph.specs.Targets.{picked}

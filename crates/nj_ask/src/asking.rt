@@ -19,6 +19,7 @@ use crate::option_files::{OptionFiles, read_option_files};
 use crate::stale::{answer_stale, check_stale};
 use crate::status::Status;
 use crate::test_options::tests_asked;
+use crate::times::answer_times;
 use crate::why::answer_why;
 use nj_audit::{Kind, Kinds};
 use nj_build_log::BuildLog;
@@ -26,7 +27,7 @@ use nj_globs::Glob;
 use nj_graph::{FileSource, FileTimes, Graph};
 use nj_questions::{
     AffectedOptions, AuditOptions, DrawOptions, KeysOptions, Question, StaleOptions, Subject,
-    TestsOptions, WhyOptions,
+    TestsOptions, TimesOptions, WhyOptions,
 };
 use nj_tools::Sink;
 use std::alloc::{AllocError, Global};
@@ -49,6 +50,7 @@ enum Task<'q> {
     Keys(&'q KeysOptions, PageAsked),
     Stale(&'q StaleOptions),
     Tests(&'q TestsOptions, Vec<Glob>),
+    Times(&'q TimesOptions),
     Why(&'q WhyOptions),
 }
 
@@ -309,6 +311,7 @@ fn perform<T: FileTimes, O: Sink>(
                 answer_tests(alloc, known, folder, options, globs, &named.tests, input),
             )
         }
+        Task::Times(options) => deliver(out, answer_times(alloc, known, log, options)),
         Task::Why(options) => deliver(out, answer_why(alloc, known, options)),
     }
 }

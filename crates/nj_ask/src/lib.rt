@@ -48,6 +48,7 @@ mod status;
 mod system_errors;
 mod test_list;
 mod test_options;
+mod times;
 mod why;
 mod words;
 

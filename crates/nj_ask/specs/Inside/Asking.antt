@@ -9,8 +9,8 @@ use Rattle.nj_graph.specs.ReadingList.{ReadStatement}
 use Rattle.nj_tools.specs.Sinks.{SinkState}
 use Rattle.nj_tests.specs.Tests.{test_model}
 use Rattle.nj_questions.specs.Questions.{AffectedModel, AuditModel, KeysModel, TestsModel, QuestionModel}
-use Rattle.nj_questions.specs.Questions.{SubjectModel, affected, audit, draw, json, keys, stale, tests, why}
-use Rattle.nj_questions.specs.Questions.{affected_model, audit_model, draw_model, keys_model, stale_model, tests_model, why_model}
+use Rattle.nj_questions.specs.Questions.{SubjectModel, affected, audit, draw, json, keys, stale, tests, timings, why}
+use Rattle.nj_questions.specs.Questions.{affected_model, audit_model, draw_model, keys_model, stale_model, tests_model, times_model, why_model}
 use Rattle.nj_globs.specs.Globs.{GlobPart}
 use Rattle.nj_changes.specs.Ignored.{AreGlobsOf}
 use Rattle.nj_audit.specs.Kinds.{AskFor}
@@ -70,6 +70,7 @@ IsTask subject (task.Keys options page) = (subject ≡ keys (keys_model options.
 IsTask subject (task.Stale options) = (subject ≡ stale (stale_model options.now)) × (stale_misuse (stale_model options.now) ≡ None)
 IsTask subject (task.Tests options globs) =
     (subject ≡ tests (tests_model options.now)) × AreTestsAsked (tests_model options.now) globs.items
+IsTask subject (task.Times options) = subject ≡ timings (times_model options.now)
 IsTask subject (task.Why options) = subject ≡ why (why_model options.now)
 
 -- a task with accepted options

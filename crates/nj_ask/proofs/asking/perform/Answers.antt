@@ -1,6 +1,6 @@
 use Rattle.std.proofs.Common.{map, subst}
 use Rattle.nj_questions.specs.Questions.{affected_model, audit_model, draw_model, keys_model, stale_model}
-use Rattle.nj_questions.specs.Questions.{tests_model, why_model}
+use Rattle.nj_questions.specs.Questions.{tests_model, times_model, why_model}
 use Rattle.nj_ask.specs.Answers.{AnswersAffected, AnswersDraw, AnswersKeys, AnswersWhy}
 use Rattle.nj_ask.specs.Audits.{AnswersAudit}
 use Rattle.nj_ask.specs.ChosenTests.{AnswersTests}
@@ -8,8 +8,9 @@ use Rattle.nj_ask.specs.Inside.Asking.{IsTask, named_files}
 use Rattle.nj_ask.specs.Inside.Failures.{Returns}
 use Rattle.nj_tests.specs.Tests.{test_model}
 use Rattle.nj_ask.proofs.AskingLemmas.{affected-returns, audit-returns, draw-returns, keys-returns}
-use Rattle.nj_ask.proofs.AskingLemmas.{stale-returns, tests-returns, why-returns}
+use Rattle.nj_ask.proofs.AskingLemmas.{stale-returns, tests-returns, times-returns, why-returns}
 use Rattle.nj_ask.specs.Stales.{AnswersStale}
+use Rattle.nj_ask.specs.Times.{AnswersTimes}
 use Rattle.nj_ask.proofs.EndingLemmas.{returns-delivered}
 use Rattle.nj_ask.proofs.asking.perform.Goals as goal
 
@@ -75,6 +76,14 @@ returns-in-Stale g c entries is subject asks =
     stale-returns known entries _ _ _ _ c.args.input.now _ _ _ subject c.args.task options c.in-Stale.is asks
     (returns-delivered (AnswersStale known entries c.args.log.now _ (stale_model options.now))
     c.answer_stale.result _ _ _ (c.answer_stale.ensures entries is) c.deliver-in-Stale.ensures)
+
+pub returns-in-Times : goal.returns-in-Times
+returns-in-Times g c entries is subject asks =
+    let known = c.args.known.now in
+    let options = c.in-Times.options in
+    times-returns known entries _ _ _ _ c.args.input.now _ _ _ subject c.args.task options c.in-Times.is asks
+    (returns-delivered (AnswersTimes known entries c.args.log.now (times_model options.now))
+    c.answer_times.result _ _ _ (c.answer_times.ensures entries is) c.deliver-in-Times.ensures)
 
 pub returns-in-Tests : goal.returns-in-Tests
 returns-in-Tests g c entries is subject asks =
