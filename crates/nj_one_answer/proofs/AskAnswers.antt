@@ -6,7 +6,7 @@ use Rattle.std.specs.Prelude.{option_map, string_bytes}
 use Rattle.std.proofs.lemmas.Option.{same_Some}
 use Rattle.nj_discovered.specs.Times.{DeclaredTimes}
 use Rattle.nj_questions.specs.Questions.{QuestionModel, SubjectModel, affected, audit, draw, json, keys}
-use Rattle.nj_questions.specs.Questions.{stale, tests, why}
+use Rattle.nj_questions.specs.Questions.{stale, tests, timings, why}
 use Rattle.nj_questions.specs.Questions.{question_model}
 use Rattle.nj_questions.specs.QuestionOf.{question_of, refusal_model}
 use Rattle.nj_questions.specs.declared.questions.Question.{Question}
@@ -68,6 +68,7 @@ equal-output known json text = refl
 equal-output known (keys options) text = refl
 equal-output known (stale options) text = refl
 equal-output known (tests options) text = refl
+equal-output known (timings options) text = refl
 equal-output known (why options) text = refl
 
 -- options that are refused list no kinds
@@ -88,6 +89,7 @@ exclusive json line text is also = absurd cc
 exclusive (keys options) line text is also = absurd cc
 exclusive (stale options) line text is also = absurd cc
 exclusive (tests options) line text is also = absurd cc
+exclusive (timings options) line text is also = absurd cc
 exclusive (why options) line text is also = absurd cc
 
 -- an answer of one kind is an answer of a weaker kind

@@ -15,7 +15,7 @@ use Rattle.nj_globs.specs.declared.glob_fault.GlobFault.TheVariants.{OutOfMemory
 use Rattle.nj_changes.specs.Ignored.{AreGlobsOf, AreLeft, IsFirstWrong, IsGlob}
 use Rattle.nj_changes.specs.Ignored.AreLeft.{none, ignored, kept}
 use Rattle.nj_questions.specs.Questions.{AffectedModel, TestsModel, affected, audit, draw, json, keys, stale}
-use Rattle.nj_questions.specs.Questions.{tests, why}
+use Rattle.nj_questions.specs.Questions.{tests, timings, why}
 use Rattle.nj_ask.specs.Answers.{keys_misuse}
 use Rattle.nj_ask.specs.Audits.{audit_misuse}
 use Rattle.nj_ask.specs.Given.{folder_misuse, pattern_line, LeavesPaths, MisusesAffected, TakesAffected}
@@ -156,6 +156,7 @@ one-misuse good fault json line other is also = absurd is
 one-misuse good fault (keys options) line other is also = same_Some line other (sym is ∙ also)
 one-misuse good fault (stale options) line other is also = same_Some line other (sym is ∙ also)
 one-misuse good fault (tests options) line other is also = tests-misuse good fault options line other is also
+one-misuse good fault (timings options) line other is also = absurd is
 one-misuse good fault (why options) line other is also = absurd is
 
 pub misused-apart : GoodPatternsAreRead → MisusedIsNotTaken
@@ -166,4 +167,5 @@ misused-apart good json line is taken = absurd is
 misused-apart good (keys options) line is taken = some-or-none line (keys_misuse options) is taken
 misused-apart good (stale options) line is taken = some-or-none line (stale_misuse options) is taken
 misused-apart good (tests options) line is taken = tests-apart good options line is taken
+misused-apart good (timings options) line is taken = absurd is
 misused-apart good (why options) line is taken = absurd is

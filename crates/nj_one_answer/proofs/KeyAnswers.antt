@@ -4,6 +4,7 @@ use Rattle.std.proofs.Common.{Err, IfOk, IfErr}
 use Rattle.std.proofs.Common.{List, [], refl, sym, ap, subst, ◌∙◌}
 use Rattle.nj_cycles.specs.Cycles.{IsAcyclic}
 use Rattle.nj_edges.specs.EdgeGraphs.{EdgeGraph}
+use Rattle.nj_edges.specs.Edges.{EdgePaths}
 use Rattle.nj_scope.specs.ReadingList.{ReadStatement}
 use Rattle.nj_needs.specs.declared.mark_fault.MarkFault.{MarkFault}
 use Rattle.nj_needs.specs.declared.mark_fault.MarkFault.TheVariants as mark
@@ -13,13 +14,14 @@ use Rattle.nj_needs.specs.Pages.{IsMarkAfter}
 use Rattle.nj_needs.specs.PageWalks.{written, left_after, StopsAt}
 use Rattle.nj_needs.specs.Walks.{WalkState}
 use Rattle.nj_needs.proofs.Bridges.{AreWithin-paths}
-use Rattle.nj_graph.specs.Graph.{IsGraphOf, edges_of}
+use Rattle.nj_graph.specs.Graph.{IsGraphOf}
 use Rattle.nj_graph.specs.Handles.{GraphFiles}
-use Rattle.nj_keys.specs.Keys.{LinesAreUnique, ListsKeys}
+use Rattle.nj_keys.specs.Keys.{HaveKeys, LinesAreUnique, ListsKeys, ListsOfKeysAreUnique}
 use Rattle.nj_keys.specs.Pages.{BeginsAfter, leads, left_at, makers_of_files}
+use Rattle.nj_keys.specs.declared.pages.KeyPage.{KeyPage}
 use Rattle.nj_keys.specs.declared.pages.Page.{Page}
 use Rattle.nj_agreement.specs.Agreement.{AgreeUpTo}
-use Rattle.nj_one_answer.specs.KeyPages.{SamePage}
+use Rattle.nj_one_answer.specs.KeyPages.{SameKeyPage, SamePage}
 use Rattle.nj_agreement.specs.Memory.{IsMarkOutOfMemory}
 use Rattle.nj_agreement.proofs.MarkAnswers.{marks-after-agree}
 
@@ -92,38 +94,84 @@ unless-memory : (meant : Bool) (fault : MarkFault) → meant ≡ true → IsRefu
 unless-memory meant fault is (inl none) = none
 unless-memory meant fault is (inr (range, bad)) = absurd (let e = sym is ∙ bad in cc)
 
-pub pages-agree : LinesAreUnique → (additions folders : List (List ℕ)) (files : GraphFiles)
-    (entries : List ReadStatement) → IsGraphOf files.graph entries
+pub pages-agree : LinesAreUnique → (additions folders : List (List ℕ)) (edges : List EdgePaths)
+    (files : GraphFiles) (entries : List ReadStatement) → IsGraphOf files.graph entries
     → (begun : List ℕ) (take : Option ℕ) (a b : Result Page MarkFault)
     → IfOk a (λ _. leads files begun ≡ true) → IfErr a (IsRefused (leads files begun))
-    → IfOk a (λ p. ListsKeys additions folders (edges_of files.graph) entries
+    → IfOk a (λ p. ListsKeys additions folders edges entries
     (written take (left_at files begun))
     p.lines.items)
     → IfOk a (λ p. (walk : WalkState) × BeginsAfter files begun walk × StopsAt walk take p.mark)
     → IfOk b (λ _. leads files begun ≡ true) → IfErr b (IsRefused (leads files begun))
-    → IfOk b (λ p. ListsKeys additions folders (edges_of files.graph) entries
+    → IfOk b (λ p. ListsKeys additions folders edges entries
     (written take (left_at files begun))
     p.lines.items)
     → IfOk b (λ p. (walk : WalkState) × BeginsAfter files begun walk × StopsAt walk take p.mark)
     → AgreeUpTo SamePage IsMarkOutOfMemory a b
-pages-agree one additions folders files entries graph begun take (Ok a) (Ok b) _ _ lines (walk, begins, stops)
+pages-agree one additions folders edges files entries graph begun take (Ok a) (Ok b) _ _ lines
+    (walk, begins, stops)
     _ _
     lines2
     (walk2, begins2, stops2) = record {
-      lines = one additions folders (edges_of files.graph) entries (written take (left_at files begun))
+      lines = one additions folders edges entries (written take (left_at files begun))
           a.lines.items
           b.lines.items lines lines2;
       mark = marks-agree files begun graph.acyclic walk walk2 begins begins2 take a.mark b.mark stops stops2;
     }
-pages-agree one additions folders files entries graph begun take (Ok a) (Err f) valid _ _ _ _ bad _ _ =
+pages-agree one additions folders edges files entries graph begun take (Ok a) (Err f) valid _ _ _ _ bad _ _ =
     unless-memory (leads files begun) f valid bad
-pages-agree one additions folders files entries graph begun take (Err e) (Ok b) _ bad _ _ valid _ _ _ =
+pages-agree one additions folders edges files entries graph begun take (Err e) (Ok b) _ bad _ _ valid _ _ _ =
     unless-memory (leads files begun) e valid bad
-pages-agree one additions folders files entries graph begun take (Err e) (Err f) _ (inl none) _ _ _ _ _ _ =
+pages-agree one additions folders edges files entries graph begun take (Err e) (Err f) _ (inl none) _ _ _ _ _
+    _ =
     inr (inl none)
-pages-agree one additions folders files entries graph begun take (Err e) (Err f) _ (inr bad) _ _ _ (inl none)
+pages-agree one additions folders edges files entries graph begun take (Err e) (Err f) _ (inr bad) _ _ _
+    (inl none)
     _ _ =
     inr (inr none)
-pages-agree one additions folders files entries graph begun take (Err e) (Err f) _ (inr (range, bad)) _ _ _
+pages-agree one additions folders edges files entries graph begun take (Err e) (Err f) _ (inr (range, bad)) _
+    _ _
+    (inr (range2, bad2)) _ _ =
+    inl (range ∙ sym range2)
+
+pub key_pages-agree : ListsOfKeysAreUnique → (additions folders : List (List ℕ)) (edges : List EdgePaths)
+    (files : GraphFiles) (entries : List ReadStatement) → IsGraphOf files.graph entries
+    → (begun : List ℕ) (take : Option ℕ) (a b : Result KeyPage MarkFault)
+    → IfOk a (λ _. leads files begun ≡ true) → IfErr a (IsRefused (leads files begun))
+    → IfOk a (λ p. HaveKeys additions folders edges entries
+    (written take (left_at files begun))
+    p.keys.items)
+    → IfOk a (λ p. (walk : WalkState) × BeginsAfter files begun walk × StopsAt walk take p.mark)
+    → IfOk b (λ _. leads files begun ≡ true) → IfErr b (IsRefused (leads files begun))
+    → IfOk b (λ p. HaveKeys additions folders edges entries
+    (written take (left_at files begun))
+    p.keys.items)
+    → IfOk b (λ p. (walk : WalkState) × BeginsAfter files begun walk × StopsAt walk take p.mark)
+    → AgreeUpTo SameKeyPage IsMarkOutOfMemory a b
+key_pages-agree one additions folders edges files entries graph begun take (Ok a) (Ok b) _ _ lines
+    (walk, begins, stops)
+    _ _
+    lines2
+    (walk2, begins2, stops2) = record {
+      keys = one additions folders edges entries (written take (left_at files begun))
+          a.keys.items
+          b.keys.items lines lines2;
+      mark = marks-agree files begun graph.acyclic walk walk2 begins begins2 take a.mark b.mark stops stops2;
+    }
+key_pages-agree one additions folders edges files entries graph begun take (Ok a) (Err f) valid _ _ _ _ bad _
+    _ =
+    unless-memory (leads files begun) f valid bad
+key_pages-agree one additions folders edges files entries graph begun take (Err e) (Ok b) _ bad _ _ valid _ _
+    _ =
+    unless-memory (leads files begun) e valid bad
+key_pages-agree one additions folders edges files entries graph begun take (Err e) (Err f) _ (inl none) _ _ _
+    _ _ _ =
+    inr (inl none)
+key_pages-agree one additions folders edges files entries graph begun take (Err e) (Err f) _ (inr bad) _ _ _
+    (inl none)
+    _ _ =
+    inr (inr none)
+key_pages-agree one additions folders edges files entries graph begun take (Err e) (Err f) _
+    (inr (range, bad)) _ _ _
     (inr (range2, bad2)) _ _ =
     inl (range ∙ sym range2)

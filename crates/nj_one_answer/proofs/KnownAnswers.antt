@@ -4,6 +4,7 @@ use Rattle.std.proofs.Common.{◌∷◌}
 use Rattle.std.proofs.Common.{◌++◌, map, refl, sym, ap, subst, ◌∙◌}
 use Rattle.std.specs.Prelude.{find, not, unwrap_or}
 use Rattle.nj_text.specs.Calls.{is_empty}
+use Rattle.nj_text.specs.Paths.{clean_path_of}
 use Rattle.nj_scope.specs.ReadingList.{ReadStatement}
 use Rattle.nj_build_log.specs.Logs.{BuildLogModel}
 use Rattle.nj_discovered.specs.Times.{DeclaredTimes}
@@ -11,6 +12,9 @@ use Rattle.nj_graph.specs.declared.EdgeNo.{EdgeNo}
 use Rattle.nj_graph.specs.declared.undeclared.UndeclaredInput.{UndeclaredInput}
 use Rattle.nj_graph.specs.Graph.{GraphModel, edges_of, files_of}
 use Rattle.nj_graph.specs.Handles.{GraphEdge, files_in}
+use Rattle.nj_needs.specs.PageWalks.{written}
+use Rattle.nj_keys.specs.Keys.{ListsKeys, edges_stated}
+use Rattle.nj_keys.specs.Pages.{left_at}
 use Rattle.nj_audit.specs.Audits.{IsAudit}
 use Rattle.nj_tests.specs.Tests.{TestModel}
 use Rattle.nj_audit.specs.LoggedInputs.{inputs_in}
@@ -23,15 +27,15 @@ use Rattle.nj_stale.specs.declared.missing.MissingSource.{MissingSource}
 use Rattle.nj_state.specs.Stale.{AreStaleEdges, IsEvidence}
 use Rattle.nj_state.specs.declared.commands.StaleEdge.{StaleEdge}
 use Rattle.nj_questions.specs.Questions.{AffectedModel, AuditModel, DrawModel, KeysModel, SubjectModel}
-use Rattle.nj_questions.specs.Questions.{StaleModel, TestsModel, WhyModel}
-use Rattle.nj_questions.specs.Questions.{affected, audit, draw, json, keys, stale, tests, why}
+use Rattle.nj_questions.specs.Questions.{StaleModel, TestsModel, TimesModel, WhyModel}
+use Rattle.nj_questions.specs.Questions.{affected, audit, draw, json, keys, stale, tests, timings, why}
 use Rattle.nj_ask.specs.declared.discovered.DiscoveredGraph.{DiscoveredGraph}
 use Rattle.nj_ask.specs.declared.doubts.EdgeFault.{EdgeFault}
 use Rattle.nj_ask.specs.declared.status.Status.TheVariants.{Fault}
 use Rattle.nj_ask.specs.Affected.{Asked}
 use Rattle.nj_ask.specs.Answers.{AnswersAffected, AnswersDraw, AnswersJson, AnswersKeys, AnswersWhy}
 use Rattle.nj_ask.specs.Answers.{HasDepfileFault}
-use Rattle.nj_ask.specs.Answers.{IsClear, asked_mark, kinds_asked}
+use Rattle.nj_ask.specs.Answers.{IsClear, asked_mark, files_at, kinds_asked}
 use Rattle.nj_ask.specs.Answers.AnswersAffected.{no_path, no_rule, reported}
 use Rattle.nj_ask.specs.Answers.AnswersDraw.{no_target as undrawn_target, no_depfile as undrawn_depfile}
 use Rattle.nj_ask.specs.Answers.AnswersDraw.{drawing}
@@ -62,6 +66,9 @@ use Rattle.nj_ask.specs.Stales.AnswersBuild.{manifest_stops, remade, target_stop
 use Rattle.nj_ask.specs.Stales.AnswersStale.{no_target as unjudged_target, no_depfile as unjudged_depfile}
 use Rattle.nj_ask.specs.Stales.AnswersStale.{no_time, judged}
 use Rattle.nj_ask.specs.Stales.WritesStale.{lines as plain_lines, objects as json_objects}
+use Rattle.nj_ask.specs.Times.{AnswersTimes}
+use Rattle.nj_ask.specs.Times.AnswersTimes.{no_target as untimed_target, no_depfile as untimed_depfile}
+use Rattle.nj_ask.specs.Times.AnswersTimes.{reported as timed}
 use Rattle.nj_one_answer.specs.Answers.{SameKnown, SameKnownHaveSameAnswers}
 
 -- ---- faults of depfiles
@@ -267,7 +274,12 @@ module _ (one other : DiscoveredGraph) (same : SameKnown one other) where
       (page {paths = ps} {lines = t} rest at fine valid lists begins stops) =
       subst (λ (c : List ℕ). AnswersKeys mid entries options contents mark t
       (answered false (mark_line rest ++ c)))
-      (caveats entries) (page rest at (clear ps fine) valid lists begins stops)
+      (caveats entries) (page rest at (clear ps fine) valid
+      (subst (λ (ds : List EdgeDiscovery). ListsKeys (options.additions ++ contents)
+      (map clean_path_of options.bases)
+      (edges_stated (map (λ (d : EdgeDiscovery). d.stated_inputs) ds) (edges_of one.graph)) entries
+      (written options.take (left_at (files_at one.graph ps) mark)) t) same.discoveries lists)
+      begins stops)
 
   json-moves : (entries : List ReadStatement) (output : List ℕ) (ending : Ending)
       → AnswersJson one entries output ending → AnswersJson mid entries output ending
@@ -361,10 +373,10 @@ module _ (one other : DiscoveredGraph) (same : SameKnown one other) where
     evidence = is.evidence;
     is = subst (λ (ns : List EdgeNo). IsEvidence one.graph.built.graph entries
         (map (λ (e : EdgeNo). e.0) ns) log times is.evidence) same.unknown is.is;
-    first = λ s of. subst (λ (ds : List EdgeDiscovery). IsFirstMissing (files_of one.graph) is.evidence
-        (is_named (stated_edges (edges_of one.graph) ds)) s (required_files (edges_of one.graph) targets)
+    first = λ s of. subst (λ (counts : List ℕ). IsFirstMissing (files_of one.graph) is.evidence
+        (is_named (stated_edges (edges_of one.graph) counts)) s (required_files (edges_of one.graph) targets)
         source)
-        same.discoveries (is.first s of);
+        same.stated_inputs (is.first s of);
   }
 
   writes-for : (entries : List ReadStatement) (log : BuildLogModel) (times : DeclaredTimes)
@@ -421,6 +433,16 @@ module _ (one other : DiscoveredGraph) (same : SameKnown one other) where
   stale-moves entries log times options _ _ (judged {targets = ps} {output = o} {ending = e} at fine is) =
       judged at (clear _ fine) (build-moves entries log times options ps o e is)
 
+  times-move : (entries : List ReadStatement) (log : BuildLogModel) (options : TimesModel) (output : List ℕ)
+      (ending : Ending) → AnswersTimes one entries log options output ending
+      → AnswersTimes mid entries log options output ending
+  times-move entries log options _ _ (untimed_target bad) = untimed_target bad
+  times-move entries log options _ _ (untimed_depfile {line = line} at has) =
+      untimed_depfile at (faulty _ line has)
+  times-move entries log options output _ (timed at fine is) =
+      subst (λ (c : List ℕ). AnswersTimes mid entries log options output (answered false c)) (caveats entries)
+      (timed at (clear _ fine) is)
+
   moves : (entries : List ReadStatement) (log : BuildLogModel) (times : DeclaredTimes) (folder : List ℕ)
       (subject : SubjectModel)
       (named : NamedFiles) (input output : List ℕ) (ending : Ending)
@@ -439,6 +461,8 @@ module _ (one other : DiscoveredGraph) (same : SameKnown one other) where
       stale-moves entries log times options output ending is
   moves entries log times folder (tests options) named input output ending is =
       tests-move entries folder options named.tests input output ending is
+  moves entries log times folder (timings options) named input output ending is =
+      times-move entries log options output ending is
   moves entries log times folder (why options) named input output ending is =
       why-moves entries options output ending is
 
@@ -457,6 +481,7 @@ same-back one other same = record {
   faulty = sym same.faulty;
   texts = sym same.texts;
   discoveries = sym same.discoveries;
+  stated_inputs = sym same.stated_inputs;
   caveats = sym same.caveats;
   undeclared = sym same.undeclared;
 }

@@ -16,5 +16,6 @@ mod RunAnswers
 mod RunRows
 mod StaleAnswers
 mod TestAnswers
+mod TimesAnswers
 mod ToolAnswers
 mod WhyAnswers

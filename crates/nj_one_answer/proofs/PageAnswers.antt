@@ -4,7 +4,7 @@ use Rattle.std.proofs.lemmas.Bool.{both_ways}
 use Rattle.nj_text.specs.Paths.{clean_path_of}
 use Rattle.nj_scope.specs.ReadingList.{ReadStatement}
 use Rattle.nj_graph.specs.declared.GraphFault.{GraphFault}
-use Rattle.nj_graph.specs.Graph.{IsGraphOf, edges_of}
+use Rattle.nj_graph.specs.Graph.{IsGraphOf}
 use Rattle.nj_needs.specs.PageWalks.{written}
 use Rattle.nj_keys.specs.Keys.{LinesAreUnique, ListsKeys}
 use Rattle.nj_keys.specs.Pages.{BeginsAfter, leads, left_at}
@@ -12,6 +12,7 @@ use Rattle.nj_questions.specs.Questions.{KeysModel}
 use Rattle.nj_ask.specs.declared.discovered.DiscoveredGraph.{DiscoveredGraph}
 use Rattle.nj_ask.specs.declared.status.Status.TheVariants.{Fault}
 use Rattle.nj_ask.specs.Answers.{AnswersKeys, HasDepfileFault, IsClear, asked_targets, files_at}
+use Rattle.nj_ask.specs.Answers.{manifest_edges}
 use Rattle.nj_ask.specs.Answers.AnswersKeys.{no_target, no_depfile, out_of_range, page}
 use Rattle.nj_ask.specs.Endings.{Ending, answered, fault_line, refused}
 use Rattle.nj_ask.specs.Pages.{mark_line}
@@ -29,7 +30,7 @@ module _ (unique : LinesAreUnique) (known : DiscoveredGraph) (entries : List Rea
 
     abbrev Lists : (paths : List (List ℕ)) (lines : List ℕ) → Type 0
     Lists paths lines = ListsKeys (options.additions ++ contents) (map clean_path_of options.bases)
-        (edges_of known.graph) entries
+        (manifest_edges known) entries
         (written options.take (left_at (files_at known.graph paths) mark)) lines
 
     -- the targets are the same files
@@ -108,7 +109,7 @@ module _ (unique : LinesAreUnique) (known : DiscoveredGraph) (entries : List Rea
         (page {paths = a2} {lines = t2} {walk = w2} rest2 at2 clear2 valid2 lists2 begins2 stops2) =
         let files = files_at known.graph a2 in
         let paths : a1 ≡ a2 = same a1 a2 at1 at2 in (
-          unique (options.additions ++ contents) (map clean_path_of options.bases) (edges_of known.graph)
+          unique (options.additions ++ contents) (map clean_path_of options.bases) (manifest_edges known)
               entries
               (written options.take (left_at files mark)) t1 t2
               (subst (λ ps. Lists ps t1) paths lists1) lists2,

@@ -75,8 +75,9 @@ module _ (reading : OneReading) (unique : WarningsAreUnique) (known : Discovered
     answers-agree _ _ _ _ (reported {paths = ps} {outputs = o} {warnings = w} none some leaves report)
         (reported {paths = qs} {outputs = p} {warnings = v} none2 some2 leaves2 report2) =
         let same = leaves-agree reading options (given_paths options input) ps qs leaves leaves2 in
-        let both = reports-agree (change_asked options folder qs) (outputs_asked options) o p w v
-        (subst (λ paths. IsReport known entries (change_asked options folder paths) (outputs_asked options) o
+        let both = reports-agree (change_asked options folder [] qs) (outputs_asked options) o p w v
+        (subst (λ paths. IsReport known entries (change_asked options folder [] paths) (outputs_asked options)
+        o
         w) same
         report)
         report2 in

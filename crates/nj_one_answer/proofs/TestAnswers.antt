@@ -27,8 +27,8 @@ use Rattle.nj_reached.specs.GraphChanges.{outputs_at}
 use Rattle.nj_test_texts.specs.TestTexts.{tests_text, written, written_from}
 use Rattle.nj_questions.specs.Questions.{TestsModel}
 use Rattle.nj_ask.specs.declared.discovered.DiscoveredGraph.{DiscoveredGraph}
-use Rattle.nj_ask.specs.Answers.{change_asked}
 use Rattle.nj_ask.specs.ChosenTests.{AnswersTests, Reaches, WritesTests, graph_change, remarks, style_asked}
+use Rattle.nj_ask.specs.ChosenTests.{tests_change}
 use Rattle.nj_ask.specs.ChosenTests.AnswersTests.{chosen, no_folder}
 use Rattle.nj_ask.specs.Endings.{Ending, answered}
 use Rattle.nj_ask.specs.Given.{given_paths}
@@ -273,7 +273,7 @@ module _ (reading : OneReading) (unique : WarningsAreUnique) (known : Discovered
       writes2) =
       let same = leaves-agree reading options.change (given_paths options.change input) ps qs leaves leaves2
       in
-      let change = change_asked options.change folder in
+      let change = tests_change known.has_discovered options tests folder in
       let reach = subst (λ paths. Reaches known entries (change paths) es c) same reaches in
       let edges = rising-agree (IsTouchedBy known (change qs)) es fs reach.touched reach.rises
       reaches2.touched reaches2.rises in

@@ -6,8 +6,8 @@ use Rattle.nj_discovered.specs.Times.{DeclaredTimes}
 use Rattle.nj_graph.specs.Graph.{IsGraphOf}
 use Rattle.nj_graph.specs.Handles.{GraphEdge, files_in}
 use Rattle.nj_tests.specs.Tests.{TestModel}
-use Rattle.nj_questions.specs.Questions.{AffectedModel, AuditModel, DrawModel, KeysModel, StaleModel, TestsModel, WhyModel, SubjectModel}
-use Rattle.nj_questions.specs.Questions.{audit, draw, stale}
+use Rattle.nj_questions.specs.Questions.{AffectedModel, AuditModel, DrawModel, KeysModel, StaleModel, TestsModel, TimesModel}
+use Rattle.nj_questions.specs.Questions.{WhyModel, SubjectModel, audit, draw, stale}
 use Rattle.nj_ask.specs.declared.discovered.DiscoveredGraph.{DiscoveredGraph}
 use Rattle.nj_ask.specs.Answers.{AnswersAffected, AnswersDraw, AnswersJson, AnswersKeys, AnswersWhy, asked_targets}
 use Rattle.nj_ask.specs.Asks.{Answers, IsTaken, Misuses}
@@ -18,6 +18,7 @@ use Rattle.nj_ask.specs.DrawnNodes.{drawn_nodes}
 use Rattle.nj_ask.specs.Endings.{Ending}
 use Rattle.nj_ask.specs.OptionFiles.{NamedFiles}
 use Rattle.nj_ask.specs.Stales.{AnswersStale}
+use Rattle.nj_ask.specs.Times.{AnswersTimes}
 use Rattle.nj_agreement.specs.Graphs.{SameButTies}
 use Rattle.nj_agreement.specs.Sources.{TellAll}
 
@@ -56,6 +57,11 @@ OneStaleAnswer = (known : DiscoveredGraph) (entries : List ReadStatement) (log :
 abbrev pub OneTestsAnswer : Type 0
 OneTestsAnswer = (known : DiscoveredGraph) (entries : List ReadStatement) (folder : List ℕ) (options : TestsModel)
     (tests : List TestModel) (input : List ℕ) → HasOneAnswer (AnswersTests known entries folder options tests input)
+
+-- `times`
+abbrev pub OneTimesAnswer : Type 0
+OneTimesAnswer = (known : DiscoveredGraph) (entries : List ReadStatement) (log : BuildLogModel) (options : TimesModel)
+    → HasOneAnswer (AnswersTimes known entries log options)
 
 -- `why`
 abbrev pub OneWhyAnswer : Type 0
@@ -99,6 +105,7 @@ pub record SameKnown (one other : DiscoveredGraph) : Type 0 where
   pub faulty : map (λ fault. fault.edge.0) one.faults.items ≡ map (λ fault. fault.edge.0) other.faults.items
   pub texts : map (λ fault. fault.text.items) one.faults.items ≡ map (λ fault. fault.text.items) other.faults.items
   pub discoveries : one.discoveries.items ≡ other.discoveries.items
+  pub stated_inputs : one.stated_inputs.items ≡ other.stated_inputs.items
   pub caveats : one.caveats.items ≡ other.caveats.items
   pub undeclared : one.undeclared.items ≡ other.undeclared.items
 

@@ -1,7 +1,7 @@
 -- What the contracts of this crate cite: each name comes from the module in its line.
 pub use Rattle.nj_one_answer.specs.Answers.{MisusedIsNotTaken, OneAffectedAnswer, OneAffectedDrawing, OneAnswer, OneAuditAnswer}
 pub use Rattle.nj_one_answer.specs.Answers.{OneDrawAnswer, OneJsonAnswer, OneKeysAnswer, OneMisuse, OneStaleAnswer, OneTestsAnswer}
-pub use Rattle.nj_one_answer.specs.Answers.{OneWhyAnswer, SameKnownHaveSameAnswers}
+pub use Rattle.nj_one_answer.specs.Answers.{OneTimesAnswer, OneWhyAnswer, SameKnownHaveSameAnswers}
 pub use Rattle.nj_ask.specs.Asks.{around}
 pub use Rattle.nj_ask.specs.AskedWords.{ended_status}
 pub use Rattle.std.specs.IoError.{error_kind}
@@ -16,7 +16,7 @@ pub use Rattle.nj_one_answer.specs.AuditKinds.{SameKinds}
 pub use Rattle.nj_scope.specs.Scopes.{IsScope, parent_at}
 pub use Rattle.nj_agreement.specs.Graphs.{SameDiscoveries, SameGraph, SameLoaded, SameButTies}
 pub use Rattle.std.specs.List.{IsDistinct}
-pub use Rattle.nj_one_answer.specs.KeyPages.{SamePage}
+pub use Rattle.nj_one_answer.specs.KeyPages.{SameKeyPage, SamePage}
 pub use Rattle.nj_agreement.specs.Walks.{SameWalk, SameRoom}
 pub use Rattle.nj_needs.specs.PageWalks.{written}
 pub use Rattle.nj_one_answer.specs.Sinks.{IsCut, SameSinks, UnlessCut}

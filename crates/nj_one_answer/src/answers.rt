@@ -1,6 +1,6 @@
 //! What the definitions of `nj_ask` leave open about the answer to a question.
 
-ghost use Rattle.nj_one_answer.specs.Cited.{MisusedIsNotTaken, OneAffectedAnswer, OneAffectedDrawing, OneAnswer, OneAuditAnswer, OneDrawAnswer, OneJsonAnswer, OneKeysAnswer, OneMisuse, OneStaleAnswer, OneTestsAnswer, OneWhyAnswer, SameKnownHaveSameAnswers};
+ghost use Rattle.nj_one_answer.specs.Cited.{MisusedIsNotTaken, OneAffectedAnswer, OneAffectedDrawing, OneAnswer, OneAuditAnswer, OneDrawAnswer, OneJsonAnswer, OneKeysAnswer, OneMisuse, OneStaleAnswer, OneTestsAnswer, OneTimesAnswer, OneWhyAnswer, SameKnownHaveSameAnswers};
 
 /// A graph, its statements, the options and the changed paths have one report.
 pub fn affected_answer_law()
@@ -60,6 +60,14 @@ pub fn tests_answer_law()
     nj_globs::one_reading();
 }
 
+/// A graph, its statements, a build log and the options have one report of where the time went.
+pub fn times_answer_law()
+    ensures { OneTimesAnswer }
+{
+    nj_times::one_path_is_critical();
+    nj_times::one_list_is_slowest();
+}
+
 /// A graph, its statements and the options have one chain, or none.
 pub fn why_answer_law()
     ensures { OneWhyAnswer }
@@ -81,5 +89,6 @@ pub fn answer_law()
     keys_answer_law();
     stale_answer_law();
     tests_answer_law();
+    times_answer_law();
     why_answer_law();
 }

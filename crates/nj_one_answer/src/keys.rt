@@ -1,10 +1,10 @@
 //! The calls of `nj_keys`.
 
 ghost use Rattle.std.specs.Prelude.{◌≡◌, OnErr, OnOk};
-ghost use Rattle.nj_one_answer.specs.Cited.{AgreeIfOk, AgreeUpTo, IsMarkOutOfMemory, OfStatements, SamePage};
+ghost use Rattle.nj_one_answer.specs.Cited.{AgreeIfOk, AgreeUpTo, IsMarkOutOfMemory, OfStatements, SameKeyPage, SamePage};
 
 use nj_graph::FileList;
-use nj_keys::{Bases, Page};
+use nj_keys::{Bases, KeyPage, Page};
 use nj_needs::{Mark, MarkFault};
 use std::alloc::{AllocError, Global};
 
@@ -57,6 +57,7 @@ pub fn page_from(
     alloc: Global,
     bases: &Bases,
     additions: &[&[u8]],
+    counts: &[usize],
     targets: &FileList<'_>,
     mark: &Mark,
     take: Option<u64>,
@@ -66,7 +67,27 @@ pub fn page_from(
 {
     nj_keys::lines_law();
     (
-        nj_keys::page_from(alloc, bases, additions, targets, mark, take),
-        nj_keys::page_from(alloc, bases, additions, targets, mark, take),
+        nj_keys::page_from(alloc, bases, additions, counts, targets, mark, take),
+        nj_keys::page_from(alloc, bases, additions, counts, targets, mark, take),
+    )
+}
+
+/// For a graph of statements. Free: whether memory lacks.
+pub fn keys_from(
+    alloc: Global,
+    bases: &Bases,
+    additions: &[&[u8]],
+    counts: &[usize],
+    targets: &FileList<'_>,
+    mark: &Mark,
+    take: Option<u64>,
+) -> (Result<KeyPage, MarkFault>, Result<KeyPage, MarkFault>)
+    ensures { OfStatements targets.now.graph (λ entries.
+        AgreeUpTo SameKeyPage IsMarkOutOfMemory result.0 result.1) }
+{
+    nj_keys::lines_law();
+    (
+        nj_keys::keys_from(alloc, bases, additions, counts, targets, mark, take),
+        nj_keys::keys_from(alloc, bases, additions, counts, targets, mark, take),
     )
 }

@@ -18,7 +18,7 @@ mod tools;
 pub use answers::{
     affected_answer_law, answer_law, audit_answer_law, draw_answer_law, json_answer_law,
     keys_answer_law, known_answer_law, misuse_law, stale_answer_law, tests_answer_law,
-    why_answer_law,
+    times_answer_law, why_answer_law,
 };
 pub use asks::{
     ask_read_words, ask_words, made_from, refuse_folder, refuse_input, refuse_words,
@@ -47,7 +47,7 @@ pub use graph::targets::{
     graph_pick_named, graph_pick_targets, graph_target, graph_targets, pick_target,
 };
 pub use graph::undeclared::undeclared_inputs;
-pub use keys::{bases_add, bases_append_mapped, content_addition, page_from};
+pub use keys::{bases_add, bases_append_mapped, content_addition, keys_from, page_from};
 pub use needs::{
     grow_targets, mark_from_numbers, mark_read, mark_to_text, needs_mark, needs_mark_after_page,
     needs_new, needs_next, needs_next_on_page, needs_resume,

@@ -1,0 +1,110 @@
+-- Two answers of `times`.
+use Rattle.std.proofs.Common.{◌≡◌, ◌∙◌, ℕ, Bool, Option, Some, None, Result, List, refl, sym, ap, subst}
+use Rattle.nj_build_log.specs.Logs.{BuildLogModel, LineModel}
+use Rattle.nj_edges.specs.Distances.{IsNeeded}
+use Rattle.nj_edges.specs.Edges.{EdgePaths}
+use Rattle.nj_scope.specs.ReadingList.{ReadStatement}
+use Rattle.nj_graph.specs.declared.GraphFault.{GraphFault}
+use Rattle.nj_graph.specs.Graph.{edges_of}
+use Rattle.nj_times.specs.Laws.{OneListIsSlowest, OnePathIsCritical}
+use Rattle.nj_times.specs.Reports.{AreShown, IsReport, commands_in, report_text}
+use Rattle.nj_times.specs.Slowest.{AreSlowest}
+use Rattle.nj_times.specs.Times.{durations_of}
+use Rattle.nj_questions.specs.Questions.{TimesModel}
+use Rattle.nj_ask.specs.declared.discovered.DiscoveredGraph.{DiscoveredGraph}
+use Rattle.nj_ask.specs.declared.status.Status.TheVariants.{Fault}
+use Rattle.nj_ask.specs.Answers.{HasDepfileFault, IsClear, asked_targets}
+use Rattle.nj_ask.specs.Endings.{Ending, answered, fault_line, refused}
+use Rattle.nj_ask.specs.Shape.{caveat_text}
+use Rattle.nj_ask.specs.Times.{AnswersTimes, timed_files}
+use Rattle.nj_ask.specs.Times.AnswersTimes.{no_target, no_depfile, reported}
+use Rattle.nj_one_answer.specs.Answers.{OneTimesAnswer}
+use Rattle.nj_one_answer.proofs.NeededFaults.{clear-or-fault, fault-lines-agree}
+use Rattle.nj_one_answer.proofs.WhyAnswers.{ok-or-err, same-err, same-ok}
+use Rattle.nj_agreement.proofs.ReachedAnswers.{rising-agree}
+
+-- ---- reports
+
+module _ (one-path : OnePathIsCritical) (one-list : OneListIsSlowest) (edges : List EdgePaths)
+    (lines : List LineModel) (files : List (List ℕ)) where
+  abbrev durations : List (Option ℕ)
+  durations = durations_of lines edges
+
+  shown-agree : (top : Option ℕ) (commands path shown more : List ℕ)
+      → AreShown durations top commands path shown → AreShown durations top commands path more → shown ≡ more
+  shown-agree None commands path shown more is also = is ∙ sym also
+  shown-agree (Some count) commands path shown more is also =
+      one-list durations commands count shown more is also
+
+  pub reports-agree : (top : Option ℕ) (is_json : Bool) (text other : List ℕ)
+      → IsReport edges lines files top is_json text → IsReport edges lines files top is_json other
+      → text ≡ other
+  reports-agree top is_json text other is also =
+      let needed : is.needed ≡ also.needed = rising-agree (IsNeeded edges files) is.needed also.needed
+      is.are_needed is.rises also.are_needed also.rises in
+      let path : is.path ≡ also.path =
+      one-path edges files durations is.path also.path is.critical also.critical in
+      let shown : is.shown ≡ also.shown =
+      shown-agree top (commands_in edges also.needed) also.path is.shown also.shown
+      (subst (λ p. AreShown durations top (commands_in edges also.needed) p is.shown) path
+      (subst (λ ns. AreShown durations top (commands_in edges ns) is.path is.shown) needed is.are_shown))
+      also.are_shown in
+      is.text_is
+      ∙ ap (λ ns. report_text edges durations is_json (commands_in edges ns) is.path is.shown) needed
+      ∙ ap (λ p. report_text edges durations is_json (commands_in edges also.needed) p is.shown) path
+      ∙ ap (report_text edges durations is_json (commands_in edges also.needed) also.path) shown
+      ∙ sym also.text_is
+
+-- ---- answers
+
+abbrev Same : (output other : List ℕ) (ending end : Ending) → Type 0
+Same output other ending end = (output ≡ other) × (ending ≡ end)
+
+module _ (one-path : OnePathIsCritical) (one-list : OneListIsSlowest) (known : DiscoveredGraph)
+    (entries : List ReadStatement) (log : BuildLogModel) (options : TimesModel) where
+  abbrev meant : Result (List (List ℕ)) GraphFault
+  meant = asked_targets known.graph options.targets
+
+  abbrev asked : (targets : List (List ℕ)) → List (List ℕ)
+  asked targets = timed_files known.graph targets
+
+  answers-agree : (output other : List ℕ) (ending end : Ending)
+      → AnswersTimes known entries log options output ending
+      → AnswersTimes known entries log options other end → Same output other ending end
+  answers-agree _ _ _ _ (no_target {fault = e1} bad1) (no_target {fault = e2} bad2) =
+      (refl, ap (λ fault. refused (fault_line fault) Fault) (same-err meant e1 e2 bad1 bad2))
+  answers-agree _ _ _ _ (no_target {fault = e1} bad1) (no_depfile {targets = p2} at2 has2) =
+      absurd (ok-or-err meant p2 e1 at2 bad1)
+  answers-agree _ _ _ _ (no_target {fault = e1} bad1) (reported {targets = p2} at2 clear2 is2) =
+      absurd (ok-or-err meant p2 e1 at2 bad1)
+  answers-agree _ _ _ _ (no_depfile {targets = p1} at1 has1) (no_target {fault = e2} bad2) =
+      absurd (ok-or-err meant p1 e2 at1 bad2)
+  answers-agree _ _ _ _ (no_depfile {targets = p1} {line = l1} at1 has1)
+      (no_depfile {targets = p2} {line = l2} at2 has2) = (
+        refl,
+        ap (λ line. refused line Fault) (fault-lines-agree known (asked p2) l1 l2
+            (subst (λ ps. HasDepfileFault known (asked ps) l1) (same-ok meant p1 p2 at1 at2) has1) has2),
+      )
+  answers-agree _ _ _ _ (no_depfile {targets = p1} {line = l1} at1 has1)
+      (reported {targets = p2} at2 clear2 is2) =
+      absurd (clear-or-fault known (asked p1) l1
+      (subst (λ ps. IsClear known (asked ps)) (same-ok meant p2 p1 at2 at1) clear2) has1)
+  answers-agree _ _ _ _ (reported {targets = p1} at1 clear1 is1) (no_target {fault = e2} bad2) =
+      absurd (ok-or-err meant p1 e2 at1 bad2)
+  answers-agree _ _ _ _ (reported {targets = p1} at1 clear1 is1)
+      (no_depfile {targets = p2} {line = l2} at2 has2) =
+      absurd (clear-or-fault known (asked p2) l2
+      (subst (λ ps. IsClear known (asked ps)) (same-ok meant p1 p2 at1 at2) clear1) has2)
+  answers-agree output other _ _ (reported {targets = p1} at1 clear1 is1)
+      (reported {targets = p2} at2 clear2 is2) = (
+        reports-agree one-path one-list (edges_of known.graph) log.lines (asked p2) options.top options.json
+            output other
+            (subst (λ ps. IsReport (edges_of known.graph) log.lines (asked ps) options.top options.json
+            output)
+            (same-ok meant p1 p2 at1 at2) is1) is2,
+        refl,
+      )
+
+pub one-times-answer : OnePathIsCritical → OneListIsSlowest → OneTimesAnswer
+one-times-answer one-path one-list known entries log options output other ending end is also =
+    answers-agree one-path one-list known entries log options output other ending end is also
