@@ -6,12 +6,13 @@ a tab, CR and `$`. All runs on the project (lib/tools.py) have to succeed or to 
 the place of the fault has to contain the subject of such a fault.
 """
 
+import contextlib
 import tempfile
 from functools import partial
 
 from lib.checks import check
 from lib.faults import ending_is_wrong
-from lib.programs import DONE, FAULT, LOOK, Ending, shown
+from lib.programs import DONE, FAULT, LOOK, Ending, Repeated, compiled, shown
 from lib.projects import EVERY_PROJECT, MAIN, answer_differs, input_of, write_files
 from lib.sweeps import Sweep
 from lib.tools import EXPLAIN, GRAPH, PROGRAMS
@@ -35,17 +36,21 @@ def changed(text):
             yield f"{name} as byte {place}", text[:place] + byte + text[place + 1 :]
 
 
-def try_file(name, program, task):
+def try_file(name, program, library, task):
     """Runs the program on each change of a file. Returns the counts, and the problems."""
     project, changed_file = task
     files, runs = dict(EVERY_PROJECT[project].files), PROGRAMS[name].runs_on(project)
     tried, wrong = 0, []
-    with tempfile.TemporaryDirectory() as folder:
+    with tempfile.TemporaryDirectory() as folder, contextlib.ExitStack() as all_runs:
         write_files(folder, files)
+        repeated = [
+            all_runs.enter_context(Repeated(program, run.words, folder, input_of(run), library))
+            for run in runs
+        ]
         for tried, (what, text) in enumerate(changed(files[changed_file]), start=1):
             write_files(folder, {changed_file: text})
-            for run in runs:
-                ran = program.run(run.words, folder, input_of(run))
+            for run, again in zip(runs, repeated):
+                ran = again.run()
                 fault = ending_is_wrong(name, run.words, ran, {**files, changed_file: text})
                 if fault or ran.status not in ENDINGS:
                     why = fault or "the status is wrong"
@@ -61,11 +66,12 @@ def last_dollar(name, program, folder):
     return {"changed files": 1, "runs": 1}, wrong
 
 
-@check(alone=True)
+@check(needs=["cc"], alone=True)
 def every_byte(programs, folder, jobs):
+    library = compiled("repeated", folder)
     for name, program in programs.items():
         sweep = Sweep("bytes", name)
         tasks = [(each, file) for each in CHANGED[name] for file in EVERY_PROJECT[each].files]
-        sweep.in_parallel(jobs, partial(try_file, name, program), tasks)
+        sweep.in_parallel(jobs, partial(try_file, name, program, library), tasks)
         sweep.take(*last_dollar(name, program, folder))
         yield from [*answer_differs(name, program, folder), *sweep.problems()]

@@ -9,13 +9,14 @@ It is wrong too if a call was never made to fail that the program makes.
 """
 
 import errno
+import math
 import re
 import tempfile
 from functools import partial
 from pathlib import Path
 
 from lib.checks import check
-from lib.programs import DONE, FAULT, LOOK, OUTPUT_FAILED, STOPPED, Ending, compiled, shown
+from lib.programs import DONE, FAULT, LOOK, OUTPUT_FAILED, STOPPED, Ending, Repeated, compiled, shown
 from lib.projects import EVERY_PROJECT, MAIN, RECORDS, Project, input_of
 from lib.sweeps import Sweep, lacks_runs
 from lib.tools import EXPLAIN, GRAPH, JOINING, PROGRAMS, run_of
@@ -38,6 +39,8 @@ OF_GRAPH = {"chdir", "getcwd"}
 EVERY = "each"
 EDGES = 8_000
 CHAIN = "a chain"
+# They read the build log, and join what builds discovered.
+OF_BUILDS = {"stale", "times"}
 STANDARD_INPUT = "0"
 LACKS_MEMORY = rb"out of memory"
 
@@ -74,12 +77,12 @@ def log_of(runs):
     """The deps log that a run requests, or `None`."""
     if "--deps-log-file" in runs.words:
         return runs.words[runs.words.index("--deps-log-file") + 1]
-    return own_log(runs) if {"--deps", "stale"} & {*runs.words} else None
+    return own_log(runs) if ({"--deps"} | OF_BUILDS) & {*runs.words} else None
 
 
 def build_log_of(runs):
     """The build log that a run reads, or `None`."""
-    return own_log(runs).replace(".ninja_deps", ".ninja_log") if "stale" in runs.words else None
+    return own_log(runs).replace(".ninja_deps", ".ninja_log") if OF_BUILDS & {*runs.words} else None
 
 
 def depfiles_of(runs):
@@ -90,7 +93,7 @@ def depfiles_of(runs):
 def dyndep_of(runs):
     """The dyndep file that a run joins if it is there, or `None`."""
     names = [name for name in runs.project.files if name == "dd"]
-    return names[0] if names and (JOINING | {"stale"}) & {*runs.words} else None
+    return names[0] if names and (JOINING | OF_BUILDS) & {*runs.words} else None
 
 
 def named_files_of(runs):
@@ -143,7 +146,7 @@ def for_another_reason(ending, was, now):
 
 def asks_about_targets(runs):
     """Whether a run is about some targets, and not about all edges."""
-    return bool({"why", "keys", "draw", "stale"} & {*runs.words}) and "--affected" not in runs.words
+    return bool(({"why", "keys", "draw"} | OF_BUILDS) & {*runs.words}) and "--affected" not in runs.words
 
 
 def unread(runs, number):
@@ -296,16 +299,24 @@ class Failed:
 class Runs:
     """A run of a program on its project, which is made again with calls that fail."""
 
-    def __init__(self, name, program, run, library, folder):
-        self.name, self.program, self.library, self.words = name, program, library, run.words
+    def __init__(self, name, program, run, libraries, folder):
+        self.name, self.program, self.words = name, program, run.words
         self.folder, self.text = folder, input_of(run, PROJECTS)
         self.project = PROJECTS[run.project]
         self.project.write_to(folder)
         self.report = Path(folder) / "report"
-        self.usual = self.run()
+        self.usual, self.made = self.run(), {}
+        fails = {"FAIL_REPORT": str(self.report)}
+        self.repeated = Repeated(program, run.words, folder, self.text, *libraries, **fails)
 
-    def run(self, **fails):
-        return self.program.run(self.words, self.folder, self.text, **fails)
+    def __enter__(self):
+        return self
+
+    def __exit__(self, *_):
+        self.repeated.close()
+
+    def run(self):
+        return self.program.run(self.words, self.folder, self.text)
 
     def run_with(self, name, text):
         """How the run ends where a file has this text, or is not there."""
@@ -326,24 +337,25 @@ class Runs:
         value = way if isinstance(way, int) else getattr(errno, way)
         fails = {"FAIL_CALL": call, "FAIL_AT": str(number), how: str(value)}
         self.report.unlink(missing_ok=True)
-        ran = self.run(LD_PRELOAD=self.library, FAIL_REPORT=str(self.report), **fails)
+        ran = self.repeated.run(**fails)
         return ran, Failed(self.report.read_text()) if self.report.exists() else None
 
     def failures_of(self, call, way):
-        """How a run ends in which a call of this kind fails, for each such call in turn."""
-        number = 1
-        while (failed := self.run_failing(call, way, number))[1] is not None:
+        """How a run ends in which a call of this kind fails, for each such call in turn. Runs are the same up to
+        the call that fails, so the first way shows how many calls there are."""
+        number, last = 1, self.made.get(call, math.inf)
+        while number <= last and (failed := self.run_failing(call, way, number))[1] is not None:
             yield number, *failed
             number += 1
+        self.made[call] = number - 1
         if isinstance(way, int) and way > 0 and number > 1:
             yield EVERY, *self.run_failing(call, way, 0)
 
 
-def try_run(name, program, library, run):
+def try_run(name, program, libraries, run):
     """Makes each call of a run fail in each way. Returns the counts, and the problems."""
     counts, wrong = {"runs": 1, **dict.fromkeys(ERRORS, 0)}, []
-    with tempfile.TemporaryDirectory() as folder:
-        runs = Runs(name, program, run, library, folder)
+    with tempfile.TemporaryDirectory() as folder, Runs(name, program, run, libraries, folder) as runs:
         for call, way in ways():
             for number, ran, failed in runs.failures_of(call, way):
                 counts[call] += 1
@@ -361,11 +373,11 @@ def runs_of(name):
 
 @check(needs=["cc"], alone=True)
 def every_call(programs, folder, jobs):
-    library = compiled("fail_calls", folder)
+    libraries = [compiled("repeated", folder), compiled("fail_calls", folder)]
     for name, program in programs.items():
         sweep, runs = Sweep("calls", name), runs_of(name)
         sweep.wrong += lacks_runs(name, runs)
-        sweep.in_parallel(jobs, partial(try_run, name, program, library), runs)
+        sweep.in_parallel(jobs, partial(try_run, name, program, libraries), runs)
         made = set(ERRORS) - (OF_GRAPH if name == EXPLAIN else set())
         sweep.wants(*(call for call in ERRORS if call in made))
         sweep.wrong += [f"it calls {call}" for call in ERRORS if call not in made and sweep.counts[call]]

@@ -27,7 +27,7 @@ from pathlib import Path
 
 from lib.checks import check, expect
 from lib.composed import TESTS, composed
-from lib.programs import FAULT, OUTPUT_FAILED, STOPPED, USAGE, Ending, compiled, shown
+from lib.programs import FAULT, OUTPUT_FAILED, STOPPED, USAGE, Ending, Repeated, compiled, shown
 from lib.projects import EVERY_PROJECT, MAIN, PROJECTS, Project, answer_differs, input_of
 from lib.rows import came_of, ending_of, lossy, marked, row_of, single_rows
 from lib.sweeps import Sweep, lacks_runs
@@ -72,30 +72,30 @@ class Runs:
         EVERY_PROJECT[run.project].write_to(folder)
         self.ample = self.run()
 
-    def run(self, **environment):
-        return self.program.run(self.words, self.folder, self.text, **environment)
+    def run(self):
+        return self.program.run(self.words, self.folder, self.text)
 
-    def refusals(self, library, times):
+    def refusals(self, libraries, times):
         """How a run ends to which so many allocations are refused, from each one on in turn."""
         report, number = Path(self.folder) / "report", 1
-        fails = {"LD_PRELOAD": library, "FAIL_ALLOC_REPORT": str(report)}
-        while True:
-            fails |= {"FAIL_ALLOC": str(number), "FAIL_ALLOC_TIMES": str(times)}
-            ran = self.run(**fails)
-            if not report.exists():
-                break
-            report.unlink()
-            yield number, ran
-            number += 1
+        fails = {"FAIL_ALLOC_REPORT": str(report), "FAIL_ALLOC_TIMES": str(times)}
+        with Repeated(self.program, self.words, self.folder, self.text, *libraries, **fails) as runs:
+            while True:
+                ran = runs.run(FAIL_ALLOC=str(number))
+                if not report.exists():
+                    break
+                report.unlink()
+                yield number, ran
+                number += 1
 
 
-def try_allocations(programs, library, task):
+def try_allocations(programs, libraries, task):
     """Refuses allocations to a run. Returns the counts, and the problems."""
     name, run, times = task
     number, wrong = 0, []
     with tempfile.TemporaryDirectory() as folder:
         runs = Runs(programs[name], run, folder)
-        for number, ran in runs.refusals(library, times):
+        for number, ran in runs.refusals(libraries, times):
             if is_wrong(name, ran, runs.ample):
                 wrong.append(f"{run}, allocation {number} {REFUSALS[times]}: it ends with {shown(ran)}")
     # One that runs to its end with all refused has none that counts.
@@ -104,7 +104,8 @@ def try_allocations(programs, library, task):
 
 @check(needs=["cc"], alone=True)
 def allocations(programs, folder, jobs):
-    task = partial(try_allocations, programs, compiled("fail_alloc", folder))
+    libraries = [compiled("repeated", folder), compiled("fail_alloc", folder)]
+    task = partial(try_allocations, programs, libraries)
     for name, program in programs.items():
         sweep, runs = Sweep("memory", name), PROGRAMS[name].runs_on()
         sweep.wrong += lacks_runs(name, runs)

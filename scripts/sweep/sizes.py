@@ -299,6 +299,11 @@ def stale_object(output, reason, file):
     return json.dumps(values, separators=(",", ":"))
 
 
+def untimed(count):
+    """The first line of `times` without a build log."""
+    return f"commands: {count}, unknown: {count}, sum: 0.000 s, critical path: 0.000 s\n"
+
+
 def chains(line_of, kind, most, least=0):
     """The lines of `why` from one edge down to another."""
     numbers = range(most, least, -1)
@@ -359,6 +364,10 @@ def graph_of_chain():
     yield f"stale --why --no-manifest e{HALF}", (LOOK, "e0: e0 is missing\n" + stale, "")
     objects = lines(stale_object(f"e{n}", "stale-input", f"e{n - 1}") for n in range(1, HALF + 1))
     yield f"stale --json e{HALF}", (LOOK, stale_object("e0", "missing-output", "e0") + "\n" + objects, "")
+    yield "times", done(untimed(EDGES))
+    yield f"times --top 2 e{HALF}", done(untimed(HALF + 1) + "unknown e0\nunknown e1\n")
+    counts = {"commands": EDGES, "unknown": EDGES, "sum": 0, "critical_path": 0}
+    yield "times --json", done(json.dumps(counts, separators=(",", ":")) + "\n")
     tests = f"tests --ctest {LIST}"
     yield f"{tests} < e7", done("counts\nalways\n")
     words = "--source-dir x/.. --ignore none --ignore-unknown --allow-empty --format lines --why"
@@ -421,8 +430,7 @@ def graph_of_log():
     outputs = lines(f"o{n}" for n in ALL)
     arrows = {f"s{n} ~ h ~ g > cc > o{n}" for n in ALL}
     of_gen = key([b"gen", b"", b""], b"g", [])
-    inputs = [(b"", b"s7", b""), (b"|", b"h", b""), (b"|", b"g", of_gen)]
-    of_cc = key([b"cc o7", b"", b""], b"o7", inputs)
+    of_cc = key([b"cc o7", b"", b""], b"o7", [(b"", b"s7", b"")])
     yield "affected < h", (LOOK, "", "h\n")
     for word in "--deps", "--deps-log-file=.ninja_deps":
         yield f"affected {word} < h", done(outputs)
