@@ -94,9 +94,10 @@ endif
 	@echo "Nothing is proved yet: 'make' proves and builds the program, 'make gate' proves all."
 
 # Runs all rows and stored runs, with run-time checks and without any proof, and the checks that read
-# files alone. With ROWS=loads it runs only the rows of that file, tests/*/data/loads.rows.
+# files alone. With ROWS=loads it runs only the rows of that file, tests/*/data/loads.rows; with
+# BEFORE_GATE=1 it leaves out the programs of crates/, which the gate runs.
 test:
-	@python3 scripts/run_tests.py --jobs $(JOBS) $(if $(ROWS),--rows "$(ROWS)")
+	@python3 scripts/run_tests.py --jobs $(JOBS) $(if $(ROWS),--rows "$(ROWS)") $(if $(BEFORE_GATE),--before-gate)
 
 # The checks of one crate before a commit, with CRATE=nj_text: its check, its edits, the tests
 # and rows on it, and the layout of its files. It names the crates above.

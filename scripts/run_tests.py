@@ -1,5 +1,5 @@
 #!/usr/bin/env python3
-"""Runs all tests and rows without any proof: run_tests.py [--jobs N] [--rows NAME] [CRATE..]
+"""Runs all tests and rows without any proof: run_tests.py [--jobs N] [--rows NAME | --before-gate] [CRATE..]
 
 The crates of the repository and of tests/ are copied to one directory (lib/composed.py). Each crate
 with tests, and each program on the files that lie beside its `src/` (`args`, `stdin` and `data/`), is
@@ -7,7 +7,9 @@ built there with run-time checks and run by `rt try`, several side by side. A pr
 text of its file `stdout` and to end with the status in its file `status`. Where it ends with the line
 `N rows, M differ`, each of its rows counts. The layout of the sources in tests/ is compared, and
 `make lint` runs. With names of crates only those crates are run, and with --rows only the
-rows of tests/*/data/NAME.rows. With --lay-out the sources in tests/ are laid out, as by `rt fmt`.
+rows of tests/*/data/NAME.rows. With --before-gate the crates of the repository are left out: `rt ci`
+proves them, and runs their tests and programs by two compilers. With --lay-out the sources in tests/
+are laid out, as by `rt fmt`.
 
 A failure is told with the name of its test or row. A run that does not say how it ended fails. The
 last line is `N passed, M failed`, and the status is 1 if anything failed.
@@ -251,6 +253,7 @@ def main():
     words = argparse.ArgumentParser(description=__doc__, formatter_class=layout)
     words.add_argument("--jobs", type=int, default=len(os.sched_getaffinity(0)))
     words.add_argument("--rows", metavar="NAME", help="of the rows, only those of this file")
+    words.add_argument("--before-gate", action="store_true", help="leave out what the gate runs")
     words.add_argument("--lay-out", action="store_true", help="lay out the sources in tests/")
     words.add_argument("crates", nargs="*", metavar="CRATE")
     words = words.parse_args()
@@ -263,12 +266,13 @@ def main():
     is_over = threading.Event()
     threading.Thread(target=end_hints, args=[is_over], daemon=True).start()
     with composed() as top:
-        names = [crate_of_rows(words.rows)] if words.rows else words.crates or crates
+        whole = test_crates() if words.before_gate else crates
+        names = [crate_of_rows(words.rows)] if words.rows else words.crates or whole
         folders = [top / "crates" / name for name in names]
         if words.rows:
             take_rows(folders[0], f"{words.rows}.rows")
         work = work_for(folders)
-        if names == crates:
+        if names is whole:
             work += [(run_lint, TOP / "scripts" / LINT), (check_layout, TESTS)]
         passed, failed = run_all(work, words.jobs)
     is_over.set()
