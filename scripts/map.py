@@ -1,7 +1,7 @@
 #!/usr/bin/env python3
-"""Writes the generated parts of docs/ARCHITECTURE.md: which crates there are, on what each stands,
-and the files of the crates in tests/. What changes with each commit is printed and not kept: how long
-each crate is, and the subject of each of its files.
+"""Writes the generated parts of docs/ARCHITECTURE.md: which crates there are, and on what each stands.
+What changes with each commit is printed and not kept: how long each crate is, and the subject of each
+of its files, those of the crates in tests/ included.
 
     map.py            writes the parts, between the marks that name them
     map.py --check    ends with status 1 if they are out of date
@@ -158,6 +158,7 @@ def files():
 
 
 def of_tests():
+    """The files of the crates in tests/ with their subjects."""
     rows = []
     for crate in reversed(test_crates()):
         files = {file.stem: file for file in sorted((TESTS / crate / "src").glob("*.rs"))}
@@ -167,7 +168,7 @@ def of_tests():
     return table(["File", "Subject"], rows)
 
 
-PARTS = {"crates": of_crates, "layers": of_layers, "tests": of_tests}
+PARTS = {"crates": of_crates, "layers": of_layers}
 
 
 def with_parts(page):
@@ -186,7 +187,7 @@ def main():
     parser.add_argument("--print", action="store_true")
     words = parser.parse_args()
     if words.print:
-        print("\n".join([*counts(), "", *files()]))
+        print("\n".join([*counts(), "", *files(), "", *of_tests()]))
         return
     old = PAGE.read_text()
     new = with_parts(old)
