@@ -13,6 +13,7 @@ use nj_cycles::{EdgeInputs, first_on_cycle};
 use nj_names::{FileNo, Files};
 use std::alloc::{AllocError, Global};
 use std::marker::Model;
+use std::mem::drop;
 
 /// The edges of a run and the files that they name, without a dependency cycle.
 #[derive(Drop)]
@@ -285,17 +286,30 @@ impl Edges {
         requires { self.«open» ≡ no_files }
         ensures { IfOk result (λ finished. FinishesAs self.files self.edges finished) }
     {
-        if let Some(cycle) = self.first_cycle(alloc)? {
-            return Ok(Finished::Cycle(cycle));
+        match self.first_cycle(alloc) {
+            Ok(None) => {}
+            Ok(Some(cycle)) => {
+                drop(self);
+                return Ok(Finished::Cycle(cycle));
+            }
+            Err(error) => {
+                drop(self);
+                return Err(error);
+            }
         }
-        let found = found_lists(alloc, &self.files, &self.lists)?;
-        Ok(Finished::Graph(EdgeGraph {
-            files: self.files,
-            lists: self.lists,
-            roots: found.roots,
-            users: found.users,
-            validation_users: found.validation_users,
-        }))
+        match found_lists(alloc, &self.files, &self.lists) {
+            Ok(found) => Ok(Finished::Graph(EdgeGraph {
+                files: self.files,
+                lists: self.lists,
+                roots: found.roots,
+                users: found.users,
+                validation_users: found.validation_users,
+            })),
+            Err(error) => {
+                drop(self);
+                Err(error)
+            }
+        }
     }
 
     // The lowest-numbered edge on a dependency cycle, if any.

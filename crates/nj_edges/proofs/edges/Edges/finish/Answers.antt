@@ -8,15 +8,15 @@ use Rattle.nj_edges.proofs.edges.Edges.finish.Goals as goal
 
 pub invariant_of-result : goal.invariant_of-result
 invariant_of-result c =
-    let none = subst (IsFirstCycle c.args.self.edges) c.in_default.is c.in_ok-cycle.ensures in
-    let found = c.in_ok-found.ensures in
+    let none = subst (IsFirstCycle c.args.self.edges) c.in-Ok-None.field-0-is c.in-Ok-None.ensures in
+    let found = c.in-Ok.ensures in
     let closed = ap (λ (t : EdgeTable). t.«open») c.self.view_is ∙ c.requires in
     record {
       table = c.self.invariant;
       closed = closed;
       acyclic = acyclic-held c.self.inside.files (lists_of c.self.inside.lists) c.args.self c.self.view_is
           none;
-      roots_are = roots-held _ _ c.self.invariant.edges_are closed c.in_ok-found.found.roots.items
+      roots_are = roots-held _ _ c.self.invariant.edges_are closed c.in-Ok.found.roots.items
           found.roots;
       users_are = found.users;
       validation_users_are = found.validation_users;
