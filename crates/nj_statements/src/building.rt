@@ -21,6 +21,7 @@ use nj_scope::{Declarations, HashKeys, ScopeNo};
 use nj_text::Word;
 use std::alloc::Global;
 use std::marker::Model;
+use std::mem::drop;
 
 /// The edges of the build statements that were read so far, and the defaults ("Build statements"
 /// and "Default target statements" in the Ninja manual).
@@ -244,8 +245,13 @@ impl Building {
             → ComesTo entries result }
     {
         let Building { edges, records, .. } = self;
-        let finished = edges.finish(alloc)?;
-        records.finish(alloc, finished)
+        match edges.finish(alloc) {
+            Ok(finished) => records.finish(alloc, finished),
+            Err(error) => {
+                drop(records);
+                Err(GraphFault::from(error))
+            }
+        }
     }
 }
 

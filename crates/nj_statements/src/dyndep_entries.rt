@@ -12,6 +12,7 @@ use nj_manifest::{Entry, Word};
 use nj_text::{Spot, TextFault};
 use std::alloc::{AllocError, Global};
 use std::marker::Model;
+use std::mem::drop;
 
 /// A dyndep file ("Dynamic Dependencies" in the Ninja manual).
 #[derive(Clone, Copy)]
@@ -63,20 +64,27 @@ impl Built {
             → IfOk result (λ joining. HasJoined joining stated stated) }
     {
         let Built { graph, records } = self;
-        let Start {
-            edges,
-            dyndep_files,
-            bound,
-            unjoined,
-        } = start_of(alloc, graph, &records.dyndeps)?;
-        Ok(Joining {
-            edges,
-            records,
-            dyndep_files,
-            bound,
-            unjoined,
-            capacity: Capacity::new(alloc),
-        })
+        match start_of(alloc, graph, &records.dyndeps) {
+            Ok(
+                Start {
+                    edges,
+                    dyndep_files,
+                    bound,
+                    unjoined,
+                },
+            ) => Ok(Joining {
+                edges,
+                records,
+                dyndep_files,
+                bound,
+                unjoined,
+                capacity: Capacity::new(alloc),
+            }),
+            Err(error) => {
+                drop(records);
+                Err(error)
+            }
+        }
     }
 }
 
@@ -104,11 +112,23 @@ fn start_of(alloc: Global, graph: EdgeGraph, dyndeps: &[DyndepEdge]) -> Result<S
     ensures unjoined { IfOk result (λ start. (file : FileNo)
         → slice_index_or start.unjoined.items file.0 0 ≡ count_bound file dyndeps.now) }
 {
-    let bound = bound_edges(alloc, graph.edge_count(), dyndeps)?;
+    let bound = match bound_edges(alloc, graph.edge_count(), dyndeps) {
+        Ok(bound) => bound,
+        Err(error) => {
+            drop(graph);
+            return Err(error);
+        }
+    };
     let Awaited {
         dyndep_files,
         unjoined,
-    } = awaited_files(alloc, graph.files().count(), dyndeps)?;
+    } = match awaited_files(alloc, graph.files().count(), dyndeps) {
+        Ok(awaited) => awaited,
+        Err(error) => {
+            drop(graph);
+            return Err(error);
+        }
+    };
     let edges = graph.join(alloc)?;
     Ok(Start {
         edges,
@@ -286,15 +306,26 @@ impl Joining {
         ensures { (stated joined : List ReadStatement) → HasJoined self stated joined
             → ComesTo joined result }
     {
+        let dyndeps = match unjoined_edges(alloc, &self.edges, &self.bound) {
+            Ok(dyndeps) => dyndeps,
+            Err(error) => {
+                drop(self);
+                return Err(GraphFault::from(error));
+            }
+        };
         let Joining {
             edges,
             mut records,
-            bound,
             ..
         } = self;
-        records.dyndeps = unjoined_edges(alloc, &edges, &bound)?;
-        let finished = edges.finish(alloc)?;
-        records.finish(alloc, finished)
+        records.dyndeps = dyndeps;
+        match edges.finish(alloc) {
+            Ok(finished) => records.finish(alloc, finished),
+            Err(error) => {
+                drop(records);
+                Err(GraphFault::from(error))
+            }
+        }
     }
 }
 
