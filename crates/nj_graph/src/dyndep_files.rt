@@ -21,6 +21,7 @@ use nj_manifest::{DyndepParser, Entry};
 use nj_scope::{FileSource, FileTable};
 use nj_statements::{Built, DyndepFile, Joining};
 use std::alloc::{AllocError, Global};
+use std::mem::drop;
 
 /// Joins the dyndep files to which edges are bound ("Dynamic Dependencies" in the Ninja manual):
 /// the outputs and inputs that they discover become implicit. A graph to which they are already
@@ -197,9 +198,20 @@ fn join_built<S: FileSource, C: DyndepChoice>(
         files.old files.new result }
 {
     let mut joining = built.join(alloc)?;
-    let chosen = choice.choose(alloc, &joining)?;
-    join_files(alloc, source, files, &mut joining, &chosen)?;
-    joining.finish(alloc)
+    let chosen = match choice.choose(alloc, &joining) {
+        Ok(chosen) => chosen,
+        Err(error) => {
+            drop(joining);
+            return Err(GraphFault::from(error));
+        }
+    };
+    match join_files(alloc, source, files, &mut joining, &chosen) {
+        Ok(()) => joining.finish(alloc),
+        Err(fault) => {
+            drop(joining);
+            Err(fault)
+        }
+    }
 }
 
 // Joins the dyndep files at the given indices.

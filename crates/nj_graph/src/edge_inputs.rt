@@ -11,6 +11,7 @@ use nj_edges::{EdgeGraph, Finished, JoiningInputs};
 use nj_faults::GraphFault;
 use nj_statements::Built;
 use std::alloc::{AllocError, Global};
+use std::mem::drop;
 
 // Inputs that are named for the edges of a graph.
 pub(crate) trait EdgeInputs {
@@ -43,8 +44,13 @@ pub(crate) fn join_built<N: EdgeInputs>(
     ensures files { IfOk result (λ joined. IsPrefix built.graph.files joined.graph.files) }
 {
     let (graph, records) = built.into_parts();
-    let finished = joined_graph(alloc, graph, named)?;
-    records.finish(alloc, finished)
+    match joined_graph(alloc, graph, named) {
+        Ok(finished) => records.finish(alloc, finished),
+        Err(error) => {
+            drop(records);
+            Err(GraphFault::from(error))
+        }
+    }
 }
 
 // The graph with the inputs that are named for each edge.

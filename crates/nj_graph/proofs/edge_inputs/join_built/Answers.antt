@@ -13,7 +13,7 @@ finish-requires g c =
     let graph = c.into_parts-graph.result.0 in
     let as_many = c.requires ∙ ap (λ (b : BuiltModel). length b.graph.edges) c.into_parts-graph.ensures.built
     in
-    let done = c.in_ok-finished.ensures in (
+    let done = c.in-Ok.ensures in (
       done.files,
       edges_with inputs graph.edges,
       done.finishes,
@@ -22,41 +22,41 @@ finish-requires g c =
           done.longer,
     )
 
-pub returns-clause-comes : goal.returns-clause-comes
-returns-clause-comes g c = λ named stated is are.
+pub returns-in-Ok-clause-comes : goal.returns-in-Ok-clause-comes
+returns-in-Ok-clause-comes g c = λ named stated is are.
     let inputs = g.N.EdgeInputs.inputs c.args.named.now in
     let graph = c.into_parts-graph.result.0 in
     let as_many = c.requires ∙ ap (λ (b : BuiltModel). length b.graph.edges) c.into_parts-graph.ensures.built
     in
-    let done = c.in_ok-finished.ensures in
+    let done = c.in-Ok.ensures in
     c.finish.ensures.comes done.files (edges_with inputs graph.edges) _ done.finishes
     (joined-built inputs graph c.into_parts-graph.result.1 c.into_parts-graph.ensures.fits
     as_many
     done.files done.longer named stated
     (subst (λ (b : BuiltModel). IsBuiltOf b stated) c.into_parts-graph.ensures.built is) are)
 
-pub returns-clause-details : goal.returns-clause-details
-returns-clause-details g c =
-    let done = c.in_ok-finished.ensures in
+pub returns-in-Ok-clause-details : goal.returns-in-Ok-clause-details
+returns-in-Ok-clause-details g c =
+    let done = c.in-Ok.ensures in
     if_ok c.finish.result (c.finish.ensures.graph done.files _ done.finishes)
     (λ b is. ap (λ (b : BuiltModel). b.details) is
     ∙ sym (ap (λ (b : BuiltModel). b.details) c.into_parts-graph.ensures.built))
 
-pub returns-clause-count : goal.returns-clause-count
-returns-clause-count g c =
+pub returns-in-Ok-clause-count : goal.returns-in-Ok-clause-count
+returns-in-Ok-clause-count g c =
     let inputs = g.N.EdgeInputs.inputs c.args.named.now in
     let graph = c.into_parts-graph.result.0 in
     let as_many = c.requires ∙ ap (λ (b : BuiltModel). length b.graph.edges) c.into_parts-graph.ensures.built
     in
-    let done = c.in_ok-finished.ensures in
+    let done = c.in-Ok.ensures in
     if_ok c.finish.result (c.finish.ensures.graph done.files _ done.finishes)
     (λ b is. ap (λ (b : BuiltModel). length b.graph.edges) is
     ∙ length-with inputs graph.edges as_many
     ∙ sym (ap (λ (b : BuiltModel). length b.graph.edges) c.into_parts-graph.ensures.built))
 
-pub returns-clause-files : goal.returns-clause-files
-returns-clause-files g c =
-    let done = c.in_ok-finished.ensures in
+pub returns-in-Ok-clause-files : goal.returns-in-Ok-clause-files
+returns-in-Ok-clause-files g c =
+    let done = c.in-Ok.ensures in
     if_ok c.finish.result (c.finish.ensures.graph done.files _ done.finishes)
     (λ b is. subst (λ (b : BuiltModel). IsPrefix c.args.built.graph.files b.graph.files)
     (sym is) (subst (λ (b : BuiltModel). IsPrefix b.graph.files done.files)
