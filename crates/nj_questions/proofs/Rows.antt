@@ -28,6 +28,8 @@ changed = record {
   no_phony = false;
   ignore_unknown = false;
   allow_empty = false;
+  since = None;
+  bases = [];
 }
 
 abbrev findings : (only except : List (List ℕ)) (as_json lists : Bool) → AuditModel
@@ -198,9 +200,23 @@ affected_options_row : question_of (codes "affected" ∷ codes "--source-dir" �
       no_phony = true;
       ignore_unknown = true;
       allow_empty = true;
+      since = None;
+      bases = [];
     }))
 unfolding question_of command clap_on_literals
 affected_options_row = refl
+
+since_row : question_of (codes "affected" ∷ codes "--since" ∷ codes "old.keys" ∷ codes "--base=/b" ∷ codes
+    "--base" ∷ codes "/s" ∷ []) ≡ asks (affected
+    (record changed { since = Some (codes "old.keys"); bases = codes "/b" ∷ codes "/s" ∷ [] }))
+unfolding question_of command clap_on_literals
+since_row = refl
+
+since_tests_row : question_of (codes "tests" ∷ codes "--since=old.keys" ∷ codes "--base" ∷ codes "/b" ∷ [])
+    ≡ asks (tests (record reached
+    { change = record changed { since = Some (codes "old.keys"); bases = codes "/b" ∷ [] } }))
+unfolding question_of command clap_on_literals
+since_tests_row = refl
 
 paths_options_row : question_of (codes "affected" ∷ codes "--ignore" ∷ codes "docs/**" ∷ codes "-z" ∷
     codes "--ignore=*.md" ∷ []) ≡ asks (affected

@@ -55,7 +55,8 @@ subcommand name options = record (new_shape name) { rules = options ++ graph_opt
 -- the options of `affected`; a subcommand's words that are not options are among its options
 abbrev pub affected_options : List Rule
 affected_options = repeated (codes "source-dir") ∷ short_flag (codes "zero-ended") 122 ∷ repeated (codes "ignore")
-    ∷ repeated (codes "rule") ∷ long_option (codes "prefix") ∷ flag (codes "no-phony") ∷ flag (codes "ignore-unknown") ∷ flag (codes "allow-empty") ∷ []
+    ∷ repeated (codes "rule") ∷ long_option (codes "prefix") ∷ flag (codes "no-phony") ∷ flag (codes "ignore-unknown") ∷ flag (codes "allow-empty")
+    ∷ long_option (codes "since") ∷ repeated (codes "base") ∷ []
 
 -- the options of `audit`
 abbrev pub audit_options : List Rule
@@ -81,7 +82,7 @@ stale_options = flag (codes "why") ∷ flag (codes "json") ∷ flag (codes "no-m
 abbrev pub tests_options : List Rule
 tests_options = long_option (codes "ctest") ∷ long_option (codes "meson") ∷ repeated (codes "source-dir") ∷ short_flag (codes "zero-ended") 122
     ∷ repeated (codes "ignore") ∷ flag (codes "ignore-unknown") ∷ flag (codes "allow-empty") ∷ long_option (codes "format")
-    ∷ flag (codes "why") ∷ flag (codes "json") ∷ long_option (codes "unnamed") ∷ []
+    ∷ flag (codes "why") ∷ flag (codes "json") ∷ long_option (codes "unnamed") ∷ long_option (codes "since") ∷ repeated (codes "base") ∷ []
 
 -- the options of `times`
 abbrev pub times_options : List Rule

@@ -40,6 +40,8 @@ affected_in rows = record {
   no_phony = is_on (codes "no-phony") rows;
   ignore_unknown = is_on (codes "ignore-unknown") rows;
   allow_empty = is_on (codes "allow-empty") rows;
+  since = first_of (codes "since") rows;
+  bases = values_in (codes "base") rows;
 }
 
 -- the options of `audit`

@@ -25,7 +25,8 @@ pub record AskedGraph : Type 0 where
 -- ---- what is asked
 
 -- `affected`: changed paths are each ended by a zero byte, or else are lines, and are in the `source_dirs`, if any; `ignored` are
--- patterns of globs; without `rules`, outputs of edges with any rule
+-- patterns of globs; without `rules`, outputs of edges with any rule; `since` is a file with the keys of an older manifest, and `bases`
+-- are the directories that its keys do not name
 pub record AffectedModel : Type 0 where
   pub source_dirs : List (List ℕ)
   pub zero_ended : Bool
@@ -35,6 +36,8 @@ pub record AffectedModel : Type 0 where
   pub no_phony : Bool
   pub ignore_unknown : Bool
   pub allow_empty : Bool
+  pub since : Option (List ℕ)
+  pub bases : List (List ℕ)
 
 -- `audit`: `only` and `except` are words of kinds of findings
 pub record AuditModel : Type 0 where
@@ -156,6 +159,8 @@ affected_model options = record {
   no_phony = options.no_phony;
   ignore_unknown = options.ignore_unknown;
   allow_empty = options.allow_empty;
+  since = option_map string_bytes options.since;
+  bases = map string_bytes options.bases.items;
 }
 
 -- the options of `audit`

@@ -111,6 +111,11 @@ pub struct AffectedOptions {
     pub ignore_unknown: bool,
     /// `--allow-empty`: an empty list of paths is not a caveat.
     pub allow_empty: bool,
+    /// `--since FILE`: a file with the keys of an older manifest, as `keys` writes them; commands with
+    /// other keys count as changed.
+    pub since: Option<String>,
+    /// `--base DIR`: the directories that numbers stand for in those keys.
+    pub bases: Vec<String>,
 }
 
 /// The options of `audit`.

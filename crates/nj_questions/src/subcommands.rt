@@ -53,7 +53,7 @@ A file may have absolute and relative paths: CMake names sources by the former, 
   git diff -z --name-only main | ninja-graph affected -z -C build --deps --source-dir ..",
 };
 
-pub const AFFECTED_OPTIONS: [Entry; 8] = [
+pub const AFFECTED_OPTIONS: [Entry; 10] = [
     (
         "source-dir",
         Form::Repeated("DIR"),
@@ -89,6 +89,16 @@ pub const AFFECTED_OPTIONS: [Entry; 8] = [
         "allow-empty",
         Form::Flag,
         "End with status 0 if no changed path is given",
+    ),
+    (
+        "since",
+        Form::Long("FILE"),
+        "Take commands as changed whose keys are not in FILE, which ninja-graph keys wrote",
+    ),
+    (
+        "base",
+        Form::Repeated("DIR"),
+        "With --since, let a number stand for DIR, as keys did",
     ),
 ];
 
@@ -268,7 +278,7 @@ The same for Meson, whose list is in the build directory:
   xargs -r -d '\\n' meson test < patterns",
 };
 
-pub const TESTS_OPTIONS: [Entry; 11] = [
+pub const TESTS_OPTIONS: [Entry; 13] = [
     (
         "ctest",
         Form::Long("FILE"),
@@ -315,6 +325,16 @@ pub const TESTS_OPTIONS: [Entry; 11] = [
         "unnamed",
         Form::Long("skip"),
         "Skip tests that name no file of the build, and those without a program",
+    ),
+    (
+        "since",
+        Form::Long("FILE"),
+        "Take commands as changed whose keys are not in FILE, which ninja-graph keys wrote",
+    ),
+    (
+        "base",
+        Form::Repeated("DIR"),
+        "With --since, let a number stand for DIR, as keys did",
     ),
 ];
 

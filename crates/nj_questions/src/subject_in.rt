@@ -48,6 +48,8 @@ fn affected_in(alloc: Global, options: &ArgMatches<'_>) -> Result<AffectedOption
         no_phony: is_on(options, "no-phony"),
         ignore_unknown: is_on(options, "ignore-unknown"),
         allow_empty: is_on(options, "allow-empty"),
+        since: text_in(alloc, options, "since")?,
+        bases: values_in(alloc, options, "base")?,
     })
 }
 
