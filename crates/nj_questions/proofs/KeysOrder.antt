@@ -39,6 +39,7 @@ asked bases targets = record {
     files = [];
     take = None;
     resume = None;
+    all = false;
     targets =
         targets;
   });

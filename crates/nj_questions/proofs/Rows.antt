@@ -48,6 +48,7 @@ keyed bases take resume targets = record {
   files = [];
   take = take;
   resume = resume;
+  all = false;
   targets = targets;
 }
 
@@ -268,6 +269,11 @@ keys_options_row : question_of (codes "keys" ∷ codes "--take" ∷ codes "5" �
     codes "app" ∷ []) ≡ asks (keys (keyed [] (Some 5) (Some (codes "0.1")) (codes "app" ∷ [])))
 unfolding question_of command clap_on_literals
 keys_options_row = refl
+
+all_keys_row : question_of (codes "keys" ∷ codes "--all" ∷ codes "--base" ∷ codes "/b" ∷ [])
+    ≡ asks (keys (record (keyed (codes "/b" ∷ []) None None []) { all = true }))
+unfolding question_of command clap_on_literals
+all_keys_row = refl
 
 tests_options_row : question_of (codes "tests" ∷ codes "--source-dir" ∷ codes ".." ∷ codes "-z" ∷ codes
     "--ctest=list" ∷ codes "--ignore=*.md" ∷ codes "--format=ctest" ∷ codes "--unnamed" ∷ codes "skip" ∷ codes

@@ -72,6 +72,7 @@ keys_in rows = record {
   files = values_in (codes "with-file") rows;
   take = number_in (codes "take") rows;
   resume = first_of (codes "resume") rows;
+  all = is_on (codes "all") rows;
   targets = values_in (codes "targets") rows;
 }
 

@@ -55,13 +55,15 @@ pub record DrawModel : Type 0 where
   pub limit : Option ℕ
   pub inputs : Option ℕ
 
--- `keys`: the texts `additions`, and the contents of the `files`, go into every key; `resume` is the text of a mark
+-- `keys`: the texts `additions`, and the contents of the `files`, go into every key; `resume` is the text of a mark; `all` asks for every
+-- command, whatever targets need
 pub record KeysModel : Type 0 where
   pub bases : List (List ℕ)
   pub additions : List (List ℕ)
   pub files : List (List ℕ)
   pub take : Option ℕ
   pub resume : Option (List ℕ)
+  pub all : Bool
   pub targets : List (List ℕ)
 
 -- `stale`: `why` asks for reasons, and `json` for objects; `no_manifest` leaves out what the manifest itself is made from
@@ -191,6 +193,7 @@ keys_model options = record {
   files = map string_bytes options.files.items;
   take = options.take;
   resume = option_map string_bytes options.resume;
+  all = options.all;
   targets = map string_bytes options.targets.items;
 }
 

@@ -162,6 +162,8 @@ pub struct KeysOptions {
     pub take: Option<u64>,
     /// `--resume MARK`: the text of the mark of the previous run.
     pub resume: Option<String>,
+    /// `--all`: every command of the manifest, whatever targets need.
+    pub all: bool,
     /// The targets; without any, the default targets.
     pub targets: Vec<String>,
 }

@@ -191,7 +191,7 @@ Builds of one project in two directories have the same keys where these are give
   ninja-graph keys -C build --base \"$PWD/build\" --base \"$PWD\"",
 };
 
-pub const KEYS_OPTIONS: [Entry; 6] = [
+pub const KEYS_OPTIONS: [Entry; 7] = [
     (
         "base",
         Form::Repeated("DIR"),
@@ -212,6 +212,11 @@ pub const KEYS_OPTIONS: [Entry; 6] = [
         "resume",
         Form::Long("MARK"),
         "Write the rest after the run that named MARK",
+    ),
+    (
+        "all",
+        Form::Flag,
+        "Write a key for every command, in the order of the manifest",
     ),
     (
         "targets",

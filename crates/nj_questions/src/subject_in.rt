@@ -96,6 +96,7 @@ fn keys_in(alloc: Global, options: &ArgMatches<'_>) -> Result<KeysOptions, Alloc
         files: values_in(alloc, options, "with-file")?,
         take: number_in(options, "take"),
         resume: text_in(alloc, options, "resume")?,
+        all: is_on(options, "all"),
         targets: values_in(alloc, options, "targets")?,
     })
 }
