@@ -1,23 +1,37 @@
 -- The answers of `keys`.
-use Rattle.std.proofs.Common.{◌≡◌, ◌++◌, ℕ, Bool, false, List, []}
-use Rattle.std.proofs.Common.{map, Ok, sym, subst}
-use Rattle.std.specs.Prelude.{codes}
+use Rattle.std.proofs.Common.{◌≡◌, ◌++◌, ℕ, Bool, true, false, List, [], ◌∷◌, map}
+use Rattle.std.proofs.Common.{Result, Ok, None, Some, refl, sym, subst}
+use Rattle.std.specs.Prelude.{codes, slice_get}
 use Rattle.nj_text.specs.Paths.{clean_path_of}
 use Rattle.nj_graph.specs.ReadingList.{ReadStatement}
 use Rattle.nj_graph.specs.Edges.{EdgePaths}
 use Rattle.nj_graph.specs.Handles.{GraphFiles}
 use Rattle.nj_keys.specs.Pages.{leads}
-use Rattle.nj_keys.specs.declared.pages.Page.{Page}
+use Rattle.nj_keys.specs.Keys.{HaveKeys, all_commands}
+use Rattle.nj_keys.specs.declared.pages.EdgeKey.{EdgeKey}
+use Rattle.nj_keys.specs.declared.pages.KeyPage.{KeyPage}
 use Rattle.nj_questions.specs.Questions.{KeysModel}
 use Rattle.nj_ask.specs.declared.discovered.DiscoveredGraph.{DiscoveredGraph}
 use Rattle.nj_ask.specs.declared.status.Status.TheVariants.{Fault}
-use Rattle.nj_ask.specs.Answers.{AnswersKeys, HasDepfileFault, IsClear, asked_targets, files_at}
-use Rattle.nj_ask.specs.Answers.{manifest_edges}
-use Rattle.nj_ask.specs.Answers.AnswersKeys.{no_depfile, no_target, out_of_range, page}
+use Rattle.nj_ask.specs.declared.answer.Answer.{Answer}
+use Rattle.nj_ask.specs.declared.doubts.EdgeFault.{EdgeFault}
+use Rattle.nj_ask.specs.declared.failure.Failure.{Failure}
+use Rattle.nj_ask.specs.Answers.{AnswersAllKeys, AnswersKeys, AnswersTargetKeys, HasDepfileFault, IsClear}
+use Rattle.nj_ask.specs.Answers.{asked_targets, files_at, key_lines, manifest_edges}
+use Rattle.nj_ask.specs.Answers.AnswersAllKeys.{bad_depfile, every}
+use Rattle.nj_ask.specs.Answers.AnswersKeys.{of_all, of_targets}
+use Rattle.nj_ask.specs.Answers.AnswersTargetKeys.{no_depfile, no_target, out_of_range, page}
 use Rattle.nj_ask.specs.Endings.{answered, program_line, refused}
 use Rattle.nj_ask.specs.Inside.AnswerParts.{IsPageOf, SaysErr}
+use Rattle.nj_ask.specs.Inside.Failures.{Gives}
+use Rattle.nj_ask.proofs.PartLemmas.{gives-weaker}
 use Rattle.nj_ask.specs.Pages.{mark_line}
 use Rattle.nj_ask.specs.Shape.{caveat_text}
+
+-- a list without a first element is empty
+pub nothing-first : {A : Type 0} (xs : List A) → slice_get xs 0 ≡ None → xs ≡ []
+nothing-first [] none = refl
+nothing-first (x ∷ xs) none = absurd cc
 
 module _ (known : DiscoveredGraph) (entries : List ReadStatement) (options : KeysModel)
     (contents : List (List ℕ))
@@ -26,7 +40,7 @@ module _ (known : DiscoveredGraph) (entries : List ReadStatement) (options : Key
   Targets paths = asked_targets known.graph options.targets ≡ Ok paths
 
   abbrev Refuses : (line : List ℕ) → Type 0
-  Refuses line = AnswersKeys known entries options contents mark [] (refused line Fault)
+  Refuses line = AnswersTargetKeys known entries options contents mark [] (refused line Fault)
 
   pub keys-no-target : (line : List ℕ) → SaysErr (asked_targets known.graph options.targets) line
       → Refuses line
@@ -43,15 +57,16 @@ module _ (known : DiscoveredGraph) (entries : List ReadStatement) (options : Key
       subst Refuses (sym says.1) (out_of_range are clear
       (subst (λ g. leads (files_at g files.paths) mark ≡ false) same says.0))
 
+  -- the keys of a page
   pub keys-page : (files : GraphFiles) → files.graph ≡ known.graph → Targets files.paths
       → IsClear known files.paths → (folders : List (List ℕ)) → folders ≡ map clean_path_of options.bases
       → (additions : List (List ℕ)) → additions ≡ options.additions ++ contents
       → (edges : List EdgePaths) → edges ≡ manifest_edges known
-      → (written : Page) → IsPageOf files edges entries additions folders mark options.take written
+      → (written : KeyPage) → IsPageOf files edges entries additions folders mark options.take written
       → (output : List ℕ) (looks : Bool) (warnings : List ℕ)
-      → output ≡ written.lines.items → looks ≡ false
+      → output ≡ key_lines known.graph written.keys.items → looks ≡ false
       → warnings ≡ mark_line written.mark ++ caveat_text known entries
-      → AnswersKeys known entries options contents mark output (answered looks warnings)
+      → AnswersTargetKeys known entries options contents mark output (answered looks warnings)
   keys-page files same are clear folders bases additions added edges stated written is output looks warnings o
       l w =
       let there = subst (λ g. IsPageOf (files_at g files.paths) (manifest_edges known) entries
@@ -63,4 +78,46 @@ module _ (known : DiscoveredGraph) (entries : List ReadStatement) (options : Key
       (subst (λ texts. IsPageOf files edges entries texts (map clean_path_of options.bases) mark options.take
       written) added
       (subst (λ ds. IsPageOf files edges entries additions ds mark options.take written) bases is))) in
-      rw (o, l, w) (page written.mark are clear there.valid there.lines there.begins there.stops)
+      rw (o, l, w) (page written.mark are clear there.valid there.keys there.begins there.stops)
+
+  -- the first depfile with a fault, for all keys
+  pub keys-bad-depfile : (fault : EdgeFault) → slice_get known.faults.items 0 ≡ Some fault → (line : List ℕ)
+      → line ≡ program_line fault.text.items
+      → AnswersAllKeys known entries options contents [] (refused line Fault)
+  keys-bad-depfile fault first line is =
+      subst (λ l. AnswersAllKeys known entries options contents [] (refused l Fault)) (sym is)
+      (bad_depfile first)
+
+  -- all keys
+  pub keys-all : known.faults.items ≡ [] → (folders : List (List ℕ))
+      → folders ≡ map clean_path_of options.bases
+      → (additions : List (List ℕ)) → additions ≡ options.additions ++ contents
+      → (edges : List EdgePaths) → edges ≡ manifest_edges known
+      → (keys : List EdgeKey) → HaveKeys additions folders edges entries (all_commands known.graph) keys
+      → (output : List ℕ) (looks : Bool) (warnings : List ℕ)
+      → output ≡ key_lines known.graph keys → looks ≡ false → warnings ≡ caveat_text known entries
+      → AnswersAllKeys known entries options contents output (answered looks warnings)
+  keys-all clear folders bases additions added edges stated keys is output looks warnings o l w =
+      let there = subst (λ es. HaveKeys (options.additions ++ contents) (map clean_path_of options.bases) es
+      entries (all_commands known.graph) keys) stated
+      (subst (λ texts. HaveKeys texts (map clean_path_of options.bases) edges entries
+      (all_commands known.graph) keys) added
+      (subst (λ ds. HaveKeys additions ds edges entries (all_commands known.graph) keys) bases is)) in
+      rw (o, l, w) (every clear there)
+
+  -- the keys of the targets, or all keys
+  pub targets-give : options.all ≡ false → (answer : Result Answer Failure)
+      → Gives (AnswersTargetKeys known entries options contents mark) answer
+      → Gives (AnswersKeys known entries options contents mark) answer
+  targets-give is answer gives =
+      gives-weaker (AnswersTargetKeys known entries options contents mark)
+      (AnswersKeys known entries options contents mark)
+      (λ output ending. of_targets is) answer gives
+
+  pub all-give : options.all ≡ true → (answer : Result Answer Failure)
+      → Gives (AnswersAllKeys known entries options contents) answer
+      → Gives (AnswersKeys known entries options contents mark) answer
+  all-give is answer gives =
+      gives-weaker (AnswersAllKeys known entries options contents)
+      (AnswersKeys known entries options contents mark)
+      (λ output ending. of_all is) answer gives

@@ -1,12 +1,13 @@
 -- Answers by their parts, and why there are none.
 use Rattle.std.proofs.Common.{◌≡◌, ◌≢◌, ◌⊎◌, ◌++◌, ℕ, Bool, false, Option, None, Some, List, []}
-use Rattle.std.proofs.Common.{Result, Err, inl, inr, refl, sym, ap, subst, ◌∙◌}
+use Rattle.std.proofs.Common.{Result, Ok, Err, inl, inr, refl, sym, ap, subst, ◌∙◌}
 use Rattle.std.specs.Prelude.{codes}
 use Rattle.nj_faults.specs.Faults.{no_memory}
 use Rattle.nj_faults.specs.declared.fault.GraphFault.{GraphFault}
 use Rattle.nj_needs.specs.MarkFaults.{IsReadFault, fault_text}
 use Rattle.nj_needs.specs.declared.mark_fault.MarkFault.{MarkFault}
 use Rattle.nj_needs.specs.declared.mark_fault.MarkFault.TheVariants as mark
+use Rattle.nj_ask.specs.declared.answer.Answer.{Answer}
 use Rattle.nj_ask.specs.declared.failure.Failure.{Failure}
 use Rattle.nj_ask.specs.declared.failure.Failure.TheVariants.{Refused, Write, OutOfMemory}
 use Rattle.nj_ask.specs.declared.status.Status.{Status}
@@ -47,6 +48,15 @@ gives-refused Is status Says such (Refused line given) fails =
     subst (λ s. Is [] (refused line.items s)) (sym fails.1) (such line.items fails.0)
 gives-refused Is status Says such Write fails = fails
 gives-refused Is status Says such OutOfMemory fails = fails
+
+-- an answer of one kind is an answer of another
+pub gives-weaker : (Is Also : (output : List ℕ) → Ending → Type 0)
+    → ((output : List ℕ) (ending : Ending) → Is output ending → Also output ending)
+    → (answer : Result Answer Failure) → Gives Is answer → Gives Also answer
+gives-weaker Is Also such (Ok answer) gives = such _ _ gives
+gives-weaker Is Also such (Err (Refused line status)) gives = such _ _ gives
+gives-weaker Is Also such (Err Write) gives = gives
+gives-weaker Is Also such (Err OutOfMemory) gives = gives
 
 -- ---- marks
 

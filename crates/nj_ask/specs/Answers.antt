@@ -1,6 +1,9 @@
 -- The answer to each question, by a graph and its statements: standard output, and how it ends.
-use Rattle.std.specs.Prelude.{◌≡◌, ◌≢◌, ◌⊎◌, ℕ, Bool, true, false, not, if◌then◌else◌, Option, Some, None, unwrap_or, option_map, Result, Ok, Err, List, [], ◌∷◌, ◌++◌, map, codes, find}
+use Rattle.std.specs.Prelude.{◌≡◌, ◌≢◌, ◌⊎◌, ℕ, Bool, true, false, ◌&&◌, not, if◌then◌else◌, Option, Some, None, is_some, unwrap_or, option_map}
+use Rattle.std.specs.Prelude.{Result, Ok, Err, List, [], ◌∷◌, ◌++◌, map, codes, find, slice_get}
+use Rattle.std.specs.List.{flat_map}
 use Rattle.std.specs.Option.{option_or}
+use Rattle.nj_text.specs.Calls.{is_empty}
 use Rattle.nj_text.specs.Paths.{clean_path_of, is_absolute}
 use Rattle.nj_graph.specs.ReadingList.{ReadStatement}
 use Rattle.nj_graph.specs.declared.ChainKinds.{ChainKinds}
@@ -14,8 +17,9 @@ use Rattle.nj_needs.specs.Growing.{grown_targets}
 use Rattle.nj_needs.specs.MarkTexts.{given_mark}
 use Rattle.nj_needs.specs.PageWalks.{written, StopsAt}
 use Rattle.nj_needs.specs.Walks.{WalkState}
-use Rattle.nj_keys.specs.Keys.{ListsKeys, edges_stated}
+use Rattle.nj_keys.specs.Keys.{HaveKeys, all_commands, edges_stated, line}
 use Rattle.nj_keys.specs.Pages.{leads, left_at, BeginsAfter}
+use Rattle.nj_keys.specs.declared.pages.EdgeKey.{EdgeKey}
 use Rattle.nj_tools.specs.Compdb.{text_fault}
 use Rattle.nj_tools.specs.EdgeObjects.{edge_lines, unwritable_edge}
 use Rattle.nj_questions.specs.Questions.{AffectedModel, DrawModel, KeysModel, WhyModel}
@@ -128,11 +132,19 @@ abbrev pub mark_misuse : (text : List ℕ) → (mark : Option (List ℕ)) → Op
 mark_misuse text None = Some (program_line (codes "bad mark '" ++ text ++ codes "'"))
 mark_misuse text (Some mark) = None
 
+-- the line about what `--all` excludes: all that is about targets, and pages
+abbrev pub all_misuse : KeysModel → Option (List ℕ)
+all_misuse options =
+    if options.all && not (is_empty options.targets) then Some (program_line (codes "--all excludes targets"))
+    else if options.all && is_some options.take then Some (program_line (codes "--all excludes --take"))
+    else if options.all && is_some options.resume then Some (program_line (codes "--all excludes --resume"))
+    else None
+
 -- why the options are refused before anything is read
 abbrev pub keys_misuse : KeysModel → Option (List ℕ)
 keys_misuse options =
     option_or (option_map (λ base. program_line (codes "'" ++ base ++ codes "' of --base is not absolute")) (relative_base options.bases))
-    (mark_misuse (mark_text options) (asked_mark options))
+    (option_or (all_misuse options) (mark_misuse (mark_text options) (asked_mark options)))
 
 -- the targets that words mean; the default ones if there are none
 abbrev pub asked_targets : GraphModel → (words : List (List ℕ)) → Result (List (List ℕ)) GraphFault
@@ -146,25 +158,53 @@ files_at g paths = record { graph = g; paths = paths }
 abbrev pub manifest_edges : DiscoveredGraph → List EdgePaths
 manifest_edges known = edges_stated (map (λ discovery. discovery.stated_inputs) known.discoveries.items) (edges_of known.graph)
 
--- `keys` from a mark on: the lines of the commands that are left there, up to the limit, and the mark after them. The additions are the
--- texts of the options, and after them `contents`, those for the contents of files.
-pub data AnswersKeys (known : DiscoveredGraph) (entries : List ReadStatement) (options : KeysModel) (contents : List (List ℕ))
+-- the keys of the given edges, by the options: the additions are the texts of the options, and after them `contents`, those for the contents
+-- of files
+abbrev pub HaveKeysAsked : DiscoveredGraph → List ReadStatement → KeysModel → (contents : List (List ℕ)) → (numbers : List ℕ)
+    → List EdgeKey → Type 0
+HaveKeysAsked known entries options contents numbers keys =
+    HaveKeys (options.additions ++ contents) (map clean_path_of options.bases) (manifest_edges known) entries numbers keys
+
+-- keys, a line each
+abbrev pub key_lines : GraphModel → List EdgeKey → List ℕ
+key_lines g keys = flat_map (λ next. line (edges_of g) next.edge.0 next.key) keys
+
+-- `keys` from a mark on: the lines of the commands that the targets need and that are left there, up to the limit, and the mark after them
+pub data AnswersTargetKeys (known : DiscoveredGraph) (entries : List ReadStatement) (options : KeysModel) (contents : List (List ℕ))
     (mark : List ℕ) :
     (output : List ℕ) → Ending → Type 0 where
   no_target : {fault : GraphFault} → asked_targets known.graph options.targets ≡ Err fault
-      → AnswersKeys known entries options contents mark [] (refused (fault_line fault) Fault)
+      → AnswersTargetKeys known entries options contents mark [] (refused (fault_line fault) Fault)
   no_depfile : {paths : List (List ℕ)} {line : List ℕ} → asked_targets known.graph options.targets ≡ Ok paths
-      → HasDepfileFault known paths line → AnswersKeys known entries options contents mark [] (refused line Fault)
+      → HasDepfileFault known paths line → AnswersTargetKeys known entries options contents mark [] (refused line Fault)
   out_of_range : {paths : List (List ℕ)} → asked_targets known.graph options.targets ≡ Ok paths → IsClear known paths
       → leads (files_at known.graph paths) mark ≡ false
-      → AnswersKeys known entries options contents mark [] (refused (program_line (codes "mark out of range")) Fault)
-  page : {paths : List (List ℕ)} {lines : List ℕ} {walk : WalkState} (rest : Option (List ℕ))
+      → AnswersTargetKeys known entries options contents mark [] (refused (program_line (codes "mark out of range")) Fault)
+  page : {paths : List (List ℕ)} {keys : List EdgeKey} {walk : WalkState} (rest : Option (List ℕ))
       → asked_targets known.graph options.targets ≡ Ok paths → IsClear known paths
       → leads (files_at known.graph paths) mark ≡ true
-      → ListsKeys (options.additions ++ contents) (map clean_path_of options.bases) (manifest_edges known) entries
-      (written options.take (left_at (files_at known.graph paths) mark)) lines
+      → HaveKeysAsked known entries options contents (written options.take (left_at (files_at known.graph paths) mark)) keys
       → BeginsAfter (files_at known.graph paths) mark walk → StopsAt walk options.take rest
-      → AnswersKeys known entries options contents mark lines (answered false (mark_line rest ++ caveat_text known entries))
+      → AnswersTargetKeys known entries options contents mark (key_lines known.graph keys)
+      (answered false (mark_line rest ++ caveat_text known entries))
+
+-- `keys --all`: the lines of all commands, in the order of the manifest; a depfile with a fault is refused, as where a target needs its edge
+pub data AnswersAllKeys (known : DiscoveredGraph) (entries : List ReadStatement) (options : KeysModel) (contents : List (List ℕ)) :
+    (output : List ℕ) → Ending → Type 0 where
+  bad_depfile : {fault : EdgeFault} → slice_get known.faults.items 0 ≡ Some fault
+      → AnswersAllKeys known entries options contents [] (refused (program_line fault.text.items) Fault)
+  every : {keys : List EdgeKey} → known.faults.items ≡ []
+      → HaveKeysAsked known entries options contents (all_commands known.graph) keys
+      → AnswersAllKeys known entries options contents (key_lines known.graph keys) (answered false (caveat_text known entries))
+
+-- `keys`
+pub data AnswersKeys (known : DiscoveredGraph) (entries : List ReadStatement) (options : KeysModel) (contents : List (List ℕ))
+    (mark : List ℕ) :
+    (output : List ℕ) → Ending → Type 0 where
+  of_targets : {output : List ℕ} {ending : Ending} → options.all ≡ false
+      → AnswersTargetKeys known entries options contents mark output ending → AnswersKeys known entries options contents mark output ending
+  of_all : {output : List ℕ} {ending : Ending} → options.all ≡ true
+      → AnswersAllKeys known entries options contents output ending → AnswersKeys known entries options contents mark output ending
 
 -- ---- `json`
 

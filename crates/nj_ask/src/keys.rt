@@ -1,8 +1,8 @@
 //! The keys of commands, in pages.
 
-ghost use Rattle.std.specs.Prelude.{◌≡◌, ◌≢◌, ◌++◌, ◌∷◌, [], true, false, None, Ok, Some, IfErr, IfOk, OnOk, map, string_bytes, codes};
+ghost use Rattle.std.specs.Prelude.{◌≡◌, ◌≢◌, ◌<◌, ◌++◌, ◌∷◌, [], true, false, None, Ok, Some, All, IfErr, IfOk, OnOk, length, map, not, option_copied, string_bytes, codes};
 ghost use Rattle.nj_needs.specs.MarkFaults.{fault_text};
-ghost use Rattle.nj_ask.specs.Cited.{Fault, Usage, OfStatements, clean_path_of, edges_of, edges_stated, is_absolute, given_mark, leads, caveat_text, mark_line, program_line, AnswersKeys, FailsBy, Gives, IsPageOf, SaysErr, asked_mark, asked_targets, base_misuse, keys_misuse, keys_model, mark_misuse};
+ghost use Rattle.nj_ask.specs.Cited.{Fault, Usage, OfStatements, clean_path_of, edges_of, edges_stated, is_absolute, is_empty, given_mark, leads, caveat_text, mark_line, program_line, AnswersAllKeys, AnswersKeys, AnswersTargetKeys, all_misuse, key_lines, FailsBy, Gives, IsPageOf, SaysErr, asked_mark, asked_targets, base_misuse, keys_misuse, keys_model, mark_misuse};
 
 use crate::answer::Answer;
 use crate::depfiles::check_depfiles;
@@ -11,8 +11,9 @@ use crate::failure::Failure;
 use crate::pages::mark_line;
 use crate::shape::caveat_lines;
 use crate::status::Status;
+use crate::test_options::misuse;
 use nj_graph::FileList;
-use nj_keys::{Bases, Page, page_from};
+use nj_keys::{Bases, EdgeKey, KeyPage, all_keys, key_lines, keys_from};
 use nj_needs::{Mark, MarkFault};
 use nj_questions::KeysOptions;
 use nj_tools::EdgeDiscovery;
@@ -43,6 +44,10 @@ pub(crate) fn page_asked(alloc: Global, options: &KeysOptions) -> Result<PageAsk
         Ok(bases) => bases,
         Err(failure) => return Err(failure),
     };
+    match check_all(alloc, options) {
+        Ok(()) => {}
+        Err(failure) => return Err(failure),
+    }
     let text = match &options.resume {
         Some(text) => text.as_str(),
         None => "start",
@@ -51,6 +56,31 @@ pub(crate) fn page_asked(alloc: Global, options: &KeysOptions) -> Result<PageAsk
         Ok(mark) => Ok(PageAsked { bases, mark }),
         Err(failure) => Err(failure),
     }
+}
+
+/// Refuses what `--all` excludes.
+fn check_all(alloc: Global, options: &KeysOptions) -> Result<(), Failure>
+    ensures allowed { IfOk result (λ _. all_misuse (keys_model options.now) ≡ None) }
+    ensures refused { IfErr result (FailsBy Usage
+        (λ line. all_misuse (keys_model options.now) ≡ Some line)) }
+{
+    if options.all && has_words(&options.targets) {
+        return Err(misuse(alloc, b"--all excludes targets"));
+    }
+    if options.all && options.take.is_some() {
+        return Err(misuse(alloc, b"--all excludes --take"));
+    }
+    if options.all && options.resume.is_some() {
+        return Err(misuse(alloc, b"--all excludes --resume"));
+    }
+    Ok(())
+}
+
+/// Whether there are any words.
+fn has_words(words: &[String]) -> bool
+    ensures { result ≡ not (is_empty (map string_bytes words.now)) }
+{
+    matches!(words, [_, ..])
 }
 
 /// The directories at the given paths, which have to be absolute.
@@ -130,10 +160,9 @@ fn mark_failure(alloc: Global, fault: MarkFault, status: Status) -> Failure
     }
 }
 
-// ---- the page
+// ---- the keys
 
-/// The page that the options request, from its mark on. `contents` are the additions for the contents
-/// of files.
+/// The keys that the options request. `contents` are the additions for the contents of files.
 pub(crate) fn answer_keys(
     alloc: Global,
     known: &DiscoveredGraph,
@@ -144,6 +173,48 @@ pub(crate) fn answer_keys(
     requires { asked.now.bases ≡ map clean_path_of (keys_model options.now).bases }
     ensures { OfStatements known.now.graph (λ entries.
         Gives (AnswersKeys known.now entries (keys_model options.now)
+        (map (λ content. content.items) contents.now) asked.now.mark) result) }
+{
+    if options.all {
+        answer_all_keys(alloc, known, options, contents, &asked.bases)
+    } else {
+        answer_target_keys(alloc, known, options, contents, asked)
+    }
+}
+
+/// The keys of all commands.
+fn answer_all_keys(
+    alloc: Global,
+    known: &DiscoveredGraph,
+    options: &KeysOptions,
+    contents: &[Vec<u8>],
+    bases: &Bases,
+) -> Result<Answer, Failure>
+    requires { bases.now ≡ map clean_path_of (keys_model options.now).bases }
+    ensures { OfStatements known.now.graph (λ entries.
+        Gives (AnswersAllKeys known.now entries (keys_model options.now)
+        (map (λ content. content.items) contents.now)) result) }
+{
+    if let Some(fault) = known.faults.first() {
+        return Err(Failure::in_words(alloc, b"", &fault.text, b"", Status::Fault));
+    }
+    let additions = additions_of(alloc, &options.additions, contents)?;
+    let counts = stated_counts(alloc, &known.discoveries)?;
+    let keys = all_keys(alloc, &known.graph, bases, &additions, &counts)?;
+    Ok(keys_answer(alloc, known, &keys, None)?)
+}
+
+/// The page that the options request of the keys of the commands that targets need.
+fn answer_target_keys(
+    alloc: Global,
+    known: &DiscoveredGraph,
+    options: &KeysOptions,
+    contents: &[Vec<u8>],
+    asked: &PageAsked,
+) -> Result<Answer, Failure>
+    requires { asked.now.bases ≡ map clean_path_of (keys_model options.now).bases }
+    ensures { OfStatements known.now.graph (λ entries.
+        Gives (AnswersTargetKeys known.now entries (keys_model options.now)
         (map (λ content. content.items) contents.now) asked.now.mark) result) }
 {
     let targets = match targets_asked(alloc, known, &options.targets) {
@@ -160,7 +231,7 @@ pub(crate) fn answer_keys(
         Ok(page) => page,
         Err(failure) => return Err(failure),
     };
-    Ok(page_answer(alloc, known, page)?)
+    Ok(keys_answer(alloc, known, &page.keys, page.mark.as_ref())?)
 }
 
 /// The files that words denote; without words, the defaults.
@@ -249,7 +320,7 @@ fn stated_counts(alloc: Global, discoveries: &[EdgeDiscovery]) -> Result<Vec<usi
     Ok(counts)
 }
 
-/// The page from a mark on, whose keys have additions. `counts` says how many implicit inputs the
+/// The page of keys from a mark on, which have additions. `counts` says how many implicit inputs the
 /// manifest itself states for each edge.
 fn page_of(
     alloc: Global,
@@ -258,15 +329,17 @@ fn page_of(
     counts: &[usize],
     targets: &FileList<'_>,
     take: Option<u64>,
-) -> Result<Page, Failure>
+) -> Result<KeyPage, Failure>
     ensures page { OfStatements targets.now.graph (λ entries.
         IfOk result (IsPageOf targets.now (edges_stated counts.now (edges_of targets.now.graph))
         entries (map (λ text. text.now) additions.now) asked.now.bases asked.now.mark take)) }
+    ensures known { IfOk result (λ page.
+        All (λ next. next.edge.0 < length (edges_of targets.now.graph)) page.keys.items) }
     ensures refused { IfErr result (FailsBy Fault
         (λ line. (leads targets.now asked.now.mark ≡ false)
         × (line ≡ program_line (codes "mark out of range")))) }
 {
-    match page_from(
+    match keys_from(
         alloc,
         &asked.bases,
         additions,
@@ -280,19 +353,26 @@ fn page_of(
     }
 }
 
-/// The answer of a page.
-fn page_answer(alloc: Global, known: &DiscoveredGraph, page: Page) -> Result<Answer, AllocError>
-    ensures output { IfOk result (λ answer. answer.output ≡ page.lines) }
+/// The answer with the given keys, and with the mark of the rest, if any are left.
+fn keys_answer(
+    alloc: Global,
+    known: &DiscoveredGraph,
+    keys: &[EdgeKey],
+    rest: Option<&Mark>,
+) -> Result<Answer, AllocError>
+    requires { All (λ next. next.edge.0 < length (edges_of known.now.graph)) keys.now }
+    ensures output { IfOk result (λ answer.
+        answer.output.items ≡ key_lines known.now.graph keys.now) }
     ensures looks { IfOk result (λ answer. answer.looks ≡ false) }
     ensures warnings { OfStatements known.now.graph (λ entries.
         IfOk result (λ answer. answer.warnings.items
-        ≡ mark_line page.mark ++ caveat_text known.now entries)) }
+        ≡ mark_line (option_copied rest.entry) ++ caveat_text known.now entries)) }
 {
-    let Page { lines, mark } = page;
-    let mut warnings = mark_line(alloc, mark.as_ref())?;
+    let output = key_lines(alloc, &known.graph, keys)?;
+    let mut warnings = mark_line(alloc, rest)?;
     warnings.extend_from_slice(&caveat_lines(alloc, known)?)?;
     Ok(Answer {
-        output: lines,
+        output,
         warnings,
         looks: false,
     })

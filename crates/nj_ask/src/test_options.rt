@@ -99,7 +99,7 @@ fn check_program(alloc: Global, options: &TestsOptions) -> Result<(), Failure>
 }
 
 /// The refusal of options, in the given words.
-fn misuse(alloc: Global, text: &[u8]) -> Failure
+pub(crate) fn misuse(alloc: Global, text: &[u8]) -> Failure
     ensures { FailsBy Usage (λ line. line ≡ program_line text.now) result }
 {
     Failure::in_words(alloc, b"", text, b"", Status::Usage)

@@ -6,9 +6,9 @@ use Rattle.nj_graph.specs.Edges.{EdgePaths}
 use Rattle.nj_graph.specs.Handles.{GraphFiles}
 use Rattle.nj_needs.specs.PageWalks.{written, StopsAt}
 use Rattle.nj_needs.specs.Walks.{WalkState}
-use Rattle.nj_keys.specs.Keys.{ListsKeys}
+use Rattle.nj_keys.specs.Keys.{HaveKeys}
 use Rattle.nj_keys.specs.Pages.{leads, left_at, BeginsAfter}
-use Rattle.nj_keys.specs.declared.pages.Page.{Page}
+use Rattle.nj_keys.specs.declared.pages.KeyPage.{KeyPage}
 use Rattle.nj_changes.specs.declared.ignored.PatternFault.{PatternFault}
 use Rattle.nj_changes.specs.declared.ignored.PatternFault.TheVariants as pattern
 use Rattle.nj_ask.specs.Answers.{relative_base}
@@ -29,12 +29,11 @@ abbrev pub SaysPattern : PatternFault → (line : List ℕ) → Type 0
 SaysPattern (pattern.Wrong text fault) line = line ≡ pattern_line text.now fault
 SaysPattern pattern.OutOfMemory line = ⊥
 
--- the lines of the commands that files need and that are left at a mark, up to a limit, with the keys of the given edges, and the mark
--- after them
+-- the keys of the commands that files need and that are left at a mark, up to a limit, by the given edges, and the mark after them
 pub record IsPageOf (files : GraphFiles) (edges : List EdgePaths) (entries : List ReadStatement) (additions folders : List (List ℕ))
-    (mark : List ℕ) (limit : Option ℕ) (page : Page) : Type 0 where
+    (mark : List ℕ) (limit : Option ℕ) (page : KeyPage) : Type 0 where
   pub valid : leads files mark ≡ true
-  pub lines : ListsKeys additions folders edges entries (written limit (left_at files mark)) page.lines.items
+  pub keys : HaveKeys additions folders edges entries (written limit (left_at files mark)) page.keys.items
   pub walk : WalkState
   pub begins : BeginsAfter files mark walk
   pub stops : StopsAt walk limit page.mark

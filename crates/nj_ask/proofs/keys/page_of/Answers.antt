@@ -5,7 +5,7 @@ use Rattle.nj_ask.proofs.keys.page_of.Goals as goal
 pub returns-in-Ok-clause-page : goal.returns-in-Ok-clause-page
 returns-in-Ok-clause-page c entries graph = record {
   valid = c.in-Ok.ensures.valid;
-  lines = c.in-Ok.ensures.lines entries graph;
+  keys = c.in-Ok.ensures.keys entries graph;
   walk = c.in-Ok.ensures.mark.0;
   begins = c.in-Ok.ensures.mark.1;
   stops = c.in-Ok.ensures.mark.2;
