@@ -23,7 +23,7 @@ _ninja_graph_options() {
         draw) echo '--affected --fold --limit --inputs' ;;
         why) echo '--validations --no-order-only' ;;
         audit) echo '--all --only --except --json --list' ;;
-        keys) echo '--base --with --with-file --take --resume' ;;
+        keys) echo '--base --with --with-file --take --resume --all' ;;
         stale) echo '--why --json --no-manifest' ;;
         times) echo '--top --json' ;;
         tests)
