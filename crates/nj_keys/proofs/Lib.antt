@@ -2,6 +2,7 @@ mod AdditionLaws
 mod BaseLaws
 mod BaseLemmas
 mod BaseRows
+mod CommandLemmas
 mod ContentLaws
 mod DiscoveryLaws
 mod EdgeLaws

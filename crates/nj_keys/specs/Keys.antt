@@ -1,13 +1,13 @@
 -- Keys of edges, made from their commands and files and from the keys of the edges that make their inputs.
 use Rattle.std.specs.Prelude.{◌≡◌, ◌≢◌, ◌↔◌, ◌<◌, ◌^◌, ◌⊎◌, ℕ, Option, Some, None, unwrap_or, if◌then◌else◌, List, [], ◌∷◌, ◌++◌}
-use Rattle.std.specs.Prelude.{map, length, take, All, Contains, codes, decimal}
+use Rattle.std.specs.Prelude.{map, length, not, take, All, Contains, codes, decimal}
 use Rattle.std.specs.List.{flat_map, AllByRecursion}
 use Rattle.sha2.specs.Sha256.{sha256}
 use Rattle.hex.specs.Hex.{encode_lower}
 use Rattle.nj_graph.specs.ReadingList.{ReadStatement}
 use Rattle.nj_graph.specs.declared.Kind.{Kind}
 use Rattle.nj_graph.specs.declared.Kind.TheVariants.{Explicit, Implicit, OrderOnly}
-use Rattle.nj_graph.specs.Edges.{EdgePaths, edge_at, inputs_of, outputs_of, first_output, maker_of}
+use Rattle.nj_graph.specs.Edges.{EdgePaths, edge_at, edges_from, inputs_of, outputs_of, first_output, maker_of}
 use Rattle.nj_graph.specs.EdgeList.{edges_read, paths_of_edges}
 use Rattle.nj_graph.specs.DepsLogs.{with_named}
 use Rattle.nj_graph.specs.Graph.{edges_of, late_text_of, GraphModel, IsGraphOf}
@@ -143,6 +143,12 @@ content_addition content = 0 ∷ sha256 content
 -- texts, and after them the contents of files, as additions
 abbrev pub additions_of : (texts contents : List (List ℕ)) → List (List ℕ)
 additions_of texts contents = texts ++ map content_addition contents
+
+-- ---- all commands
+
+-- the edges with a command, which are those that are not phony, by number
+abbrev pub all_commands : GraphModel → List ℕ
+all_commands g = edges_from 0 (λ e. not e.is_phony) (edges_of g)
 
 -- ---- lines
 

@@ -97,7 +97,7 @@ pub fn page_from(
 {
     let graph = targets.graph();
     let page = keys_from(alloc, bases, additions, counts, targets, mark, take)?;
-    let lines = lines_of(alloc, graph, &page.keys)?;
+    let lines = key_lines(alloc, graph, &page.keys)?;
     Ok(Page {
         lines,
         mark: page.mark,
@@ -137,8 +137,8 @@ fn next_keys(
     Ok(KeyPage { keys, mark })
 }
 
-// Returns the kept key of an edge.
-fn key_at(keys: &[Option<Key>], edge: EdgeNo) -> Key
+/// Returns the kept key of an edge.
+pub(crate) fn key_at(keys: &[Option<Key>], edge: EdgeNo) -> Key
     requires { IsKept keys.now edge.0 }
     ensures { result ≡ kept_key keys.now edge.0 }
 {
@@ -148,8 +148,13 @@ fn key_at(keys: &[Option<Key>], edge: EdgeNo) -> Key
     }
 }
 
-// Returns the lines of edges with the given keys.
-fn lines_of(alloc: Global, graph: &Graph, keys: &[EdgeKey]) -> Result<Vec<u8>, AllocError>
+/// Returns the lines of edges with the given keys. A line is the key in hexadecimal digits, a space and
+/// the first output of the edge.
+///
+/// # Errors
+///
+/// If an allocation failed.
+pub fn key_lines(alloc: Global, graph: &Graph, keys: &[EdgeKey]) -> Result<Vec<u8>, AllocError>
     requires { All (λ next. next.edge.0 < length (edges_of graph.now)) keys.now }
     ensures { IfOk result (λ lines. lines.items
         ≡ flat_map (λ next. line (edges_of graph.now) next.edge.0 next.key) keys.now) }

@@ -9,8 +9,8 @@ use Rattle.nj_keys.specs.declared.pages.EdgeKey.{EdgeKey}
 use Rattle.nj_keys.proofs.KeyLines.{lines-of}
 use Rattle.nj_keys.proofs.pages.page_from.Goals as goal
 
-pub lines_of-requires : goal.lines_of-requires
-lines_of-requires c =
+pub key_lines-requires : goal.key_lines-requires
+key_lines-requires c =
     subst (λ (h : GraphModel). All (λ (n : EdgeKey). n.edge.0 < length (edges_of h)) c.deref.result.now)
     (sym c.graph-graph.ensures)
     (subst (All (λ (n : EdgeKey). n.edge.0 < length (edges_of c.args.targets.now.graph)))

@@ -3,7 +3,7 @@ use Rattle.std.specs.List.{flat_map}
 use Rattle.nj_graph.specs.Graph.{edges_of}
 use Rattle.nj_keys.specs.Keys.{line}
 use Rattle.nj_keys.specs.declared.pages.EdgeKey.{EdgeKey}
-use Rattle.nj_keys.proofs.pages.lines_of.Given as goal
+use Rattle.nj_keys.proofs.pages.key_lines.Given as goal
 
 abbrev pub invariant-keys : goal.invariant-keys
 invariant-keys l =
