@@ -5,3 +5,6 @@ pub mod ReportLemmas
 pub mod SlowestLemmas
 pub mod TimesRows
 pub mod OrderedLemmas
+pub mod RuleLemmas
+pub mod TextLemmas
+pub mod RuleOrderLemmas

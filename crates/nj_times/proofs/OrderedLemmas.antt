@@ -1,5 +1,5 @@
 -- Sorted edges are determined by what they were before they were sorted.
-use Rattle.std.proofs.Common.{◌≡◌, ◌⊎◌, ◌∙◌, ℕ, zero, suc, ◌<◌, ◌≤◌, ◌+◌, Bool, true, false, true≢false, cond}
+use Rattle.std.proofs.Common.{◌≡◌, ◌⊎◌, ◌∙◌, ℕ, suc, ◌<◌, ◌≤◌, ◌+◌, Bool, true, false, true≢false, cond}
 use Rattle.std.proofs.Common.{inl, inr}
 use Rattle.std.proofs.Common.{Option, List, [], ◌∷◌, get_or, map, take, refl, sym, ap, arith, subst}
 use Rattle.std.specs.Prelude.{⊤, nat_eq, nat_lt, ◌==◌}
@@ -13,7 +13,7 @@ use Rattle.std.proofs.lemmas.List.Sums.{sum_by-cons}
 use Rattle.std.proofs.lemmas.List.Sorted.{sum_by-IsPermutation}
 use Rattle.nj_edges.specs.declared.edges.EdgeNo.{EdgeNo}
 use Rattle.nj_times.specs.Laws.{OneListIsSlowest}
-use Rattle.nj_times.specs.Slowest.{AreSlowest, slowest_first}
+use Rattle.nj_times.specs.Slowest.{slowest_first}
 use Rattle.nj_times.specs.Times.{time_at}
 
 -- ---- how often a number is in a list

@@ -5,6 +5,7 @@ use Rattle.nj_edges.specs.Edges.{EdgePaths}
 use Rattle.nj_edges.specs.Needs.{makers_of_inputs}
 use Rattle.nj_build_log.specs.Logs.{LineModel}
 use Rattle.nj_times.specs.Times.{duration_of, durations_of, sum_of, unknown_of}
+use Rattle.nj_times.specs.Rules.{edges_with, first_edges, rule_sums, rules_of, slowest_in}
 use Rattle.nj_times.specs.Inside.CostsHeld.{costliest, greatest}
 
 abbrev edge_of : (output : List ℕ) → (inputs order_only : List (List ℕ)) → (is_phony : Bool) → EdgePaths
@@ -89,3 +90,29 @@ nothing_before = refl
 
 greatest_before : greatest (20 ∷ 30 ∷ 20 ∷ 30 ∷ []) (makers_of_inputs edges 3) ≡ 30
 greatest_before = refl
+
+-- ---- the rules of the same edges: `x` has one of its own
+
+abbrev rules : List (List ℕ)
+rules = codes "cc" ∷ codes "cc" ∷ codes "phony" ∷ codes "ld" ∷ []
+
+rules_once : rules_of rules (0 ∷ 1 ∷ 3 ∷ []) ≡ codes "cc" ∷ codes "ld" ∷ []
+rules_once = refl
+
+of_one_rule : edges_with rules (0 ∷ 1 ∷ 3 ∷ []) (codes "cc") ≡ 0 ∷ 1 ∷ []
+of_one_rule = refl
+
+first_of_each : first_edges rules (0 ∷ 1 ∷ 3 ∷ []) ≡ 0 ∷ 3 ∷ []
+first_of_each = refl
+
+-- an unknown duration counts as 0
+sum_of_each : rule_sums rules (durations_of lines edges) (0 ∷ 1 ∷ 3 ∷ [])
+    ≡ Some 60 ∷ Some 60 ∷ Some 0 ∷ Some 0 ∷ []
+sum_of_each = refl
+
+-- the first of two that took as long
+slowest_of_two : slowest_in (durations_of lines edges) (0 ∷ 1 ∷ []) ≡ 0
+slowest_of_two = refl
+
+slowest_is_later : slowest_in (Some 20 ∷ None ∷ Some 30 ∷ []) (0 ∷ 1 ∷ 2 ∷ []) ≡ 2
+slowest_is_later = refl

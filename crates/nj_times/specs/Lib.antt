@@ -4,6 +4,7 @@ pub mod Slowest
 pub mod Critical
 pub mod Laws
 pub mod Reports
+pub mod Rules
 -- how the code does that
 pub mod Inside
 -- what the contracts cite

@@ -1,5 +1,5 @@
 -- What is written of where the time of a build went.
-use Rattle.std.specs.Prelude.{◌≡◌, ℕ, ◌/◌, ◌%◌, Bool, true, false, not, if◌then◌else◌, Option, Some, None, unwrap_or, List, [], ◌∷◌, ◌++◌, length, reverse, codes}
+use Rattle.std.specs.Prelude.{◌≡◌, ℕ, ◌/◌, ◌%◌, Bool, true, false, not, Option, Some, None, unwrap_or, List, [], ◌++◌, length, reverse, codes}
 use Rattle.std.specs.Fmt.{decimal}
 use Rattle.std.specs.List.{filter, flat_map}
 use Rattle.std.specs.List.Sorted.{IsStrictlyIncreasing}
@@ -58,11 +58,15 @@ abbrev pub AreShown : (durations : List (Option ℕ)) → (top : Option ℕ) →
 AreShown durations None commands path shown = shown ≡ reverse path
 AreShown durations (Some count) commands path shown = AreSlowest durations commands count shown
 
+-- the first line, by the commands and the critical path
+abbrev pub summary_of : (durations : List (Option ℕ)) → (is_json : Bool) → (commands path : List ℕ) → List ℕ
+summary_of durations is_json commands path =
+    summary is_json (length commands) (unknown_of durations commands) (sum_of durations commands) (sum_of durations path)
+
 -- the first line, and a line for each edge that is shown
 abbrev pub report_text : List EdgePaths → (durations : List (Option ℕ)) → (is_json : Bool) → (commands path shown : List ℕ) → List ℕ
 report_text edges durations is_json commands path shown =
-    summary is_json (length commands) (unknown_of durations commands) (sum_of durations commands) (sum_of durations path)
-    ++ flat_map (edge_line edges durations is_json) shown
+    summary_of durations is_json commands path ++ flat_map (edge_line edges durations is_json) shown
 
 -- the report on the edges that files need, in the order of the manifest, by the lines of a build log
 pub record IsReport (edges : List EdgePaths) (lines : List LineModel) (files : List (List ℕ)) (top : Option ℕ) (is_json : Bool)

@@ -1,7 +1,7 @@
 //! What is written of where the time of a build went.
 
 ghost use Rattle.std.specs.Prelude.{◌≡◌, ◌++◌, ◌<◌, ℕ, All, IfOk, OnOk, codes, false, length, map, reverse, true};
-ghost use Rattle.nj_times.specs.Cited.{AreNeededBy, AreShown, IsReport, IsStrictlyIncreasing, commands_in, compact_text, decimal, duration_text, duration_value, edge_line, flat_map, output_of, path_at, report_text, seconds, string, summary, utf8_lossy};
+ghost use Rattle.nj_times.specs.Cited.{AreNeededBy, AreShown, IsReport, IsStrictlyIncreasing, commands_in, compact_text, decimal, duration_text, duration_value, edge_line, flat_map, output_of, path_at, report_text, seconds, string, summary, summary_of, utf8_lossy};
 
 use crate::edge_times::{duration_at, durations, first_output, sum_of, unknown_of};
 use crate::path::critical_path;
@@ -47,8 +47,8 @@ pub fn report(
     written(alloc, graph, &durations, is_json, &commands, &path, &shown)
 }
 
-// The edges that files need, in the order of the manifest.
-fn needed_edges(
+/// The edges that files need, in the order of the manifest.
+pub(crate) fn needed_edges(
     alloc: Global,
     graph: &EdgeGraph,
     files: &[FileNo],
@@ -81,19 +81,13 @@ fn written(
         (map (λ edge. edge.0) commands.now) (map (λ edge. edge.0) path.now)
         (map (λ edge. edge.0) shown.now)) }
 {
-    let sums = Sums {
-        commands: commands.len(),
-        unknown: unknown_of(durations, commands),
-        sum: sum_of(durations, commands),
-        critical: sum_of(durations, path),
-    };
-    let mut text = summary(alloc, is_json, sums)?;
+    let mut text = summary_of(alloc, durations, is_json, commands, path)?;
     push_edges(&mut text, graph, durations, is_json, shown)?;
     Ok(text)
 }
 
-// Of the given edges, those with a command.
-fn commands_in(
+/// Of the given edges, those with a command.
+pub(crate) fn commands_in(
     alloc: Global,
     graph: &EdgeGraph,
     edges: &[EdgeNo],
@@ -148,6 +142,26 @@ fn reversed(alloc: Global, edges: &[EdgeNo]) -> Result<Vec<EdgeNo>, AllocError>
 
 // ---- texts
 
+/// The first line, by the commands and the critical path.
+pub(crate) fn summary_of(
+    alloc: Global,
+    durations: &[Option<u64>],
+    is_json: bool,
+    commands: &[EdgeNo],
+    path: &[EdgeNo],
+) -> Result<Vec<u8>, AllocError>
+    ensures { IfOk result (λ text. text.items ≡ summary_of durations.now is_json
+        (map (λ edge. edge.0) commands.now) (map (λ edge. edge.0) path.now)) }
+{
+    let sums = Sums {
+        commands: commands.len(),
+        unknown: unknown_of(durations, commands),
+        sum: sum_of(durations, commands),
+        critical: sum_of(durations, path),
+    };
+    summary(alloc, is_json, sums)
+}
+
 // The first line.
 fn summary(alloc: Global, is_json: bool, sums: Sums) -> Result<Vec<u8>, AllocError>
     ensures { IfOk result (λ text. text.items
@@ -197,8 +211,8 @@ fn summary_words(alloc: Global, sums: Sums) -> Result<Vec<u8>, AllocError>
     Ok(text)
 }
 
-// Appends a number after a text.
-fn push_number(text: &mut Vec<u8>, before: &[u8], number: u128) -> Result<(), AllocError>
+/// Appends a number after a text.
+pub(crate) fn push_number(text: &mut Vec<u8>, before: &[u8], number: u128) -> Result<(), AllocError>
     ensures { OnOk result (text.new.items ≡ text.old.items ++ (before.now ++ decimal number)) }
 {
     text.extend_from_slice(before)?;
@@ -206,8 +220,12 @@ fn push_number(text: &mut Vec<u8>, before: &[u8], number: u128) -> Result<(), Al
     text.extend_from_slice(format!(in alloc; "{number}")?.as_bytes())
 }
 
-// Appends milliseconds as seconds, after a text.
-fn push_seconds(text: &mut Vec<u8>, before: &[u8], milliseconds: u128) -> Result<(), AllocError>
+/// Appends milliseconds as seconds, after a text.
+pub(crate) fn push_seconds(
+    text: &mut Vec<u8>,
+    before: &[u8],
+    milliseconds: u128,
+) -> Result<(), AllocError>
     ensures { OnOk result (text.new.items
         ≡ text.old.items ++ (before.now ++ seconds milliseconds)) }
 {
@@ -236,8 +254,8 @@ fn push_edges(
     Ok(())
 }
 
-// Appends the line of an edge.
-fn push_edge(
+/// Appends the line of an edge.
+pub(crate) fn push_edge(
     text: &mut Vec<u8>,
     graph: &EdgeGraph,
     durations: &[Option<u64>],
@@ -257,8 +275,8 @@ fn push_edge(
     }
 }
 
-// The first output of an edge; empty if it has none.
-fn output_of(graph: &EdgeGraph, edge: EdgeNo) -> &[u8]
+/// The first output of an edge; empty if it has none.
+pub(crate) fn output_of(graph: &EdgeGraph, edge: EdgeNo) -> &[u8]
     requires { edge.0 < length graph.now.edges }
     ensures { result.now ≡ output_of graph.now.edges edge.0 }
 {
@@ -305,8 +323,8 @@ fn push_object(text: &mut Vec<u8>, duration: Option<u64>, output: &[u8]) -> Resu
     text.extend_from_slice(b"}\n")
 }
 
-// Appends a duration in JSON.
-fn push_value(text: &mut Vec<u8>, duration: Option<u64>) -> Result<(), AllocError>
+/// Appends a duration in JSON.
+pub(crate) fn push_value(text: &mut Vec<u8>, duration: Option<u64>) -> Result<(), AllocError>
     ensures { OnOk result (text.new.items ≡ text.old.items ++ duration_value duration) }
 {
     match duration {
@@ -315,8 +333,8 @@ fn push_value(text: &mut Vec<u8>, duration: Option<u64>) -> Result<(), AllocErro
     }
 }
 
-// Appends a text as a string in JSON, with U+FFFD for invalid UTF-8.
-fn push_string(text: &mut Vec<u8>, output: &[u8]) -> Result<(), AllocError>
+/// Appends a text as a string in JSON, with U+FFFD for invalid UTF-8.
+pub(crate) fn push_string(text: &mut Vec<u8>, output: &[u8]) -> Result<(), AllocError>
     ensures { OnOk result (text.new.items
         ≡ text.old.items ++ compact_text (string (utf8_lossy output.now))) }
 {

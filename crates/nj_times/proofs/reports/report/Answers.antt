@@ -1,4 +1,4 @@
-use Rattle.std.proofs.Common.{◌≡◌, ◌∙◌, ℕ, Option, List, ap, map, subst, sym}
+use Rattle.std.proofs.Common.{◌∙◌, ℕ, Option, List, ap, map, subst, sym}
 use Rattle.std.proofs.lemmas.Result.{IfOk-weaker}
 use Rattle.nj_names.specs.Files.{path_at}
 use Rattle.nj_edges.specs.declared.edges.EdgeNo.{EdgeNo}
