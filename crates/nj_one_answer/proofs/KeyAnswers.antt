@@ -2,6 +2,8 @@
 use Rattle.std.proofs.Common.{◌≡◌, ◌≢◌, ◌⊎◌, inl, inr, ℕ, Bool, true, false, Option, Some, None, Result, Ok}
 use Rattle.std.proofs.Common.{Err, IfOk, IfErr}
 use Rattle.std.proofs.Common.{List, [], refl, sym, ap, subst, ◌∙◌}
+use Rattle.std.specs.Global.{Vec}
+use Rattle.std.specs.declared.alloc.AllocError.{AllocError}
 use Rattle.nj_cycles.specs.Cycles.{IsAcyclic}
 use Rattle.nj_edges.specs.EdgeGraphs.{EdgeGraph}
 use Rattle.nj_edges.specs.Edges.{EdgePaths}
@@ -18,9 +20,10 @@ use Rattle.nj_graph.specs.Graph.{IsGraphOf}
 use Rattle.nj_graph.specs.Handles.{GraphFiles}
 use Rattle.nj_keys.specs.Keys.{HaveKeys, LinesAreUnique, ListsKeys, ListsOfKeysAreUnique}
 use Rattle.nj_keys.specs.Pages.{BeginsAfter, leads, left_at, makers_of_files}
+use Rattle.nj_keys.specs.declared.pages.EdgeKey.{EdgeKey}
 use Rattle.nj_keys.specs.declared.pages.KeyPage.{KeyPage}
 use Rattle.nj_keys.specs.declared.pages.Page.{Page}
-use Rattle.nj_agreement.specs.Agreement.{AgreeUpTo}
+use Rattle.nj_agreement.specs.Agreement.{AgreeIfOk, AgreeUpTo}
 use Rattle.nj_one_answer.specs.KeyPages.{SameKeyPage, SamePage}
 use Rattle.nj_agreement.specs.Memory.{IsMarkOutOfMemory}
 use Rattle.nj_agreement.proofs.MarkAnswers.{marks-after-agree}
@@ -175,3 +178,14 @@ key_pages-agree one additions folders edges files entries graph begun take (Err 
     (inr (range, bad)) _ _ _
     (inr (range2, bad2)) _ _ =
     inl (range ∙ sym range2)
+
+pub keys-agree : ListsOfKeysAreUnique → (additions folders : List (List ℕ)) (edges : List EdgePaths)
+    (entries : List ReadStatement) (numbers : List ℕ) (a b : Result (Vec EdgeKey) AllocError)
+    → IfOk a (λ keys. HaveKeys additions folders edges entries numbers keys.items)
+    → IfOk b (λ keys. HaveKeys additions folders edges entries numbers keys.items)
+    → AgreeIfOk (λ (one other : Vec EdgeKey). one.items ≡ other.items) a b
+keys-agree one additions folders edges entries numbers (Ok a) (Ok b) has also =
+    one additions folders edges entries numbers a.items b.items has also
+keys-agree one additions folders edges entries numbers (Ok a) (Err f) has also = tt
+keys-agree one additions folders edges entries numbers (Err e) (Ok b) has also = tt
+keys-agree one additions folders edges entries numbers (Err e) (Err f) has also = tt

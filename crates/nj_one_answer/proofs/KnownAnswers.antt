@@ -1,7 +1,8 @@
 -- Answers about two graphs with the same values.
 use Rattle.std.proofs.Common.{◌≡◌, ◌⊎◌, inl, inr, ℕ, Bool, true, false, cond, Option, Some, None, List, []}
 use Rattle.std.proofs.Common.{◌∷◌}
-use Rattle.std.proofs.Common.{◌++◌, map, refl, sym, ap, subst, ◌∙◌}
+use Rattle.std.proofs.Common.{◌++◌, map, slice_get, refl, sym, ap, subst, ◌∙◌}
+use Rattle.std.proofs.lemmas.Option.{same_Some}
 use Rattle.std.specs.Prelude.{find, not, unwrap_or}
 use Rattle.nj_text.specs.Calls.{is_empty}
 use Rattle.nj_text.specs.Paths.{clean_path_of}
@@ -13,7 +14,8 @@ use Rattle.nj_graph.specs.declared.undeclared.UndeclaredInput.{UndeclaredInput}
 use Rattle.nj_graph.specs.Graph.{GraphModel, edges_of, files_of}
 use Rattle.nj_graph.specs.Handles.{GraphEdge, files_in}
 use Rattle.nj_needs.specs.PageWalks.{written}
-use Rattle.nj_keys.specs.Keys.{ListsKeys, edges_stated}
+use Rattle.nj_keys.specs.Keys.{HaveKeys, all_commands, edges_stated}
+use Rattle.nj_keys.specs.declared.pages.EdgeKey.{EdgeKey}
 use Rattle.nj_keys.specs.Pages.{left_at}
 use Rattle.nj_audit.specs.Audits.{IsAudit}
 use Rattle.nj_tests.specs.Tests.{TestModel}
@@ -33,15 +35,18 @@ use Rattle.nj_ask.specs.declared.discovered.DiscoveredGraph.{DiscoveredGraph}
 use Rattle.nj_ask.specs.declared.doubts.EdgeFault.{EdgeFault}
 use Rattle.nj_ask.specs.declared.status.Status.TheVariants.{Fault}
 use Rattle.nj_ask.specs.Affected.{Asked}
-use Rattle.nj_ask.specs.Answers.{AnswersAffected, AnswersDraw, AnswersJson, AnswersKeys, AnswersWhy}
-use Rattle.nj_ask.specs.Answers.{HasDepfileFault}
-use Rattle.nj_ask.specs.Answers.{IsClear, asked_mark, files_at, kinds_asked}
+use Rattle.nj_ask.specs.Answers.{AnswersAffected, AnswersAllKeys, AnswersDraw, AnswersJson, AnswersKeys}
+use Rattle.nj_ask.specs.Answers.{AnswersTargetKeys, AnswersWhy, HasDepfileFault, HaveKeysAsked, IsClear}
+use Rattle.nj_ask.specs.Answers.{asked_mark, files_at, key_lines, kinds_asked}
+use Rattle.nj_ask.specs.Answers.AnswersAllKeys.{bad_depfile, every}
 use Rattle.nj_ask.specs.Answers.AnswersAffected.{no_path, no_rule, reported}
 use Rattle.nj_ask.specs.Answers.AnswersDraw.{no_target as undrawn_target, no_depfile as undrawn_depfile}
 use Rattle.nj_ask.specs.Answers.AnswersDraw.{drawing}
 use Rattle.nj_ask.specs.Answers.AnswersJson.{all, not_text}
 use Rattle.nj_ask.specs.OptionFiles.{NamedFiles}
-use Rattle.nj_ask.specs.Answers.AnswersKeys.{no_target, no_depfile, out_of_range, page}
+use Rattle.nj_ask.specs.Answers.AnswersKeys.{of_all, of_targets}
+use Rattle.nj_ask.specs.Answers.AnswersTargetKeys.{no_target as no_keyed_target}
+use Rattle.nj_ask.specs.Answers.AnswersTargetKeys.{no_depfile as no_keyed_depfile, out_of_range, page}
 use Rattle.nj_ask.specs.Answers.AnswersWhy.{no_start, no_end, no_depfile as unlinked_depfile, chain, no_chain}
 use Rattle.nj_ask.specs.Asks.{Answers}
 use Rattle.nj_ask.specs.Audits.{AnswersAudit, lookup_lines}
@@ -125,6 +130,17 @@ module _ (test : ℕ → Bool) where
       by true false same text later is = absurd cc
       by false true same text later is = absurd cc
       by false false same text later is = later is
+
+-- the first fault of a list, by its text
+head-moves : (one other : List EdgeFault) → map text_of one ≡ map text_of other → (fault : EdgeFault)
+    → slice_get one 0 ≡ Some fault
+    → (more : EdgeFault) × (slice_get other 0 ≡ Some more) × (text_of fault ≡ text_of more)
+head-moves [] other texts fault is = absurd (let no : None ≡ Some fault = is in cc)
+head-moves (f ∷ one) [] texts fault is = absurd cc
+head-moves (f ∷ one) (g ∷ other) texts fault is =
+    let it : f ≡ fault = same_Some f fault is in
+    let text : text_of f ≡ text_of g = cc in
+    (g, refl, sym (ap text_of it) ∙ text)
 
 -- ---- a graph in which what lies in memory is another's
 
@@ -261,25 +277,55 @@ module _ (one other : DiscoveredGraph) (same : SameKnown one other) where
       subst (λ (c : List ℕ). AnswersWhy mid entries options [] (answered true c)) (caveats entries)
       (no_chain from to (clear _ fine) none)
 
+  keys-move : (entries : List ReadStatement) (options : KeysModel) (contents : List (List ℕ))
+      (numbers : List ℕ) (ks : List EdgeKey) → HaveKeysAsked one entries options contents numbers ks
+      → HaveKeysAsked mid entries options contents numbers ks
+  keys-move entries options contents numbers ks has =
+      subst (λ (ds : List EdgeDiscovery). HaveKeys (options.additions ++ contents)
+      (map clean_path_of options.bases)
+      (edges_stated (map (λ (d : EdgeDiscovery). d.stated_inputs) ds) (edges_of one.graph)) entries
+      numbers ks) same.discoveries has
+
+  target-keys-moves : (entries : List ReadStatement) (options : KeysModel) (contents : List (List ℕ))
+      (mark output : List ℕ) (ending : Ending)
+      → AnswersTargetKeys one entries options contents mark output ending
+      → AnswersTargetKeys mid entries options contents mark output ending
+  target-keys-moves entries options contents mark _ _ (no_keyed_target bad) = no_keyed_target bad
+  target-keys-moves entries options contents mark _ _
+      (no_keyed_depfile {paths = ps} {line = line} at has) =
+      no_keyed_depfile at (faulty ps line has)
+  target-keys-moves entries options contents mark _ _ (out_of_range {paths = ps} at fine bad) =
+      out_of_range at (clear ps fine) bad
+  target-keys-moves entries options contents mark _ _
+      (page {paths = ps} {keys = ks} rest at fine valid has begins stops) =
+      subst (λ (c : List ℕ). AnswersTargetKeys mid entries options contents mark (key_lines one.graph ks)
+      (answered false (mark_line rest ++ c)))
+      (caveats entries) (page rest at (clear ps fine) valid
+      (keys-move entries options contents (written options.take (left_at (files_at one.graph ps) mark)) ks
+      has) begins stops)
+
+  all-keys-moves : (entries : List ReadStatement) (options : KeysModel) (contents : List (List ℕ))
+      (output : List ℕ) (ending : Ending)
+      → AnswersAllKeys one entries options contents output ending
+      → AnswersAllKeys mid entries options contents output ending
+  all-keys-moves entries options contents _ _ (bad_depfile {fault = fault} is) =
+      let m = head-moves one.faults.items other.faults.items same.texts fault is in
+      subst (λ (t : List ℕ). AnswersAllKeys mid entries options contents [] (refused (program_line t) Fault))
+      (sym m.2) (bad_depfile m.1)
+  all-keys-moves entries options contents _ _ (every {keys = ks} none has) =
+      subst (λ (c : List ℕ). AnswersAllKeys mid entries options contents (key_lines one.graph ks)
+      (answered false c)) (caveats entries)
+      (every (none-left other.faults.items (sym (ap (map number_of) none) ∙ same.faulty))
+      (keys-move entries options contents (all_commands one.graph) ks has))
+
   keys-moves : (entries : List ReadStatement) (options : KeysModel) (contents : List (List ℕ))
       (mark output : List ℕ) (ending : Ending)
       → AnswersKeys one entries options contents mark output ending
       → AnswersKeys mid entries options contents mark output ending
-  keys-moves entries options contents mark _ _ (no_target bad) = no_target bad
-  keys-moves entries options contents mark _ _ (no_depfile {paths = ps} {line = line} at has) =
-      no_depfile at (faulty ps line has)
-  keys-moves entries options contents mark _ _ (out_of_range {paths = ps} at fine bad) =
-      out_of_range at (clear ps fine) bad
-  keys-moves entries options contents mark _ _
-      (page {paths = ps} {lines = t} rest at fine valid lists begins stops) =
-      subst (λ (c : List ℕ). AnswersKeys mid entries options contents mark t
-      (answered false (mark_line rest ++ c)))
-      (caveats entries) (page rest at (clear ps fine) valid
-      (subst (λ (ds : List EdgeDiscovery). ListsKeys (options.additions ++ contents)
-      (map clean_path_of options.bases)
-      (edges_stated (map (λ (d : EdgeDiscovery). d.stated_inputs) ds) (edges_of one.graph)) entries
-      (written options.take (left_at (files_at one.graph ps) mark)) t) same.discoveries lists)
-      begins stops)
+  keys-moves entries options contents mark output ending (of_targets is answers) =
+      of_targets is (target-keys-moves entries options contents mark output ending answers)
+  keys-moves entries options contents mark output ending (of_all is answers) =
+      of_all is (all-keys-moves entries options contents output ending answers)
 
   json-moves : (entries : List ReadStatement) (output : List ℕ) (ending : Ending)
       → AnswersJson one entries output ending → AnswersJson mid entries output ending

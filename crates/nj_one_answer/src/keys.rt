@@ -1,10 +1,10 @@
 //! The calls of `nj_keys`.
 
-ghost use Rattle.std.specs.Prelude.{◌≡◌, OnErr, OnOk};
-ghost use Rattle.nj_one_answer.specs.Cited.{AgreeIfOk, AgreeUpTo, IsMarkOutOfMemory, OfStatements, SameKeyPage, SamePage};
+ghost use Rattle.std.specs.Prelude.{◌≡◌, ◌<◌, All, OnErr, OnOk, length};
+ghost use Rattle.nj_one_answer.specs.Cited.{AgreeIfOk, AgreeUpTo, IsMarkOutOfMemory, OfStatements, SameKeyPage, SamePage, edges_of};
 
-use nj_graph::FileList;
-use nj_keys::{Bases, KeyPage, Page};
+use nj_graph::{FileList, Graph};
+use nj_keys::{Bases, EdgeKey, KeyPage, Page};
 use nj_needs::{Mark, MarkFault};
 use std::alloc::{AllocError, Global};
 
@@ -89,5 +89,41 @@ pub fn keys_from(
     (
         nj_keys::keys_from(alloc, bases, additions, counts, targets, mark, take),
         nj_keys::keys_from(alloc, bases, additions, counts, targets, mark, take),
+    )
+}
+
+/// For a graph of statements. Free: whether memory lacks.
+pub fn all_keys(
+    alloc: Global,
+    graph: &Graph,
+    bases: &Bases,
+    additions: &[&[u8]],
+    counts: &[usize],
+) -> (
+    Result<Vec<EdgeKey>, AllocError>,
+    Result<Vec<EdgeKey>, AllocError>,
+)
+    ensures { OfStatements graph.now (λ entries.
+        AgreeIfOk (λ a b. a.items ≡ b.items) result.0 result.1) }
+{
+    nj_keys::lines_law();
+    (
+        nj_keys::all_keys(alloc, graph, bases, additions, counts),
+        nj_keys::all_keys(alloc, graph, bases, additions, counts),
+    )
+}
+
+/// Free: whether memory lacks.
+pub fn key_lines(
+    alloc: Global,
+    graph: &Graph,
+    keys: &[EdgeKey],
+) -> (Result<Vec<u8>, AllocError>, Result<Vec<u8>, AllocError>)
+    requires { All (λ next. next.edge.0 < length (edges_of graph.now)) keys.now }
+    ensures { AgreeIfOk (λ a b. a.items ≡ b.items) result.0 result.1 }
+{
+    (
+        nj_keys::key_lines(alloc, graph, keys),
+        nj_keys::key_lines(alloc, graph, keys),
     )
 }

@@ -47,7 +47,9 @@ pub use graph::targets::{
     graph_pick_named, graph_pick_targets, graph_target, graph_targets, pick_target,
 };
 pub use graph::undeclared::undeclared_inputs;
-pub use keys::{bases_add, bases_append_mapped, content_addition, keys_from, page_from};
+pub use keys::{
+    all_keys, bases_add, bases_append_mapped, content_addition, key_lines, keys_from, page_from,
+};
 pub use needs::{
     grow_targets, mark_from_numbers, mark_read, mark_to_text, needs_mark, needs_mark_after_page,
     needs_new, needs_next, needs_next_on_page, needs_resume,
