@@ -1,16 +1,15 @@
 -- Files that are found one by one.
-use Rattle.std.proofs.Common.{◌≡◌, ℕ, Bool, true, false, cond, Option, Some, None, List, [], ◌∷◌, ◌++◌, map}
-use Rattle.std.proofs.Common.{refl}
+use Rattle.std.proofs.Common.{◌≡◌, ℕ, Bool, true, false, cond, Some, None, List, [], ◌∷◌, ◌++◌, map}
 use Rattle.std.proofs.Common.{sym, ap, ◌∙◌}
 use Rattle.std.proofs.Common.{append-nil, append_assoc}
 use Rattle.std.specs.Prelude.{option_and_then}
-use Rattle.std.specs.List.{cons_option, filter_map}
+use Rattle.std.specs.List.{cons_option, filter_map, list_any}
 use Rattle.std.proofs.lemmas.List.Elements.{filter_map-append}
 use Rattle.nj_graph.specs.Graph.{GraphModel, files_of}
 use Rattle.nj_graph.specs.Handles.{GraphFile, file_in}
 use Rattle.nj_audit.specs.Audit.{path_of}
-use Rattle.nj_audit.specs.NamedPaths.{SeenName, after_letter, after_sign, number_at, path_seen, seen_from}
-use Rattle.nj_audit.specs.NamedPaths.{word_names}
+use Rattle.nj_audit.specs.NamedPaths.{SeenName, number_at, path_seen, seen_from}
+use Rattle.nj_audit.specs.WordNames.{after_sign, is_sign, names_in_parts, names_in_text}
 use Rattle.nj_audit.specs.ReadWords.{names_in_word}
 use Rattle.nj_audit.specs.UnorderedFiles.{file_if_meant, file_named, is_meant}
 use Rattle.nj_audit.specs.Inside.FilesNamed.{AddsFiles}
@@ -19,26 +18,25 @@ use Rattle.nj_audit.proofs.ListLemmas.{map-append}
 
 -- ---- the names in a word
 
-cons-is : {A : Type 0} (o : Option A) (xs : List A) → cons_option o xs ≡ cons_option o [] ++ xs
-cons-is None xs = refl
-cons-is (Some x) xs = refl
+pub no-signs : (folder word : List ℕ) → list_any is_sign word ≡ false
+    → names_in_word folder word ≡ map (seen_from folder) (names_in_text word)
+no-signs folder word none =
+    ap (λ b. map (seen_from folder) (names_in_text word
+    ++ cond b (cons_option (after_sign word) [] ++ names_in_parts word) [])) none
+    ∙ ap (map (seen_from folder)) (append-nil (names_in_text word))
 
-word-names-are : (word : List ℕ)
-    → word_names word ≡ ((word ∷ []) ++ cons_option (after_sign word) [])
-    ++ cons_option (after_letter word) []
-word-names-are word =
-    ap (λ names. word ∷ names) (cons-is (after_sign word) (cons_option (after_letter word) []))
-
-pub names-are : (folder word : List ℕ)
+pub with-signs : (folder word : List ℕ) → list_any is_sign word ≡ true
     → names_in_word folder word
-    ≡ (map (seen_from folder) (word ∷ []) ++ map (seen_from folder) (cons_option (after_sign word) []))
-    ++ map (seen_from folder) (cons_option (after_letter word) [])
-names-are folder word =
-    ap (map (seen_from folder)) (word-names-are word)
-    ∙ map-append (seen_from folder) ((word ∷ []) ++ cons_option (after_sign word) [])
-    (cons_option (after_letter word) [])
-    ∙ ap (λ names. names ++ map (seen_from folder) (cons_option (after_letter word) []))
-    (map-append (seen_from folder) (word ∷ []) (cons_option (after_sign word) []))
+    ≡ map (seen_from folder) (names_in_text word)
+    ++ (map (seen_from folder) (cons_option (after_sign word) [])
+    ++ map (seen_from folder) (names_in_parts word))
+with-signs folder word some =
+    ap (λ b. map (seen_from folder) (names_in_text word
+    ++ cond b (cons_option (after_sign word) [] ++ names_in_parts word) [])) some
+    ∙ map-append (seen_from folder) (names_in_text word)
+    (cons_option (after_sign word) [] ++ names_in_parts word)
+    ∙ ap (λ names. map (seen_from folder) (names_in_text word) ++ names)
+    (map-append (seen_from folder) (cons_option (after_sign word) []) (names_in_parts word))
 
 -- ---- files
 

@@ -14,6 +14,7 @@ mod KindRows
 mod PathLemmas
 pub mod RoleLemmas
 pub mod PlainLemmas
+pub mod PartLemmas
 pub mod ShellLemmas
 mod ShellRows
 mod ReadRows

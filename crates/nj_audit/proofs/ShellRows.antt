@@ -1,8 +1,9 @@
 -- Words and paths of small commands, worked out on the definitions.
 use Rattle.std.proofs.Common.{◌≡◌, true, false, Some, [], ◌∷◌, ◌++◌, codes, refl}
 use Rattle.nj_text.specs.Paths.{clean_path_of, without_leftmost_pair}
-use Rattle.nj_audit.specs.NamedPaths.{is_bare, path_named, word_names}
+use Rattle.nj_audit.specs.NamedPaths.{path_named}
 use Rattle.nj_audit.specs.ShellWords.{read_text, tokens_after, tokens_of, words_of}
+use Rattle.nj_audit.specs.WordNames.{is_bare, word_names}
 
 blanks : words_of (codes "  cc -c  a.c  -o a.o ")
     ≡ codes "cc" ∷ codes "-c" ∷ codes "a.c" ∷ codes "-o" ∷ codes "a.o" ∷ []
@@ -33,11 +34,24 @@ long_line = refl
 -- ---- paths
 
 of_option : word_names (codes "--out=./a//b")
-    ≡ codes "--out=./a//b" ∷ codes "./a//b" ∷ codes "out=./a//b" ∷ []
+    ≡ codes "--out=./a//b" ∷ codes "out=./a//b" ∷ codes "./a//b" ∷ codes "--out" ∷ codes "out"
+    ∷ codes "./a//b" ∷ []
 of_option = refl
 
 of_letter : word_names (codes "-Lb") ≡ codes "-Lb" ∷ codes "b" ∷ []
 of_letter = refl
+
+of_response : word_names (codes "@a.rsp") ≡ codes "@a.rsp" ∷ codes "a.rsp" ∷ []
+of_response = refl
+
+of_linker : word_names (codes "-Wl,-T,a.ld")
+    ≡ codes "-Wl,-T,a.ld" ∷ codes "l,-T,a.ld" ∷ codes "-Wl" ∷ codes "l" ∷ codes "-T" ∷ []
+    ∷ codes "a.ld" ∷ []
+of_linker = refl
+
+of_list : word_names (codes "a.h:b.h;c.h")
+    ≡ codes "a.h:b.h;c.h" ∷ codes "a.h" ∷ codes "b.h" ∷ codes "c.h" ∷ []
+of_list = refl
 
 -- names that may be words of another meaning
 bare : is_bare (codes "clean") ≡ true

@@ -1,6 +1,6 @@
 -- What the contracts of this crate cite: each name comes from the module in its line.
 pub use Rattle.nj_graph.specs.Graph.{OfStatements, IsGraphOf, edges_of, files_of}
-pub use Rattle.std.specs.List.{flat_map, cons_option, position_or_len, AllZip}
+pub use Rattle.std.specs.List.{flat_map, cons_option, position_or_len, AllZip, list_any, slice_split}
 pub use Rattle.nj_audit.specs.LoggedInputs.{inputs_in, AreUndeclaredFindings, IsLoggedAlone, IsNamedUnordered, input_in}
 pub use Rattle.nj_audit.specs.Audits.{IsAudit}
 pub use Rattle.nj_audit.specs.Inside.ByKind.{asked_of, findings_of}
@@ -28,8 +28,8 @@ pub use Rattle.nj_audit.specs.Inside.RolesHeld.{HasRoles, HasNumbers}
 pub use Rattle.nj_audit.specs.ReadWords.{after_token, after_word, command_names, names_in_word, names_of_next, names_of_token}
 pub use Rattle.nj_audit.specs.ReadWords.{after_operator, after_part, begins_command, entered, first_word, is_cd, is_copy, is_option}
 pub use Rattle.nj_audit.specs.ReadWords.{is_output_option, is_read, is_tee, names_output, part_after}
-pub use Rattle.nj_audit.specs.NamedPaths.{is_bare, seen_from, after_letter, after_sign, after_slash, path_below, path_named, path_seen}
-pub use Rattle.nj_audit.specs.NamedPaths.{stands_alone, without_folder}
+pub use Rattle.nj_audit.specs.WordNames.{names_in_parts, names_in_text, after_sign, attached_to, is_bare, is_sign}
+pub use Rattle.nj_audit.specs.NamedPaths.{seen_from, after_slash, path_below, path_named, path_seen, stands_alone, without_folder}
 pub use Rattle.nj_audit.specs.Inside.Tokens.{token_model}
 pub use Rattle.nj_audit.specs.Inside.FilesNamed.{AddsFiles}
 pub use Rattle.nj_text.specs.Paths.{is_absolute}
@@ -44,3 +44,4 @@ pub use Rattle.nj_audit.specs.Inside.PlainBytes.{is_special}
 pub use Rattle.nj_audit.specs.declared.shell_words.Quoting.TheVariants.{Bare, Between}
 pub use Rattle.nj_audit.specs.Inside.UnorderedFound.{AddsUnordered, AddsOnce}
 pub use Rattle.nj_audit.specs.Inside.References.{HasReferences}
+pub use Rattle.nj_audit.specs.Inside.Parts.{parts_left}

@@ -9,4 +9,5 @@ pub mod References
 pub mod RolesHeld
 pub mod Tokens
 pub mod PlainBytes
+pub mod Parts
 pub mod Served

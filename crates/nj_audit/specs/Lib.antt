@@ -11,6 +11,7 @@ pub mod Roles
 pub mod Serving
 pub mod ShellWords
 pub mod UnorderedFiles
+pub mod WordNames
 -- how the code does that
 pub mod Inside
 -- what the contracts cite

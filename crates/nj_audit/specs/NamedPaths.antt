@@ -1,19 +1,7 @@
--- The names in a word, and the paths that they may mean.
-use Rattle.std.specs.Prelude.{ℕ, ◌+◌, ◌==◌, Bool, nat_eq, ◌||◌, not, if◌then◌else◌, Option, Some, None, option_map, unwrap_or, List, [], ◌∷◌, ◌++◌, codes, drop, length, position, bytes_eq}
-use Rattle.std.specs.List.{cons_option, list_any, starts_with}
+-- The paths that names may mean.
+use Rattle.std.specs.Prelude.{ℕ, ◌==◌, Bool, nat_eq, ◌||◌, not, if◌then◌else◌, Option, Some, None, unwrap_or, List, [], ◌∷◌, ◌++◌, drop, length, position, bytes_eq}
+use Rattle.std.specs.List.{starts_with}
 use Rattle.nj_text.specs.Paths.{clean_path_of, is_absolute}
-
--- the text after the first `=` of a word
-abbrev pub after_sign : (word : List ℕ) → Option (List ℕ)
-after_sign word = option_map (λ index. drop (index + 1) word) (position (λ b. b == 61) word)
-
--- the text after the second byte of a word that begins with `-`
-abbrev pub after_letter : (word : List ℕ) → Option (List ℕ)
-after_letter word = if starts_with nat_eq word (codes "-") then Some (drop 2 word) else None
-
--- the names in a word: the word itself, the text after its `=`, and the text after its option letter
-abbrev pub word_names : (word : List ℕ) → List (List ℕ)
-word_names word = word ∷ cons_option (after_sign word) (cons_option (after_letter word) [])
 
 -- the text after the slash with which a text begins
 abbrev pub after_slash : (text : List ℕ) → Option (List ℕ)
@@ -51,10 +39,6 @@ path_below folder path = if stands_alone folder path then path else folder ++ 47
 -- the path of a name, as seen from the directory of the build
 abbrev pub path_seen : (folder : List ℕ) → SeenName → Option (List ℕ)
 path_seen folder seen = if length seen.name == 0 then None else path_named folder (path_below seen.folder seen.name)
-
--- a name without `/` and `.`, as `clean` in `ninja clean`
-abbrev pub is_bare : (name : List ℕ) → Bool
-is_bare name = not (list_any (λ b. b == 47 || b == 46) name)
 
 -- the number of the file at a path, if any
 abbrev pub number_at : (files : List (List ℕ)) → (path : List ℕ) → Option ℕ

@@ -4,7 +4,8 @@ use Rattle.std.specs.Prelude.{ℕ, ◌==◌, Bool, true, false, nat_eq, nat_le, 
 use Rattle.std.specs.List.{ends_with, starts_with}
 use Rattle.nj_audit.specs.ShellWords.{TokenModel, tokens_of}
 use Rattle.nj_audit.specs.ShellWords.TokenModel.{Word, Operator}
-use Rattle.nj_audit.specs.NamedPaths.{word_names, SeenName, path_below, seen_from}
+use Rattle.nj_audit.specs.NamedPaths.{SeenName, path_below, seen_from}
+use Rattle.nj_audit.specs.WordNames.{word_names}
 use Rattle.nj_audit.specs.declared.read_words.Part.{Part}
 use Rattle.nj_audit.specs.declared.read_words.Part.TheVariants.{Program, Directory, Copy, Argument}
 

@@ -8,9 +8,10 @@ use Rattle.nj_graph.specs.Edges.{inputs_of, is_among, maker_of, users_of}
 use Rattle.nj_graph.specs.Graph.{GraphModel, edges_of, files_of, late_text_of}
 use Rattle.nj_audit.specs.Audit.{command_of, has_command, has_generator, path_of, paths_at, rule_number}
 use Rattle.nj_audit.specs.Findings.{FindingModel, edge_finding}
-use Rattle.nj_audit.specs.NamedPaths.{SeenName, is_bare, number_at, path_seen}
+use Rattle.nj_audit.specs.NamedPaths.{SeenName, number_at, path_seen}
 use Rattle.nj_audit.specs.ReadWords.{command_names}
 use Rattle.nj_audit.specs.Roles.{is_run_by_hand, makers_of_opened}
+use Rattle.nj_audit.specs.WordNames.{is_bare}
 use Rattle.nj_audit.specs.declared.kinds.Kind.TheVariants.{UndeclaredInput}
 
 -- ---- files that an edge names

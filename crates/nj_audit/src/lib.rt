@@ -23,6 +23,7 @@ mod shell_words;
 mod sources;
 mod unordered_files;
 mod variables;
+mod word_names;
 
 pub use auditing::audit;
 pub use findings::{Finding, Findings};

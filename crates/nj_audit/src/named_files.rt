@@ -1,11 +1,12 @@
 //! The files that commands may name.
 
 ghost use Rattle.std.specs.Prelude.{◌≡◌, [], OnOk, map, option_copied};
-ghost use Rattle.nj_audit.specs.Cited.{after_token, after_word, command_names, cons_option, file_of, is_bare, is_meant, names_in_word, names_of_next, names_of_token, seen_from, token_model, AddsFiles};
+ghost use Rattle.nj_audit.specs.Cited.{after_token, after_word, command_names, cons_option, file_of, is_meant, names_in_parts, names_in_text, names_in_word, names_of_next, names_of_token, seen_from, token_model, AddsFiles};
 
-use crate::named_paths::{PathBuffers, after_letter, after_sign, path_seen};
+use crate::named_paths::{PathBuffers, path_seen};
 use crate::read_words::NextWord;
 use crate::shell_words::{Token, take_token};
+use crate::word_names::{after_sign, attached_to, has_sign, is_bare, split_part};
 use nj_graph::{File, Graph};
 use std::alloc::AllocError;
 
@@ -101,9 +102,52 @@ fn add_files_in_word<'g>(
     ensures { OnOk result (AddsFiles graph.entry.now folder.now (names_in_word within.now word.now)
         (map file_of files.old.items) (map file_of files.new.items)) }
 {
-    add_file(files, buffers, graph, folder, within, Some(word))?;
+    add_files_in_text(files, buffers, graph, folder, within, word)?;
+    if !has_sign(word) {
+        return Ok(());
+    }
     add_file(files, buffers, graph, folder, within, after_sign(word))?;
-    add_file(files, buffers, graph, folder, within, after_letter(word))?;
+    add_files_in_parts(files, buffers, graph, folder, within, word)?;
+    Ok(())
+}
+
+/// Appends the files that a text and the value that is attached in it may name.
+fn add_files_in_text<'g>(
+    files: &mut Vec<File<'g>>,
+    buffers: &mut PathBuffers,
+    graph: &'g Graph,
+    folder: &[u8],
+    within: &[u8],
+    text: &[u8],
+) -> Result<(), AllocError>
+    ensures { OnOk result (AddsFiles graph.entry.now folder.now
+        (map (seen_from within.now) (names_in_text text.now))
+        (map file_of files.old.items) (map file_of files.new.items)) }
+{
+    add_file(files, buffers, graph, folder, within, Some(text))?;
+    add_file(files, buffers, graph, folder, within, attached_to(text))?;
+    Ok(())
+}
+
+/// Appends the files that the parts of a word may name.
+fn add_files_in_parts<'g>(
+    files: &mut Vec<File<'g>>,
+    buffers: &mut PathBuffers,
+    graph: &'g Graph,
+    folder: &[u8],
+    within: &[u8],
+    word: &[u8],
+) -> Result<(), AllocError>
+    ensures { OnOk result (AddsFiles graph.entry.now folder.now
+        (map (seen_from within.now) (names_in_parts word.now))
+        (map file_of files.old.items) (map file_of files.new.items)) }
+{
+    let mut rest = Some(word);
+    'parts: while let Some(text) = rest {
+        let (part, after) = split_part(text);
+        add_files_in_text(files, buffers, graph, folder, within, part)?;
+        rest = after;
+    }
     Ok(())
 }
 
@@ -141,11 +185,4 @@ fn is_meant(name: &[u8], file: File<'_>) -> bool
     ensures { result ≡ is_meant (file_of file.entry).graph name.now (file_of file.entry).path }
 {
     !is_bare(name) || !file.users().is_empty()
-}
-
-/// Whether a name has neither a slash nor a dot: it may be a word with another meaning.
-fn is_bare(name: &[u8]) -> bool
-    ensures { result ≡ is_bare name.now }
-{
-    !name.iter().any(|byte| *byte == b'/' || *byte == b'.')
 }

@@ -1,7 +1,7 @@
-//! The paths that a word may name.
+//! The paths that names may mean.
 
-ghost use Rattle.std.specs.Prelude.{◌≡◌, ℕ, ◌==◌, ◌<◌, ◌++◌, length, position, IfOk, IfSome, OnOk, option_copied};
-ghost use Rattle.nj_audit.specs.Cited.{after_letter, after_sign, after_slash, is_absolute, path_below, path_named, path_seen, seen_from, stands_alone, without_folder};
+ghost use Rattle.std.specs.Prelude.{◌≡◌, ◌++◌, IfOk, OnOk, option_copied};
+ghost use Rattle.nj_audit.specs.Cited.{after_slash, is_absolute, path_below, path_named, path_seen, seen_from, stands_alone, without_folder};
 
 use nj_text::{TextFault, clean_into, is_clean};
 use std::alloc::{AllocError, Global};
@@ -22,35 +22,6 @@ impl PathBuffers {
             joined: Vec::new(alloc),
             clean: Vec::new(alloc),
         }
-    }
-}
-
-/// Returns the text after the first `=` of a word, if any.
-pub fn after_sign(word: &[u8]) -> Option<&[u8]>
-    ensures { option_copied result ≡ after_sign word.now }
-{
-    match sign_position(word) {
-        Some(index) => Some(&word[index + 1..]),
-        None => None,
-    }
-}
-
-/// Returns the position of the first `=` of a word, if any.
-fn sign_position(word: &[u8]) -> Option<usize>
-    ensures position { result ≡ position (λ byte. byte == 61) word.now }
-    ensures fits { IfSome result (λ index. index < length word.now) }
-{
-    word.iter().position(|byte| *byte == b'=')
-}
-
-/// Returns the text after the second byte of a word that begins with `-`.
-pub fn after_letter(word: &[u8]) -> Option<&[u8]>
-    ensures { option_copied result ≡ after_letter word.now }
-{
-    match word {
-        [b'-', _, rest @ ..] => Some(rest),
-        [b'-'] => Some(b""),
-        _ => None,
     }
 }
 

@@ -1,7 +1,7 @@
 use Rattle.std.proofs.Common.{◌==◌, ◌||◌, ap, not, rules, tests}
 use Rattle.std.proofs.lemmas.Iterator.{YieldsList-from_slice}
 use Rattle.std.proofs.lemmas.Iterator.Search.{any_from_yields_List}
-use Rattle.nj_audit.proofs.named_files.is_bare.Goals as goal
+use Rattle.nj_audit.proofs.word_names.is_bare.Goals as goal
 
 pub returns : goal.returns
 returns c =
