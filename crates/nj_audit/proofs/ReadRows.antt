@@ -50,3 +50,12 @@ absolute = refl
 
 nothing : path_seen (codes "/w") (seen_from (codes "sub") []) ≡ None
 nothing = refl
+
+-- `$PWD` is the directory in which a command reads the name
+below_here : path_seen (codes "/w") (seen_from (codes "sub") (codes "$PWD/a.h")) ≡ Some (codes "sub/a.h")
+unfolding clean_path_of without_leftmost_pair
+below_here = refl
+
+in_braces : path_seen (codes "/w") (seen_from [] (codes "${PWD}/a.h")) ≡ Some (codes "a.h")
+unfolding clean_path_of without_leftmost_pair
+in_braces = refl

@@ -30,6 +30,7 @@ pub use Rattle.nj_audit.specs.ReadWords.{after_operator, after_part, begins_comm
 pub use Rattle.nj_audit.specs.ReadWords.{is_output_option, is_read, is_tee, names_output, part_after}
 pub use Rattle.nj_audit.specs.WordNames.{names_in_parts, names_in_text, after_sign, attached_to, is_bare, is_sign}
 pub use Rattle.nj_audit.specs.NamedPaths.{seen_from, after_slash, path_below, path_named, path_seen, stands_alone, without_folder}
+pub use Rattle.nj_audit.specs.NamedPaths.{without_here}
 pub use Rattle.nj_audit.specs.Inside.Tokens.{token_model}
 pub use Rattle.nj_audit.specs.Inside.FilesNamed.{AddsFiles}
 pub use Rattle.nj_text.specs.Paths.{is_absolute}

@@ -1,5 +1,5 @@
 -- The paths that names may mean.
-use Rattle.std.specs.Prelude.{ℕ, ◌==◌, Bool, nat_eq, ◌||◌, not, if◌then◌else◌, Option, Some, None, unwrap_or, List, [], ◌∷◌, ◌++◌, drop, length, position, bytes_eq}
+use Rattle.std.specs.Prelude.{ℕ, ◌==◌, Bool, nat_eq, ◌||◌, not, if◌then◌else◌, Option, Some, None, unwrap_or, List, [], ◌∷◌, ◌++◌, codes, drop, length, position, bytes_eq}
 use Rattle.std.specs.List.{starts_with}
 use Rattle.nj_text.specs.Paths.{clean_path_of, is_absolute}
 
@@ -36,9 +36,16 @@ stands_alone folder path = length folder == 0 || is_absolute path
 abbrev pub path_below : (folder path : List ℕ) → List ℕ
 path_below folder path = if stands_alone folder path then path else folder ++ 47 ∷ path
 
+-- a name without `$PWD/` or `${PWD}/`, the directory in which a command reads it
+abbrev pub without_here : (name : List ℕ) → List ℕ
+without_here name =
+    if starts_with nat_eq name (codes "$PWD/") then drop 5 name
+    else (if starts_with nat_eq name (codes "${PWD}/") then drop 7 name else name)
+
 -- the path of a name, as seen from the directory of the build
 abbrev pub path_seen : (folder : List ℕ) → SeenName → Option (List ℕ)
-path_seen folder seen = if length seen.name == 0 then None else path_named folder (path_below seen.folder seen.name)
+path_seen folder seen =
+    if length seen.name == 0 then None else path_named folder (path_below seen.folder (without_here seen.name))
 
 -- the number of the file at a path, if any
 abbrev pub number_at : (files : List (List ℕ)) → (path : List ℕ) → Option ℕ

@@ -4,7 +4,7 @@ use Rattle.std.specs.Prelude.{ℕ, ◌==◌, Bool, true, false, nat_eq, nat_le, 
 use Rattle.std.specs.List.{ends_with, starts_with}
 use Rattle.nj_audit.specs.ShellWords.{TokenModel, tokens_of}
 use Rattle.nj_audit.specs.ShellWords.TokenModel.{Word, Operator}
-use Rattle.nj_audit.specs.NamedPaths.{SeenName, path_below, seen_from}
+use Rattle.nj_audit.specs.NamedPaths.{SeenName, path_below, seen_from, without_here}
 use Rattle.nj_audit.specs.WordNames.{word_names}
 use Rattle.nj_audit.specs.declared.read_words.Part.{Part}
 use Rattle.nj_audit.specs.declared.read_words.Part.TheVariants.{Program, Directory, Copy, Argument}
@@ -61,7 +61,9 @@ longest_path = 4096
 
 -- the directory after `cd`, as seen from the directory before; `cd` is ignored if the path is too long
 abbrev pub entered : (folder name : List ℕ) → List ℕ
-entered folder name = if nat_le (length (path_below folder name)) longest_path then path_below folder name else folder
+entered folder name =
+    if nat_le (length (path_below folder (without_here name))) longest_path then path_below folder (without_here name)
+    else folder
 
 -- after a word that the command does not write
 abbrev pub after_part : Part → NextWordModel → (word : List ℕ) → NextWordModel

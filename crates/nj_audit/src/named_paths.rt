@@ -1,7 +1,7 @@
 //! The paths that names may mean.
 
 ghost use Rattle.std.specs.Prelude.{◌≡◌, ◌++◌, IfOk, OnOk, option_copied};
-ghost use Rattle.nj_audit.specs.Cited.{after_slash, is_absolute, path_below, path_named, path_seen, seen_from, stands_alone, without_folder};
+ghost use Rattle.nj_audit.specs.Cited.{after_slash, is_absolute, path_below, path_named, path_seen, seen_from, stands_alone, without_folder, without_here};
 
 use nj_text::{TextFault, clean_into, is_clean};
 use std::alloc::{AllocError, Global};
@@ -39,12 +39,24 @@ pub fn path_seen<'a>(
     if name.is_empty() {
         return Ok(None);
     }
+    let path = without_here(name);
     if within.is_empty() {
-        return path_named(&mut buffers.clean, folder, name);
+        return path_named(&mut buffers.clean, folder, path);
     }
     buffers.joined.clear();
-    push_below(&mut buffers.joined, within, name)?;
+    push_below(&mut buffers.joined, within, path)?;
     path_named(&mut buffers.clean, folder, &buffers.joined)
+}
+
+/// Returns a name without `$PWD/` or `${PWD}/`, the directory in which a command reads it.
+pub fn without_here(name: &[u8]) -> &[u8]
+    ensures { result.now ≡ without_here name.now }
+{
+    match name {
+        [b'$', b'P', b'W', b'D', b'/', path @ ..] => path,
+        [b'$', b'{', b'P', b'W', b'D', b'}', b'/', path @ ..] => path,
+        _ => name,
+    }
 }
 
 /// Appends a path that is read in a directory, if any.

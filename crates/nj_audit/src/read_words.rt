@@ -3,7 +3,7 @@
 ghost use Rattle.std.specs.Prelude.{◌≡◌, ◌++◌, OnOk};
 ghost use Rattle.nj_audit.specs.Cited.{after_operator, after_part, after_word, begins_command, entered, first_word, is_cd, is_copy, is_option, is_output_option, is_read, is_tee, names_output, part_after};
 
-use crate::named_paths::push_below;
+use crate::named_paths::{push_below, without_here};
 use std::alloc::{AllocError, Global};
 use std::marker::Model;
 
@@ -181,7 +181,7 @@ fn enter(folder: &mut Vec<u8>, name: &[u8]) -> Result<(), AllocError>
     ensures { OnOk result (folder.new.items ≡ entered folder.old.items name.now) }
 {
     let mut path = Vec::new(*folder.allocator());
-    push_below(&mut path, folder, name)?;
+    push_below(&mut path, folder, without_here(name))?;
     if path.len() <= LONGEST_PATH {
         *folder = path;
     }
