@@ -36,6 +36,23 @@ directories : command_names (codes "cd sub && gen a; cd ../b && use")
 unfolding tokens_of read_text tokens_after
 directories = refl
 
+-- the command of a shell begins in its directory, and its own `cd` does not outlast it
+scripts : command_names (codes "cd s && sh -ec 'cd t && use a >b' c")
+    ≡ seen_from [] (codes "cd") ∷ seen_from [] (codes "s") ∷ seen_from (codes "s") (codes "sh")
+    ∷ seen_from (codes "s") (codes "-ec") ∷ seen_from (codes "s") (codes "c")
+    ∷ seen_from (codes "s") (codes "cd") ∷ seen_from (codes "s") (codes "t")
+    ∷ seen_from (codes "s/t") (codes "use") ∷ seen_from (codes "s/t") (codes "a")
+    ∷ seen_from (codes "s") (codes "c") ∷ []
+unfolding tokens_of read_text tokens_after
+scripts = refl
+
+-- the name after a shell's `-o` is that of an option
+shell_options : command_names (codes "bash -euo pipefail --norc -c 'use a'")
+    ≡ map (seen_from []) (codes "bash" ∷ codes "-euo" ∷ codes "uo" ∷ codes "--norc" ∷ codes "norc"
+    ∷ codes "-c" ∷ [] ∷ codes "use" ∷ codes "a" ∷ [])
+unfolding tokens_of read_text tokens_after
+shell_options = refl
+
 above : path_seen (codes "/w") (seen_from (codes "sub") (codes "../a.h")) ≡ Some (codes "a.h")
 unfolding clean_path_of without_leftmost_pair
 above = refl

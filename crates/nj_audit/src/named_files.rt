@@ -1,7 +1,7 @@
 //! The files that commands may name.
 
 ghost use Rattle.std.specs.Prelude.{◌≡◌, [], OnOk, map, option_copied};
-ghost use Rattle.nj_audit.specs.Cited.{after_token, after_word, command_names, cons_option, file_of, is_meant, names_in_parts, names_in_text, names_in_word, names_of_next, names_of_token, seen_from, token_model, AddsFiles};
+ghost use Rattle.nj_audit.specs.Cited.{after_token, after_word, command_names, cons_option, file_of, is_meant, names_in_parts, names_in_text, names_in_word, names_of_next, names_of_token, names_of_word, names_within, script_names, seen_from, token_model, AddsFiles};
 
 use crate::named_paths::{PathBuffers, path_seen};
 use crate::read_words::NextWord;
@@ -22,7 +22,7 @@ pub fn add_named_files<'g>(
 {
     let mut word = Vec::new(*files.allocator());
     let mut buffers = PathBuffers::new(*files.allocator());
-    let mut next = NextWord::first(*files.allocator());
+    let mut next = NextWord::first(Vec::new(*files.allocator()));
     let mut rest = command;
     'tokens: while let Some(taken) = take_token(&mut word, rest)? {
         add_token(
@@ -42,6 +42,82 @@ pub fn add_named_files<'g>(
 /// Appends the files that the next token of a command may name. If the token is a word, `word` has
 /// its text.
 fn add_token<'g>(
+    files: &mut Vec<File<'g>>,
+    buffers: &mut PathBuffers,
+    graph: &'g Graph,
+    folder: &[u8],
+    next: &mut NextWord,
+    token: Token,
+    word: &[u8],
+) -> Result<(), AllocError>
+    ensures files { OnOk result (AddsFiles graph.entry.now folder.now
+        (names_within next.old (token_model word.now token))
+        (map file_of files.old.items) (map file_of files.new.items)) }
+    ensures next { OnOk result (next.new ≡ after_token next.old (token_model word.now token)) }
+{
+    match token {
+        Token::Word => {
+            add_word(files, buffers, graph, folder, next, word)?;
+            Ok(())
+        }
+        Token::Operator(byte) => {
+            next.pass_operator(byte);
+            Ok(())
+        }
+    }
+}
+
+/// Appends the files that the given next word of a command may name, which may be a command that a
+/// shell is given.
+fn add_word<'g>(
+    files: &mut Vec<File<'g>>,
+    buffers: &mut PathBuffers,
+    graph: &'g Graph,
+    folder: &[u8],
+    next: &mut NextWord,
+    word: &[u8],
+) -> Result<(), AllocError>
+    ensures files { OnOk result (AddsFiles graph.entry.now folder.now
+        (names_of_word next.old word.now)
+        (map file_of files.old.items) (map file_of files.new.items)) }
+    ensures next { OnOk result (next.new ≡ after_word next.old word.now) }
+{
+    if !next.is_script() {
+        add_next(files, buffers, graph, folder, next, word)?;
+        return Ok(());
+    }
+    add_script_files(files, buffers, graph, folder, next.folder(), word)?;
+    next.pass_word(word)?;
+    Ok(())
+}
+
+/// Appends the files that the words of a command that a shell is given may name.
+fn add_script_files<'g>(
+    files: &mut Vec<File<'g>>,
+    buffers: &mut PathBuffers,
+    graph: &'g Graph,
+    folder: &[u8],
+    within: &[u8],
+    script: &[u8],
+) -> Result<(), AllocError>
+    ensures { OnOk result (AddsFiles graph.entry.now folder.now (script_names within.now script.now)
+        (map file_of files.old.items) (map file_of files.new.items)) }
+{
+    let mut start = Vec::new(*files.allocator());
+    start.extend_from_slice(within)?;
+    let mut next = NextWord::first(start);
+    let mut word = Vec::new(*files.allocator());
+    let mut rest = script;
+    'tokens: while let Some(taken) = take_token(&mut word, rest)? {
+        add_script_token(files, buffers, graph, folder, &mut next, taken.0, &word)?;
+        rest = taken.1;
+    }
+    Ok(())
+}
+
+/// Appends the files that the next token of a command that a shell is given may name. If the token
+/// is a word, `word` has its text.
+fn add_script_token<'g>(
     files: &mut Vec<File<'g>>,
     buffers: &mut PathBuffers,
     graph: &'g Graph,

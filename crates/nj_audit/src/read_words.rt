@@ -1,10 +1,10 @@
 //! Which words of a command name files that it reads, and in which directory.
 
 ghost use Rattle.std.specs.Prelude.{◌≡◌, ◌++◌, OnOk};
-ghost use Rattle.nj_audit.specs.Cited.{after_operator, after_part, after_word, begins_command, entered, first_word, is_cd, is_copy, is_option, is_output_option, is_read, is_tee, names_output, part_after};
+ghost use Rattle.nj_audit.specs.Cited.{after_operator, after_part, after_word, begins_command, ends_in_option, entered, first_word, is_cd, is_copy, is_option, is_output_option, is_read, is_script, is_script_part, is_shell, is_tee, names_output, part_after, part_in_shell};
 
 use crate::named_paths::{push_below, without_here};
-use std::alloc::{AllocError, Global};
+use std::alloc::AllocError;
 use std::marker::Model;
 
 /// The number of bytes that the system allows in a path.
@@ -19,6 +19,10 @@ pub enum Part {
     Directory,
     /// An argument of `tee`.
     Copy,
+    /// An argument of a shell.
+    Shell,
+    /// The command that a shell is given by `-c`.
+    Script,
     /// Any other argument.
     Argument,
 }
@@ -46,14 +50,14 @@ impl Model for NextWord {
 }
 
 impl NextWord {
-    /// Returns the state before the first word of a command.
-    pub fn first(alloc: Global) -> NextWord
-        ensures { result ≡ first_word }
+    /// Returns the state before the first word of a command that begins in a directory.
+    pub fn first(folder: Vec<u8>) -> NextWord
+        ensures { result ≡ first_word folder.items }
     {
         NextWord {
             part: Part::Program,
             is_written: false,
-            folder: Vec::new(alloc),
+            folder,
         }
     }
 
@@ -69,6 +73,13 @@ impl NextWord {
         ensures { result ≡ is_read self.now word.now }
     {
         !(self.is_written || is_copy(self.part) || names_output(word))
+    }
+
+    /// Whether the next word is a command that a shell is given by `-c`.
+    pub fn is_script(&self) -> bool
+        ensures { result ≡ is_script self.now }
+    {
+        !self.is_written && is_script_part(self.part)
     }
 
     /// Advances over a byte of an operator.
@@ -115,6 +126,11 @@ impl NextWord {
                 }
             }
             Part::Copy => {}
+            Part::Shell => {
+                self.part = part_in_shell(word);
+                self.is_written = ends_in_option(b"o", word);
+            }
+            Part::Script => self.part = Part::Argument,
             Part::Argument => self.is_written = is_output_option(word),
         }
         Ok(())
@@ -129,6 +145,21 @@ fn part_after(program: &[u8]) -> Part
         Part::Directory
     } else if is_tee(program) {
         Part::Copy
+    } else if is_shell(program) {
+        Part::Shell
+    } else {
+        Part::Argument
+    }
+}
+
+/// Returns the part of the word after a word of a shell.
+fn part_in_shell(word: &[u8]) -> Part
+    ensures { result ≡ part_in_shell word.now }
+{
+    if ends_in_option(b"c", word) {
+        Part::Script
+    } else if is_option(word) {
+        Part::Shell
     } else {
         Part::Argument
     }
@@ -146,6 +177,25 @@ fn is_tee(program: &[u8]) -> bool
     ensures { result ≡ is_tee program.now }
 {
     program == b"tee".as_slice() || program.ends_with(b"/tee")
+}
+
+/// Whether a program is a shell, whose option `-c` takes a command.
+fn is_shell(program: &[u8]) -> bool
+    ensures { result ≡ is_shell program.now }
+{
+    program == b"sh".as_slice()
+        || program.ends_with(b"/sh")
+        || program == b"bash".as_slice()
+        || program.ends_with(b"/bash")
+        || program == b"dash".as_slice()
+        || program.ends_with(b"/dash")
+}
+
+/// Whether a word has options of one letter, of which the last is the given letter.
+fn ends_in_option(letter: &[u8], word: &[u8]) -> bool
+    ensures { result ≡ ends_in_option letter.now word.now }
+{
+    is_option(word) && !word.starts_with(b"--") && word.ends_with(letter)
 }
 
 /// Whether a word begins with `-`.
@@ -174,6 +224,13 @@ fn is_copy(part: Part) -> bool
     ensures { result ≡ is_copy part }
 {
     matches!(part, Part::Copy)
+}
+
+/// Whether a word is the command that a shell is given by `-c`.
+fn is_script_part(part: Part) -> bool
+    ensures { result ≡ is_script_part part }
+{
+    matches!(part, Part::Script)
 }
 
 /// Enters the directory after `cd`, as seen from the directory before, unless its path is too long.

@@ -1,6 +1,6 @@
 use Rattle.std.proofs.Common.{◌≡◌, ◌∷◌, ◌++◌, map, sym, ap, ◌∙◌, append_assoc}
 use Rattle.nj_graph.specs.Handles.{file_of}
-use Rattle.nj_audit.specs.ReadWords.{after_token, names_after, names_of_token}
+use Rattle.nj_audit.specs.ReadWords.{after_token, first_word, names_after, names_within}
 use Rattle.nj_audit.specs.ShellWords.{tokens_of}
 use Rattle.nj_audit.specs.Inside.Tokens.{token_model}
 use Rattle.nj_audit.proofs.FileLemmas.{files_at, files-append}
@@ -8,7 +8,8 @@ use Rattle.nj_audit.proofs.named_files.add_named_files.Goals as goal
 
 pub tokens-init : goal.tokens-init
 tokens-init c = ap (λ next. map file_of c.args.files.now.items ++ files_at c.args.graph.now c.args.folder.now
-    (names_after next (tokens_of c.args.command.now))) c.first-next.ensures
+    (names_after names_within next (tokens_of c.args.command.now)))
+    (c.first-next.ensures ∙ ap first_word c.new.ensures.items)
 
 pub tokens-preserved : goal.tokens-preserved
 tokens-preserved c =
@@ -21,14 +22,16 @@ tokens-preserved c =
     let old = map file_of c.tokens.files.items in
     let next = c.tokens.next in
     let first : tokens_of c.tokens.rest.now ≡ token ∷ after = rw c.in-Some.is at c.in_ok-taken.ensures in
-    ap (λ fs. fs ++ files_at g folder (names_after c.add_token.new.next after))
+    ap (λ fs. fs ++ files_at g folder (names_after names_within c.add_token.new.next after))
     c.in_ok-add_token.ensures.files
-    ∙ ap (λ n. (old ++ files_at g folder (names_of_token next (token_model c.deref.result.now taken.0)))
-    ++ files_at g folder (names_after n after)) c.in_ok-add_token.ensures.next
-    ∙ ap (λ w. (old ++ files_at g folder (names_of_token next (token_model w taken.0)))
-    ++ files_at g folder (names_after (after_token next (token_model w taken.0)) after)) c.deref.ensures.value
-    ∙ append_assoc old (files_at g folder (names_of_token next token))
-    (files_at g folder (names_after (after_token next token) after))
+    ∙ ap (λ n. (old ++ files_at g folder (names_within next (token_model c.deref.result.now taken.0)))
+    ++ files_at g folder (names_after names_within n after)) c.in_ok-add_token.ensures.next
+    ∙ ap (λ w. (old ++ files_at g folder (names_within next (token_model w taken.0)))
+    ++ files_at g folder (names_after names_within (after_token next (token_model w taken.0)) after))
+    c.deref.ensures.value
+    ∙ append_assoc old (files_at g folder (names_within next token))
+    (files_at g folder (names_after names_within (after_token next token) after))
     ∙ ap (λ fs. old ++ fs)
-    (sym (files-append g folder (names_of_token next token) (names_after (after_token next token) after)))
-    ∙ ap (λ ts. old ++ files_at g folder (names_after next ts)) (sym first) ∙ c.tokens.invariant
+    (sym (files-append g folder (names_within next token)
+    (names_after names_within (after_token next token) after)))
+    ∙ ap (λ ts. old ++ files_at g folder (names_after names_within next ts)) (sym first) ∙ c.tokens.invariant

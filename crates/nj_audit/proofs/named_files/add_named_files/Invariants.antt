@@ -1,13 +1,14 @@
 use Rattle.std.proofs.Common.{◌≡◌, ◌++◌, length, map}
 use Rattle.nj_graph.specs.Handles.{file_of}
-use Rattle.nj_audit.specs.ReadWords.{command_names, names_after}
+use Rattle.nj_audit.specs.ReadWords.{command_names, names_after, names_within}
 use Rattle.nj_audit.specs.ShellWords.{tokens_of}
 use Rattle.nj_audit.proofs.FileLemmas.{files_at}
 use Rattle.nj_audit.proofs.named_files.add_named_files.Given as goal
 
 abbrev pub invariant-tokens : goal.invariant-tokens
 invariant-tokens l =
-    map file_of l.files.items ++ files_at l.graph l.folder (names_after l.next (tokens_of l.rest))
+    map file_of l.files.items ++ files_at l.graph l.folder
+    (names_after names_within l.next (tokens_of l.rest))
     ≡ map file_of l.fn.files.items ++ files_at l.graph l.folder (command_names l.command)
 
 abbrev pub decreases-tokens : goal.decreases-tokens
