@@ -8,6 +8,7 @@ pub mod FileSetLemmas
 pub mod ListLemmas
 pub mod NameLemmas
 mod QuotedWords
+mod JoinedParts
 pub mod MarkLemmas
 pub mod KindLemmas
 mod KindRows

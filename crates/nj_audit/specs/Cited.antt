@@ -18,7 +18,7 @@ pub use Rattle.nj_audit.specs.Inside.Handles.{repeated_among, AreIn, input_of, m
 pub use Rattle.nj_names.specs.NameTables.{with_name}
 pub use Rattle.nj_graph.specs.Origins.{place_text}
 pub use Rattle.nj_audit.specs.Findings.{finding_model, edge_finding}
-pub use Rattle.nj_audit.specs.Laws.{QuotedPathsAreWords}
+pub use Rattle.nj_audit.specs.Laws.{ListedTextsAreNames, QuotedPathsAreWords}
 pub use Rattle.nj_audit.specs.Roles.{makes_opened, built_by_default, is_run_by_hand, maker_of_opened, makers_of_opened}
 pub use Rattle.nj_names.specs.Files.{path_at}
 pub use Rattle.nj_audit.specs.UnorderedFiles.{files_named, is_meant, AreNamedUnordered, IsOther, IsTwin, IsUnordered, is_looked_at}

@@ -28,5 +28,5 @@ mod word_names;
 pub use auditing::audit;
 pub use findings::{Finding, Findings};
 pub use kinds::{Kind, Kinds};
-pub use laws::words_law;
+pub use laws::{list_law, words_law};
 pub use unordered_files::has_generator;
