@@ -76,3 +76,8 @@ below_here = refl
 in_braces : path_seen (codes "/w") (seen_from [] (codes "${PWD}/a.h")) ≡ Some (codes "a.h")
 unfolding clean_path_of without_leftmost_pair
 in_braces = refl
+
+-- a command in quotes; outside them a parenthesis ends a word
+by_command : path_seen (codes "/w") (seen_from (codes "sub") (codes "$(pwd)/a.h")) ≡ Some (codes "sub/a.h")
+unfolding clean_path_of without_leftmost_pair
+by_command = refl

@@ -36,11 +36,12 @@ stands_alone folder path = length folder == 0 || is_absolute path
 abbrev pub path_below : (folder path : List ℕ) → List ℕ
 path_below folder path = if stands_alone folder path then path else folder ++ 47 ∷ path
 
--- a name without `$PWD/` or `${PWD}/`, the directory in which a command reads it
+-- a name without `$PWD/`, `${PWD}/` or `$(pwd)/`, the directory in which a command reads it
 abbrev pub without_here : (name : List ℕ) → List ℕ
 without_here name =
     if starts_with nat_eq name (codes "$PWD/") then drop 5 name
-    else (if starts_with nat_eq name (codes "${PWD}/") then drop 7 name else name)
+    else (if starts_with nat_eq name (codes "${PWD}/") || starts_with nat_eq name (codes "$(pwd)/") then drop 7 name
+    else name)
 
 -- the path of a name, as seen from the directory of the build
 abbrev pub path_seen : (folder : List ℕ) → SeenName → Option (List ℕ)

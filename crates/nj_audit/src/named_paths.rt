@@ -48,15 +48,18 @@ pub fn path_seen<'a>(
     path_named(&mut buffers.clean, folder, &buffers.joined)
 }
 
-/// Returns a name without `$PWD/` or `${PWD}/`, the directory in which a command reads it.
+/// Returns a name without `$PWD/`, `${PWD}/` or `$(pwd)/`, the directory in which a command reads
+/// it.
 pub fn without_here(name: &[u8]) -> &[u8]
     ensures { result.now ≡ without_here name.now }
 {
-    match name {
-        [b'$', b'P', b'W', b'D', b'/', path @ ..] => path,
-        [b'$', b'{', b'P', b'W', b'D', b'}', b'/', path @ ..] => path,
-        _ => name,
+    if name.starts_with(b"$PWD/") {
+        return &name[5..];
     }
+    if name.starts_with(b"${PWD}/") || name.starts_with(b"$(pwd)/") {
+        return &name[7..];
+    }
+    name
 }
 
 /// Appends a path that is read in a directory, if any.
