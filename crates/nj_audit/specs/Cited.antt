@@ -27,8 +27,8 @@ pub use Rattle.nj_audit.specs.Inside.LoggedFound.{AddsLogged}
 pub use Rattle.nj_audit.specs.Inside.RolesHeld.{HasRoles, HasNumbers}
 pub use Rattle.nj_audit.specs.ReadWords.{after_token, after_word, command_names, names_in_word, names_of_next, names_of_token}
 pub use Rattle.nj_audit.specs.ReadWords.{names_of_word, names_within, script_names, after_operator, after_part, begins_command}
-pub use Rattle.nj_audit.specs.ReadWords.{ends_in_option, entered, first_word, is_cd, is_copy, is_option, is_output_option, is_read}
-pub use Rattle.nj_audit.specs.ReadWords.{is_script, is_script_part, is_shell, is_tee, names_output, part_after, part_in_shell}
+pub use Rattle.nj_audit.specs.ReadWords.{ends_in_option, entered, first_word, is_assignment, is_cd, is_copy, is_option, is_output_option}
+pub use Rattle.nj_audit.specs.ReadWords.{is_read, is_script, is_script_part, is_shell, is_tee, names_output, part_after, part_in_shell}
 pub use Rattle.nj_audit.specs.WordNames.{names_in_parts, names_in_text, after_sign, attached_to, is_bare, is_sign}
 pub use Rattle.nj_audit.specs.NamedPaths.{seen_from, after_slash, path_below, path_named, path_seen, stands_alone, without_folder}
 pub use Rattle.nj_audit.specs.NamedPaths.{without_here}

@@ -1,11 +1,11 @@
 -- The words of a command that name files that it reads, and the directory in which it reads them: not files that it writes, and below the
 -- directory that `cd` entered.
-use Rattle.std.specs.Prelude.{ℕ, ◌==◌, Bool, true, false, nat_eq, nat_le, ◌&&◌, ◌||◌, not, if◌then◌else◌, List, [], ◌∷◌, ◌++◌, bytes_eq, codes, length, map}
+use Rattle.std.specs.Prelude.{ℕ, ◌==◌, Bool, true, false, nat_eq, nat_le, ◌&&◌, ◌||◌, not, if◌then◌else◌, is_some, List, [], ◌∷◌, ◌++◌, bytes_eq, codes, length, map}
 use Rattle.std.specs.List.{ends_with, starts_with}
 use Rattle.nj_audit.specs.ShellWords.{TokenModel, tokens_of}
 use Rattle.nj_audit.specs.ShellWords.TokenModel.{Word, Operator}
 use Rattle.nj_audit.specs.NamedPaths.{SeenName, path_below, seen_from, without_here}
-use Rattle.nj_audit.specs.WordNames.{word_names}
+use Rattle.nj_audit.specs.WordNames.{after_sign, word_names}
 use Rattle.nj_audit.specs.declared.read_words.Part.{Part}
 use Rattle.nj_audit.specs.declared.read_words.Part.TheVariants.{Program, Directory, Copy, Shell, Script, Argument}
 
@@ -58,10 +58,15 @@ is_shell program =
     || bytes_eq program (codes "bash") || ends_with nat_eq program (codes "/bash")
     || bytes_eq program (codes "dash") || ends_with nat_eq program (codes "/dash")
 
--- the part of the words after a program
+-- a word in place of the program sets a variable of the command, as in `CC=gcc make`: the program comes later
+abbrev pub is_assignment : (word : List ℕ) → Bool
+is_assignment word = not (is_option word) && is_some (after_sign word)
+
+-- the part of the word after a program, or after a word that sets a variable
 abbrev pub part_after : (program : List ℕ) → Part
 part_after program =
-    if is_cd program then Directory else (if is_tee program then Copy else (if is_shell program then Shell else Argument))
+    if is_assignment program then Program
+    else (if is_cd program then Directory else (if is_tee program then Copy else (if is_shell program then Shell else Argument)))
 
 -- a word has options of one letter, of which the last is the letter of the given text: `-c` and `-ec` for `c`
 abbrev pub ends_in_option : (letter word : List ℕ) → Bool
@@ -83,7 +88,7 @@ entered folder name =
 
 -- after a word that the command does not write
 abbrev pub after_part : Part → NextWordModel → (word : List ℕ) → NextWordModel
-after_part Program next word = record next { part = part_after word }
+after_part Program next word = record next { part = part_after word; is_written = is_output_option word }
 after_part Directory next word =
     if is_option word then next else record next { part = Argument; folder = entered next.folder word }
 after_part Copy next word = next

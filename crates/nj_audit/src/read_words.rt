@@ -1,9 +1,10 @@
 //! Which words of a command name files that it reads, and in which directory.
 
 ghost use Rattle.std.specs.Prelude.{◌≡◌, ◌++◌, OnOk};
-ghost use Rattle.nj_audit.specs.Cited.{after_operator, after_part, after_word, begins_command, ends_in_option, entered, first_word, is_cd, is_copy, is_option, is_output_option, is_read, is_script, is_script_part, is_shell, is_tee, names_output, part_after, part_in_shell};
+ghost use Rattle.nj_audit.specs.Cited.{after_operator, after_part, after_word, begins_command, ends_in_option, entered, first_word, is_assignment, is_cd, is_copy, is_option, is_output_option, is_read, is_script, is_script_part, is_shell, is_tee, names_output, part_after, part_in_shell};
 
 use crate::named_paths::{push_below, without_here};
+use crate::word_names::after_sign;
 use std::alloc::AllocError;
 use std::marker::Model;
 
@@ -118,7 +119,10 @@ impl NextWord {
         ensures { OnOk result (self.new ≡ after_part self.old.part self.old word.now) }
     {
         match self.part {
-            Part::Program => self.part = part_after(word),
+            Part::Program => {
+                self.part = part_after(word);
+                self.is_written = is_output_option(word);
+            }
             Part::Directory => {
                 if !is_option(word) {
                     enter(&mut self.folder, word)?;
@@ -137,11 +141,13 @@ impl NextWord {
     }
 }
 
-/// Returns the part of the words after a program.
+/// Returns the part of the word after a program, or after a word that sets a variable.
 fn part_after(program: &[u8]) -> Part
     ensures { result ≡ part_after program.now }
 {
-    if is_cd(program) {
+    if is_assignment(program) {
+        Part::Program
+    } else if is_cd(program) {
         Part::Directory
     } else if is_tee(program) {
         Part::Copy
@@ -163,6 +169,13 @@ fn part_in_shell(word: &[u8]) -> Part
     } else {
         Part::Argument
     }
+}
+
+/// Whether a word in place of the program sets a variable of the command.
+fn is_assignment(word: &[u8]) -> bool
+    ensures { result ≡ is_assignment word.now }
+{
+    !is_option(word) && after_sign(word).is_some()
 }
 
 /// Whether a word is `cd`.
