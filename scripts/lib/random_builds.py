@@ -68,7 +68,7 @@ class Build:
         if name == "out":
             return edge.outputs[0]
         value = edge.bound.get(name, self.rules.get(edge.rule, {}).get(name, ""))
-        return re.sub(r"\$(\w+)", lambda found: self.value(edge, found[1]), value)
+        return re.sub(r"\$(\$|\w+)", lambda it: "$" if it[1] == "$" else self.value(edge, it[1]), value)
 
     def makers(self):
         return {output: edge for edge in self.edges for output in edge.outputs}

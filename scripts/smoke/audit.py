@@ -359,21 +359,34 @@ def words_of(command):
 
 
 def words_read(command):
-    """The words of a command without what it writes: a word after `>` or `-o`, or that begins with `-o`."""
+    """The words of a command without what it writes: a word after `>` or `-o`, or that begins with `-o`.
+    A word after `-c` is a command of its own."""
     words = iter(words_of(command))
     for word in words:
         if word in (">", "-o"):
             next(words, None)
+        elif word == "-c":
+            yield from words_read(next(words, ""))
         elif not word.startswith("-o"):
             yield word
+
+
+def attached(text):
+    """The value in an option of one letter, or after an `@`."""
+    return text[2:] if text.startswith("-") else text[1:] if text.startswith("@") else ""
+
+
+def names_in(word):
+    """The names in a word: the word, the text after its first `=`, and its parts, with what is attached."""
+    parts = re.split("[=:,;]", word)
+    return [word, attached(word), word.partition("=")[2], *parts, *map(attached, parts)]
 
 
 def paths_named(command, folder, inputs):
     """The paths that the words of a command name. One without a slash or a dot counts as an input alone."""
     for word in words_read(command):
-        names = [word, word.partition("=")[2], word[2:] if word.startswith("-") else ""]
-        for name in filter(None, names):
-            path = posixpath.normpath(name).removeprefix(f"{folder}/")
+        for name in filter(None, names_in(word)):
+            path = posixpath.normpath(HERE.sub("", name)).removeprefix(f"{folder}/")
             if "/" in name or "." in name or path in inputs:
                 yield path
 
@@ -407,8 +420,11 @@ def undeclared(build, edge, folder):
 SHAPES = [
     "{}", "./{}", "x/../{}", "'{}'", '"{}"', "-I{}", "--out={}", "-o=./{}", "<{}>o", "(cat {};)", "'{} '",
     "{}x", "a\\\\{}", "{folder}/{}", "{folder}x/{}", "a/{}", "`{}`", "-I {}", "=={}", "'a b'={}",
-    ">{}", "> ./{}", "-o{}", "-o ./{}",
+    ">{}", "> ./{}", "-o{}", "-o ./{}", "@{}", "-Wl,{}", "-Wl,-T,./{}", "--a=b={}", "a:{}", "'a;{};b'",
+    "$$PWD/{}", "-I$${{PWD}}/{}", "'@$$(pwd)/{}'", ";sh -c 'cat <{0} >./{0}'",
 ]
+# The working directory of a command, in front of a name.
+HERE = re.compile(r"\$(PWD|\{PWD\}|\(pwd\))/")
 
 
 def name_files(folder):
