@@ -4,9 +4,9 @@ use Rattle.std.proofs.Common.{true≢false}
 use Rattle.std.proofs.Common.{cond, inl, inr, Option, Some, List, [], ◌∷◌, ◌++◌, length, map, set, take}
 use Rattle.std.proofs.Common.{refl, sym, ap, subst, arith}
 use Rattle.std.specs.Prelude.{◌||◌, bytes_eq, fold, nat_lt, option_map, slice_get, slice_index}
-use Rattle.std.specs.Prelude.{slice_index_or, All}
+use Rattle.std.specs.Prelude.{slice_index_or, All, Contains}
 use Rattle.std.specs.List.{AllByRecursion, IsDistinct}
-use Rattle.std.proofs.lemmas.Bool.{cases_lt, le-ltb, lt-ltb, ltb-true}
+use Rattle.std.proofs.lemmas.Bool.{cases_lt, le-ltb, lt-ltb, ltb-false, ltb-true}
 use Rattle.std.proofs.lemmas.List.{append-nil, length-append, length-map, map-append, take_more}
 use Rattle.std.proofs.lemmas.List.Elements.{All-push, All-set, filter-append}
 use Rattle.std.proofs.lemmas.List.Folds.{list_any-append}
@@ -16,6 +16,7 @@ use Rattle.std.proofs.lemmas.Slice.Eq.{bytes_eq-Decides}
 use Rattle.nj_edges.proofs.EdgeLemmas.{get-append}
 use Rattle.nj_names.specs.NameTables.{is_among, with_name}
 use Rattle.nj_edges.specs.declared.edges.EdgeNo.{EdgeNo}
+use Rattle.nj_times.specs.Laws.{IsSlowestOf, NoneIsSlower}
 use Rattle.nj_times.specs.Times.{sum_of, time_at}
 use Rattle.nj_times.specs.Rules.{edges_with, rule_at, rules_of, slower, slowest_in}
 use Rattle.nj_times.specs.Inside.RulesHeld.{AreTimes, IsSmall, all_with_edge, of_one, times_in, with_edge}
@@ -372,3 +373,67 @@ turn_more rules durations edges index none edge names named times timed number w
     (with_name names (rule_at rules edge.0)) ts) (sym more)
     (times_more rules durations (numbers (take index edges)) edge.0 names times number known short are
     (ap (λ ns. slice_get ns number) (sym added) ∙ at) (subst (IsDistinct bytes_eq) added apart))))
+
+-- ---- the slowest of a rule
+
+slower_both : (durations : List (Option ℕ)) (edge other : ℕ)
+    → (time_at durations edge ≤ time_at durations (slower durations edge other))
+    × (time_at durations other ≤ time_at durations (slower durations edge other))
+slower_both durations edge other = by (nat_lt (time_at durations edge) (time_at durations other)) refl
+  where
+    by : (b : Bool) → nat_lt (time_at durations edge) (time_at durations other) ≡ b
+        → (time_at durations edge ≤ time_at durations (cond b other edge))
+        × (time_at durations other ≤ time_at durations (cond b other edge))
+    by true is = let less = ltb-true (time_at durations edge) (time_at durations other) is
+        in (omega (arith, less), omega arith)
+    by false is = (omega arith, ltb-false (time_at durations edge) (time_at durations other) is)
+
+slower_one : (durations : List (Option ℕ)) (edge other : ℕ) (edges : List ℕ)
+    → Contains (edge ∷ other ∷ edges) (slower durations edge other)
+slower_one durations edge other edges = by (nat_lt (time_at durations edge) (time_at durations other))
+  where
+    by : (b : Bool) → Contains (edge ∷ other ∷ edges) (cond b other edge)
+    by true = (1, omega arith, refl)
+    by false = (0, omega arith, refl)
+
+pub none_slower : NoneIsSlower
+none_slower durations first [] = record {
+  member = (0, omega arith, refl);
+  most = λ edge there. alone edge there;
+}
+  where
+    alone : (edge : ℕ) → Contains (first ∷ []) edge → time_at durations edge ≤ time_at durations first
+    alone edge (zero, lt, is) = subst (λ n. time_at durations n ≤ time_at durations first) is (omega arith)
+    alone edge (suc k, lt, is) = absurd (omega (arith, lt))
+none_slower durations first (next ∷ edges) =
+    let rest = none_slower durations (slower durations first next) edges in
+    record {
+      member = member rest.member;
+      most = λ edge there. most rest edge there;
+    }
+  where
+    slow : ℕ
+    slow = slowest_in durations (slower durations first next ∷ edges)
+
+    member : Contains (slower durations first next ∷ edges) slow → Contains (first ∷ next ∷ edges) slow
+    member (zero, lt, is) = subst (Contains (first ∷ next ∷ edges)) is (slower_one durations first next edges)
+    member (suc k, lt, is) = (suc (suc k), omega (arith, lt), is)
+
+    most : IsSlowestOf durations (slower durations first next ∷ edges) slow → (edge : ℕ)
+        → Contains (first ∷ next ∷ edges) edge → time_at durations edge ≤ time_at durations slow
+    most rest edge there =
+        by there
+      where
+        top : time_at durations (slower durations first next) ≤ time_at durations slow
+        top = rest.most (slower durations first next) (0, omega arith, refl)
+
+        by : Contains (first ∷ next ∷ edges) edge → time_at durations edge ≤ time_at durations slow
+        by (zero, lt, is) =
+            let below = (slower_both durations first next).0 in
+            let high = top in
+            subst (λ n. time_at durations n ≤ time_at durations slow) is (omega (arith, below, high))
+        by (suc zero, lt, is) =
+            let below = (slower_both durations first next).1 in
+            let high = top in
+            subst (λ n. time_at durations n ≤ time_at durations slow) is (omega (arith, below, high))
+        by (suc (suc k), lt, is) = rest.most edge (suc k, omega (arith, lt), is)

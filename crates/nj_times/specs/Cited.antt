@@ -5,7 +5,7 @@ pub use Rattle.nj_times.specs.Inside.CostsHeld.{is_next}
 pub use Rattle.nj_edges.specs.Needs.{makers_of_inputs}
 pub use Rattle.nj_times.specs.Times.{duration_at, duration_of, durations_of, logged_duration, milliseconds, sum_of, time_at, unknown_of}
 pub use Rattle.nj_edges.specs.Edges.{edge_at, first_output}
-pub use Rattle.nj_times.specs.Laws.{BuildsTakeTheCriticalPath, OneListIsSlowest, OnePathIsCritical}
+pub use Rattle.nj_times.specs.Laws.{BuildsTakeTheCriticalPath, NoneIsSlower, OneListIsSlowest, OnePathIsCritical}
 pub use Rattle.nj_times.specs.Critical.{AreNeededBy, IsCriticalPath}
 pub use Rattle.nj_times.specs.Reports.{AreShown, IsReport, commands_in, duration_text, duration_value, edge_line, output_of, report_text}
 pub use Rattle.nj_times.specs.Reports.{seconds, summary, summary_of}

@@ -1,6 +1,6 @@
 //! Laws of critical paths and of slowest edges.
 
-ghost use Rattle.nj_times.specs.Cited.{BuildsTakeTheCriticalPath, OneListIsSlowest, OnePathIsCritical};
+ghost use Rattle.nj_times.specs.Cited.{BuildsTakeTheCriticalPath, NoneIsSlower, OneListIsSlowest, OnePathIsCritical};
 
 /// However many edges run at once, a build in which each edge takes its duration and starts after
 /// the makers of its inputs end takes at least the sum of the critical path.
@@ -16,4 +16,9 @@ pub fn one_path_is_critical()
 /// Edges and their durations have one list of slowest edges.
 pub fn one_list_is_slowest()
     ensures { OneListIsSlowest }
+{}
+
+/// The slowest command of a rule is one of its commands, and none of them took longer.
+pub fn none_is_slower()
+    ensures { NoneIsSlower }
 {}

@@ -13,7 +13,9 @@ mod rule_times;
 mod slow_edges;
 
 pub use edge_times::{durations, sum_of, unknown_of};
-pub use laws::{builds_take_the_critical_path, one_list_is_slowest, one_path_is_critical};
+pub use laws::{
+    builds_take_the_critical_path, none_is_slower, one_list_is_slowest, one_path_is_critical,
+};
 pub use path::critical_path;
 pub use reports::report;
 pub use rule_reports::rule_report;
