@@ -8,3 +8,4 @@ pub mod OrderedLemmas
 pub mod RuleLemmas
 pub mod TextLemmas
 pub mod RuleOrderLemmas
+pub mod DeadLemmas

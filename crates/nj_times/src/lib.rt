@@ -3,6 +3,7 @@
 #![tactic(auto)]
 
 mod costs;
+mod dead;
 mod edge_times;
 mod laws;
 mod order;
@@ -12,6 +13,7 @@ mod rule_reports;
 mod rule_times;
 mod slow_edges;
 
+pub use dead::dead_outputs;
 pub use edge_times::{durations, sum_of, unknown_of};
 pub use laws::{
     builds_take_the_critical_path, none_is_slower, one_list_is_slowest, one_path_is_critical,
