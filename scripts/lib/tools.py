@@ -307,7 +307,7 @@ GRAPH_TOOLS = {
         (f"--ctest={LIST}",),
         looks=((ANYTHING, LINES),),
     ),
-    "times": Tool({"--top": "N", "--json": None}, looks=((LINES, CAVEATS),)),
+    "times": Tool({"--top": "N", "--by-rule": None, "--json": None}, looks=((LINES, CAVEATS),)),
     "why": Tool({"--validations": None, "--no-order-only": None}, ("test", "text/words.c"), ((NOTHING, NOTHING),)),
 }
 GRAPH_RUNS = {
@@ -344,6 +344,9 @@ GRAPH_RUNS = {
         "stale nothing",
         "times",
         "times --top 2 --json b1 a^",
+        "times --by-rule",
+        "times --by-rule --json b1 a^",
+        "times --by-rule --top 2",
         "times nothing",
         "why d a",
         "why a d",
@@ -476,6 +479,7 @@ GRAPH_NESTED = (
     "times",
     "times --top 2 all",
     "times --json",
+    "times --by-rule",
     f"tests --ctest {LIST} --source-dir . -z --ignore none --ignore-unknown --allow-empty < d",
     f"tests --ctest {LIST} --format lines --why --unnamed skip < d",
     f"tests --ctest {LIST} --json < d",

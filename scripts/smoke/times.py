@@ -25,6 +25,8 @@ SLEEPS = {
     "doc": (2, ["a", "b", "c", "d"]),
 }
 PATH = ["b", "c", "app"]
+# Edges of another rule.
+DOZES = ["d", "doc"]
 FIRST_LINE = re.compile(r"commands: (\d+), unknown: (\d+), sum: (\d+\.\d{3}) s, critical path: (\d+\.\d{3}) s")
 LINE = re.compile(r"(\d+\.\d{3}|unknown)(?: s)? (.+)")
 
@@ -55,11 +57,28 @@ def logged(folder):
 
 def sleeping():
     """A manifest of the edges that sleep."""
-    lines = ["rule sleep", "  command = sleep $seconds && touch $out"]
+    lines = []
+    for rule in "sleep", "doze":
+        lines += [f"rule {rule}", "  command = sleep $seconds && touch $out"]
     for output, (hundredths, inputs) in SLEEPS.items():
-        lines += [f"build {output}: sleep {' '.join(inputs)}", f"  seconds = {hundredths / 100}"]
+        rule = "doze" if output in DOZES else "sleep"
+        lines += [f"build {output}: {rule} {' '.join(inputs)}", f"  seconds = {hundredths / 100}"]
     lines += ["build all: phony app long doc", "default all"]
     return "".join(f"{line}\n" for line in lines)
+
+
+def by_rule(graph, folder, times):
+    """Both rules, the one with the greater sum first; what each has is summed up here by the log."""
+    wanted = []
+    for rule in "sleep", "doze":
+        mine = {output: times[output] for output in SLEEPS if (rule == "doze") == (output in DOZES)}
+        slowest = max(mine, key=lambda output: (mine[output], -list(SLEEPS).index(output)))
+        wanted.append((sum(mine.values()), rule, len(mine), mine[slowest], slowest))
+    wanted.sort(reverse=True)
+    ran = graph.run(["times", "--by-rule", "--json"], folder).as_text()
+    names = "sum", "rule", "commands", "milliseconds", "output"
+    found = [tuple(json.loads(line)[name] for name in names) for line in ran.output.splitlines()[1:]]
+    yield from expect("--by-rule", found, wanted)
 
 
 @check(needs=["ninja"], alone=True)
@@ -78,6 +97,7 @@ def sleeps(graph, folder):
             yield f"{output} slept for {times[output]} ms"
     slowest = sorted(times.items(), key=lambda item: (-item[1], list(SLEEPS).index(item[0])))
     yield from expect("--top 2", report(graph, folder, "--top", "2"), (DONE, Report(*head, slowest[:2])))
+    yield from by_rule(graph, folder, times)
     ran = graph.run(["times", "--json", "d"], folder).as_text()
     chain = [{"milliseconds": times[output], "output": output} for output in ("a", "d")]
     both = times["a"] + times["d"]
@@ -96,7 +116,7 @@ def example_of_the_page(graph, folder):
     page = (ROOT / "docs/NINJA-GRAPH.md").read_text()
     write_files(folder, {MAIN: MANIFEST.search(page)[1], ".ninja_log": LOG})
     shown = SHOWN.findall(page)
-    yield from expect("examples", len(shown), 2)
+    yield from expect("examples", len(shown), 3)
     for words, wanted in shown:
         yield from expect(words, graph.run(words.split(), folder).as_text().output, wanted)
 

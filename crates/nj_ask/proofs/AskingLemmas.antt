@@ -97,7 +97,7 @@ task-taken subject (task.Tests options globs) is = rw is.0 (record {
     are_globs = is.1.globs_are.are;
   };
 })
-task-taken subject (task.Times options) is = rw is tt
+task-taken subject (task.Times options) is = rw is.0 is.1
 task-taken subject (task.Why options) is = rw is tt
 
 -- and nothing is answered before files are read
@@ -109,7 +109,7 @@ task-unlisted subject task.Json is = rw is refl
 task-unlisted subject (task.Keys options page) is = rw is.0 refl
 task-unlisted subject (task.Stale options) is = rw is.0 refl
 task-unlisted subject (task.Tests options globs) is = rw is.0 refl
-task-unlisted subject (task.Times options) is = rw is refl
+task-unlisted subject (task.Times options) is = rw is.0 refl
 task-unlisted subject (task.Why options) is = rw is refl
 
 -- where nothing is read, the kinds of findings are listed
@@ -172,7 +172,7 @@ module _ (known : DiscoveredGraph) (entries : List ReadStatement) (log : BuildLo
   pub times-returns : (options : Bor TimesOptions) → asked ≡ task.Times options → IsTask subject asked
       → Returns (AnswersTimes known entries log (times_model options.now)) old new reported
       → Returns (Answers known entries log times folder subject named input) old new reported
-  times-returns options same is returns = rw (subst (IsTask subject) same is) returns
+  times-returns options same is returns = rw (subst (IsTask subject) same is).0 returns
 
   pub keys-returns : (options : Bor KeysOptions) (page : PageAsked) → asked ≡ task.Keys options page
       → IsTask subject asked

@@ -22,7 +22,7 @@ use Rattle.nj_ask.specs.Given.{MisusesAffected, TakesAffected}
 use Rattle.nj_ask.specs.KnownGraphs.{KnowsGraph, LacksGraph, Sources, sources_of}
 use Rattle.nj_ask.specs.OptionFiles.{LacksNamedFiles, NamedFiles, ReadsNamedFiles}
 use Rattle.nj_ask.specs.Stales.{AnswersStale, stale_misuse}
-use Rattle.nj_ask.specs.Times.{AnswersTimes}
+use Rattle.nj_ask.specs.Times.{AnswersTimes, times_misuse}
 
 -- ---- by its graph
 
@@ -53,7 +53,7 @@ Misuses json line = ⊥
 Misuses (keys options) line = keys_misuse options ≡ Some line
 Misuses (stale options) line = stale_misuse options ≡ Some line
 Misuses (tests options) line = MisusesTests options line
-Misuses (timings options) line = ⊥
+Misuses (timings options) line = times_misuse options ≡ Some line
 Misuses (why options) line = ⊥
 
 -- its options are not refused
@@ -65,7 +65,7 @@ IsTaken json = Unit {0}
 IsTaken (keys options) = keys_misuse options ≡ None
 IsTaken (stale options) = stale_misuse options ≡ None
 IsTaken (tests options) = TakesTests options
-IsTaken (timings options) = Unit {0}
+IsTaken (timings options) = times_misuse options ≡ None
 IsTaken (why options) = Unit {0}
 
 -- what is answered before anything is read

@@ -106,5 +106,6 @@ pub use Rattle.nj_stale.specs.Missing.{AreStated}
 pub use Rattle.nj_edges.specs.Edges.{is_named}
 pub use Rattle.nj_ask.specs.Statuses.{exit_code}
 pub use Rattle.std.specs.IoError.{error_kind}
-pub use Rattle.nj_ask.specs.Times.{AnswersTimes}
+pub use Rattle.nj_ask.specs.Times.{AnswersTimes, IsReportBy, edge_rules, times_misuse}
+pub use Rattle.nj_times.specs.Rules.{IsRuleReport}
 pub use Rattle.nj_graph.specs.Targets.{picked}

@@ -1,21 +1,37 @@
 -- The answer to `times`: where the time of a build went.
-use Rattle.std.specs.Prelude.{◌≡◌, false, Ok, Err, List, [], ℕ}
-use Rattle.nj_build_log.specs.Logs.{BuildLogModel}
+use Rattle.std.specs.Prelude.{◌≡◌, Bool, true, false, ◌&&◌, if◌then◌else◌, Option, Some, None, is_some, Ok, Err, List, [], ℕ, codes, length, map}
+use Rattle.std.specs.List.{range_with_len}
+use Rattle.nj_build_log.specs.Logs.{BuildLogModel, LineModel}
+use Rattle.nj_graph.specs.Built.{detail_at}
 use Rattle.nj_graph.specs.ReadingList.{ReadStatement}
 use Rattle.nj_graph.specs.declared.GraphFault.{GraphFault}
-use Rattle.nj_graph.specs.Graph.{GraphModel, edges_of}
+use Rattle.nj_graph.specs.Graph.{GraphModel, edges_of, rule_name}
 use Rattle.nj_needs.specs.Growing.{grown_targets}
 use Rattle.nj_questions.specs.Questions.{TimesModel}
 use Rattle.nj_times.specs.Reports.{IsReport}
+use Rattle.nj_times.specs.Rules.{IsRuleReport}
 use Rattle.nj_ask.specs.declared.discovered.DiscoveredGraph.{DiscoveredGraph}
 use Rattle.nj_ask.specs.declared.status.Status.TheVariants.{Fault}
 use Rattle.nj_ask.specs.Answers.{HasDepfileFault, IsClear, asked_targets}
-use Rattle.nj_ask.specs.Endings.{Ending, answered, fault_line, refused}
+use Rattle.nj_ask.specs.Endings.{Ending, answered, fault_line, program_line, refused}
 use Rattle.nj_ask.specs.Shape.{caveat_text}
 
 -- the targets and the validations of the edges that they need
 abbrev pub timed_files : GraphModel → (targets : List (List ℕ)) → List (List ℕ)
 timed_files g targets = grown_targets (edges_of g) targets
+
+-- the line about options that exclude each other: each has other lines in place of the critical path
+abbrev pub times_misuse : TimesModel → Option (List ℕ)
+times_misuse options = if is_some options.top && options.by_rule then Some (program_line (codes "--top excludes --by-rule")) else None
+
+-- the name of each edge's rule
+abbrev pub edge_rules : GraphModel → List (List ℕ)
+edge_rules g = map (λ edge. rule_name g.declarations.rules (detail_at g.built.details edge).rule) (range_with_len 0 (length (edges_of g)))
+
+-- the report on the edges that files need, by rules or not
+abbrev pub IsReportBy : (by_rule : Bool) → GraphModel → List LineModel → (files : List (List ℕ)) → TimesModel → (text : List ℕ) → Type 0
+IsReportBy false g lines files options text = IsReport (edges_of g) lines files options.top options.json text
+IsReportBy true g lines files options text = IsRuleReport (edges_of g) (edge_rules g) lines files options.json text
 
 -- `times`: the report on the edges that the targets need, by the graph with its discovered inputs and by the build log. As in `keys`, a
 -- needed depfile with a fault is refused.
@@ -28,5 +44,5 @@ pub data AnswersTimes (known : DiscoveredGraph) (entries : List ReadStatement) (
       → AnswersTimes known entries log options [] (refused line Fault)
   reported : {targets : List (List ℕ)} {text : List ℕ} → asked_targets known.graph options.targets ≡ Ok targets
       → IsClear known (timed_files known.graph targets)
-      → IsReport (edges_of known.graph) log.lines (timed_files known.graph targets) options.top options.json text
+      → IsReportBy options.by_rule known.graph log.lines (timed_files known.graph targets) options text
       → AnswersTimes known entries log options text (answered false (caveat_text known entries))

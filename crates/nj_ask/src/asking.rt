@@ -19,7 +19,7 @@ use crate::option_files::{OptionFiles, read_option_files};
 use crate::stale::{answer_stale, check_stale};
 use crate::status::Status;
 use crate::test_options::tests_asked;
-use crate::times::answer_times;
+use crate::times::{answer_times, check_times};
 use crate::why::answer_why;
 use nj_audit::{Kind, Kinds};
 use nj_build_log::BuildLog;
@@ -184,7 +184,10 @@ fn task_of<'q>(alloc: Global, subject: &'q Subject) -> Result<Task<'q>, Failure>
             Ok(globs) => Ok(Task::Tests(options, globs)),
             Err(failure) => Err(failure),
         },
-        Subject::Times(options) => Ok(Task::Times(options)),
+        Subject::Times(options) => match check_times(alloc, options) {
+            Ok(()) => Ok(Task::Times(options)),
+            Err(failure) => Err(failure),
+        },
         Subject::Why(options) => Ok(Task::Why(options)),
     }
 }

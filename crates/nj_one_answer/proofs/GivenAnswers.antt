@@ -21,6 +21,7 @@ use Rattle.nj_ask.specs.Audits.{audit_misuse}
 use Rattle.nj_ask.specs.Given.{folder_misuse, pattern_line, LeavesPaths, MisusesAffected, TakesAffected}
 use Rattle.nj_ask.specs.Given.MisusesAffected.{no_folder, no_glob}
 use Rattle.nj_ask.specs.Stales.{stale_misuse}
+use Rattle.nj_ask.specs.Times.{times_misuse}
 use Rattle.nj_ask.specs.ChosenTests.{MisusesTests, TakesTests, word_misuse}
 use Rattle.nj_ask.specs.ChosenTests.MisusesTests.{by_change, by_word}
 use Rattle.nj_one_answer.specs.Answers.{MisusedIsNotTaken, OneMisuse}
@@ -156,7 +157,7 @@ one-misuse good fault json line other is also = absurd is
 one-misuse good fault (keys options) line other is also = same_Some line other (sym is ∙ also)
 one-misuse good fault (stale options) line other is also = same_Some line other (sym is ∙ also)
 one-misuse good fault (tests options) line other is also = tests-misuse good fault options line other is also
-one-misuse good fault (timings options) line other is also = absurd is
+one-misuse good fault (timings options) line other is also = same_Some line other (sym is ∙ also)
 one-misuse good fault (why options) line other is also = absurd is
 
 pub misused-apart : GoodPatternsAreRead → MisusedIsNotTaken
@@ -167,5 +168,5 @@ misused-apart good json line is taken = absurd is
 misused-apart good (keys options) line is taken = some-or-none line (keys_misuse options) is taken
 misused-apart good (stale options) line is taken = some-or-none line (stale_misuse options) is taken
 misused-apart good (tests options) line is taken = tests-apart good options line is taken
-misused-apart good (timings options) line is taken = absurd is
+misused-apart good (timings options) line is taken = some-or-none line (times_misuse options) is taken
 misused-apart good (why options) line is taken = absurd is

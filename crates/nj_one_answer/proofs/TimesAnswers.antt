@@ -1,5 +1,6 @@
 -- Two answers of `times`.
-use Rattle.std.proofs.Common.{◌≡◌, ◌∙◌, ℕ, Bool, Option, Some, None, Result, List, refl, sym, ap, subst}
+use Rattle.std.proofs.Common.{◌≡◌, ◌∙◌, ℕ, Bool, true, false, Option, Some, None, Result, List, length, refl}
+use Rattle.std.proofs.Common.{sym, ap, subst}
 use Rattle.nj_build_log.specs.Logs.{BuildLogModel, LineModel}
 use Rattle.nj_edges.specs.Distances.{IsNeeded}
 use Rattle.nj_edges.specs.Edges.{EdgePaths}
@@ -8,6 +9,7 @@ use Rattle.nj_graph.specs.declared.GraphFault.{GraphFault}
 use Rattle.nj_graph.specs.Graph.{edges_of}
 use Rattle.nj_times.specs.Laws.{OneListIsSlowest, OnePathIsCritical}
 use Rattle.nj_times.specs.Reports.{AreShown, IsReport, commands_in, report_text}
+use Rattle.nj_times.specs.Rules.{AreSlowestRules, IsRuleReport, first_edges, rule_report_text, rule_sums}
 use Rattle.nj_times.specs.Slowest.{AreSlowest}
 use Rattle.nj_times.specs.Times.{durations_of}
 use Rattle.nj_questions.specs.Questions.{TimesModel}
@@ -16,7 +18,7 @@ use Rattle.nj_ask.specs.declared.status.Status.TheVariants.{Fault}
 use Rattle.nj_ask.specs.Answers.{HasDepfileFault, IsClear, asked_targets}
 use Rattle.nj_ask.specs.Endings.{Ending, answered, fault_line, refused}
 use Rattle.nj_ask.specs.Shape.{caveat_text}
-use Rattle.nj_ask.specs.Times.{AnswersTimes, timed_files}
+use Rattle.nj_ask.specs.Times.{AnswersTimes, IsReportBy, edge_rules, timed_files}
 use Rattle.nj_ask.specs.Times.AnswersTimes.{no_target, no_depfile, reported}
 use Rattle.nj_one_answer.specs.Answers.{OneTimesAnswer}
 use Rattle.nj_one_answer.proofs.NeededFaults.{clear-or-fault, fault-lines-agree}
@@ -55,6 +57,28 @@ module _ (one-path : OnePathIsCritical) (one-list : OneListIsSlowest) (edges : L
       ∙ ap (report_text edges durations is_json (commands_in edges also.needed) also.path) shown
       ∙ sym also.text_is
 
+  -- by the rules of edges
+  pub rule-reports-agree : (rules : List (List ℕ)) (is_json : Bool) (text other : List ℕ)
+      → IsRuleReport edges rules lines files is_json text → IsRuleReport edges rules lines files is_json other
+      → text ≡ other
+  rule-reports-agree rules is_json text other is also =
+      let needed : is.needed ≡ also.needed = rising-agree (IsNeeded edges files) is.needed also.needed
+      is.are_needed is.rises also.are_needed also.rises in
+      let path : is.path ≡ also.path =
+      one-path edges files durations is.path also.path is.critical also.critical in
+      let commands = commands_in edges also.needed in
+      let shown : is.shown ≡ also.shown =
+      one-list (rule_sums rules durations commands) (first_edges rules commands)
+      (length (first_edges rules commands)) is.shown also.shown
+      (subst (λ ns. AreSlowestRules rules durations (commands_in edges ns) is.shown) needed is.are_shown)
+      also.are_shown in
+      is.text_is
+      ∙ ap (λ ns. rule_report_text edges rules durations is_json (commands_in edges ns) is.path is.shown)
+      needed
+      ∙ ap (λ p. rule_report_text edges rules durations is_json commands p is.shown) path
+      ∙ ap (rule_report_text edges rules durations is_json commands also.path) shown
+      ∙ sym also.text_is
+
 -- ---- answers
 
 abbrev Same : (output other : List ℕ) (ending end : Ending) → Type 0
@@ -67,6 +91,17 @@ module _ (one-path : OnePathIsCritical) (one-list : OneListIsSlowest) (known : D
 
   abbrev asked : (targets : List (List ℕ)) → List (List ℕ)
   asked targets = timed_files known.graph targets
+
+  texts-agree : (by_rule : Bool) (files : List (List ℕ)) (output other : List ℕ)
+      → IsReportBy by_rule known.graph log.lines files options output
+      → IsReportBy by_rule known.graph log.lines files options other → output ≡ other
+  texts-agree true files output other is also =
+      rule-reports-agree one-path one-list (edges_of known.graph) log.lines files (edge_rules known.graph)
+      options.json output other is also
+  texts-agree false files output other is also =
+      reports-agree one-path one-list (edges_of known.graph) log.lines files options.top options.json output
+          other
+      is also
 
   answers-agree : (output other : List ℕ) (ending end : Ending)
       → AnswersTimes known entries log options output ending
@@ -97,10 +132,8 @@ module _ (one-path : OnePathIsCritical) (one-list : OneListIsSlowest) (known : D
       (subst (λ ps. IsClear known (asked ps)) (same-ok meant p1 p2 at1 at2) clear1) has2)
   answers-agree output other _ _ (reported {targets = p1} at1 clear1 is1)
       (reported {targets = p2} at2 clear2 is2) = (
-        reports-agree one-path one-list (edges_of known.graph) log.lines (asked p2) options.top options.json
-            output other
-            (subst (λ ps. IsReport (edges_of known.graph) log.lines (asked ps) options.top options.json
-            output)
+        texts-agree options.by_rule (asked p2) output other
+            (subst (λ ps. IsReportBy options.by_rule known.graph log.lines (asked ps) options output)
             (same-ok meant p1 p2 at1 at2) is1) is2,
         refl,
       )

@@ -121,16 +121,21 @@ stale_json_row : question_of (codes "stale" ∷ codes "--json" ∷ []) ≡ judge
 unfolding question_of command clap_on_literals
 stale_json_row = refl
 
-times_row : question_of (codes "times" ∷ []) ≡ timed (record { targets = []; top = None; json = false })
+times_row : question_of (codes "times" ∷ []) ≡ timed (record { targets = []; top = None; by_rule = false; json = false })
 unfolding question_of command clap_on_literals
 times_row = refl
 
 times_options_row : question_of (codes "times" ∷ codes "app" ∷ codes "--json" ∷ codes "--top" ∷ codes "9" ∷
     codes
     "lib" ∷ [])
-    ≡ timed (record { targets = codes "app" ∷ codes "lib" ∷ []; top = Some 9; json = true })
+    ≡ timed (record { targets = codes "app" ∷ codes "lib" ∷ []; top = Some 9; by_rule = false; json = true })
 unfolding question_of command clap_on_literals
 times_options_row = refl
+
+times_by_rule_row : question_of (codes "times" ∷ codes "--by-rule" ∷ [])
+    ≡ timed (record { targets = []; top = None; by_rule = true; json = false })
+unfolding question_of command clap_on_literals
+times_by_rule_row = refl
 
 -- ---- a directory before the subcommand
 

@@ -102,6 +102,7 @@ abbrev pub times_in : List Row → TimesModel
 times_in rows = record {
   targets = values_in (codes "targets") rows;
   top = number_in (codes "top") rows;
+  by_rule = is_on (codes "by-rule") rows;
   json = is_on (codes "json") rows;
 }
 

@@ -207,6 +207,8 @@ pub struct TimesOptions {
     pub targets: Vec<String>,
     /// `--top N`: at most this many commands, the slowest ones, instead of the critical path.
     pub top: Option<usize>,
+    /// `--by-rule`: a line for each rule, instead of the critical path.
+    pub by_rule: bool,
     /// `--json`: the lines are objects of JSON.
     pub json: bool,
 }

@@ -357,11 +357,16 @@ a command that ran several times the last time counts.
   ninja-graph times -C build --top 10",
 };
 
-pub const TIMES_OPTIONS: [Entry; 3] = [
+pub const TIMES_OPTIONS: [Entry; 4] = [
     (
         "top",
         Form::Number("N"),
         "Write the N slowest commands instead of the critical path",
+    ),
+    (
+        "by-rule",
+        Form::Flag,
+        "Write the sum and the slowest command of each rule instead of the critical path",
     ),
     ("json", Form::Flag, "Write an object of JSON for each line"),
     (

@@ -135,6 +135,7 @@ fn times_in(alloc: Global, options: &ArgMatches<'_>) -> Result<TimesOptions, All
     Ok(TimesOptions {
         targets: values_in(alloc, options, "targets")?,
         top: count_in(options, "top"),
+        by_rule: is_on(options, "by-rule"),
         json: is_on(options, "json"),
     })
 }

@@ -34,6 +34,7 @@ use Rattle.nj_ask.specs.Inside.Failures.{Returns}
 use Rattle.nj_ask.specs.KnownGraphs.{Sources}
 use Rattle.nj_ask.specs.OptionFiles.{NamedFiles}
 use Rattle.nj_ask.specs.Stales.{stale_misuse}
+use Rattle.nj_ask.specs.Times.{times_misuse}
 
 -- ---- what is asked
 
@@ -70,7 +71,7 @@ IsTask subject (task.Keys options page) = (subject ≡ keys (keys_model options.
 IsTask subject (task.Stale options) = (subject ≡ stale (stale_model options.now)) × (stale_misuse (stale_model options.now) ≡ None)
 IsTask subject (task.Tests options globs) =
     (subject ≡ tests (tests_model options.now)) × AreTestsAsked (tests_model options.now) globs.items
-IsTask subject (task.Times options) = subject ≡ timings (times_model options.now)
+IsTask subject (task.Times options) = (subject ≡ timings (times_model options.now)) × (times_misuse (times_model options.now) ≡ None)
 IsTask subject (task.Why options) = subject ≡ why (why_model options.now)
 
 -- a task with accepted options

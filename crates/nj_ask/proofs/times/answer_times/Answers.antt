@@ -3,10 +3,9 @@ use Rattle.nj_edges.specs.EdgeGraphs.{EdgeGraph}
 use Rattle.nj_graph.specs.Files.{path_at}
 use Rattle.nj_graph.specs.Graph.{GraphModel, edges_of, files_of}
 use Rattle.nj_questions.specs.Questions.{times_model}
-use Rattle.nj_times.specs.Reports.{IsReport}
 use Rattle.nj_ask.specs.Answers.{HasDepfileFault, IsClear, asked_targets}
 use Rattle.nj_ask.specs.Endings.{answered}
-use Rattle.nj_ask.specs.Times.{AnswersTimes, timed_files}
+use Rattle.nj_ask.specs.Times.{AnswersTimes, IsReportBy, timed_files}
 use Rattle.nj_ask.specs.Times.AnswersTimes.{reported}
 use Rattle.nj_ask.specs.Inside.AnswerParts.{SaysErr}
 use Rattle.nj_ask.specs.declared.status.Status.TheVariants.{Fault}
@@ -63,10 +62,8 @@ returns c entries graph =
     ∙ asked)
     c.in-Ok-check_depfiles.ensures.clear in
     let text = c.in_ok-output.output.items in
-    let written = subst (λ (ps : List (List ℕ)). IsReport (edges_of known.graph) log.lines ps options.top
-    options.json text)
-    (ap (map (path_at (files_of known.graph))) c.deref-5.ensures.value ∙ asked)
-    (subst (λ (v : EdgeGraph). IsReport v.edges log.lines (map (path_at v.files) c.deref-5.result.now)
-    options.top options.json text) c.deref-4.ensures c.in_ok-output.ensures) in
+    let written = subst (λ (ps : List (List ℕ)). IsReportBy options.by_rule known.graph log.lines ps options
+        text)
+    (ap (map (path_at (files_of known.graph))) c.deref-4.ensures.value ∙ asked) c.in_ok-output.ensures in
     subst (λ (warnings : List ℕ). AnswersTimes known entries log options text (answered false warnings))
     (sym (c.in_ok-warnings.ensures entries graph)) (reported are clear written)
