@@ -25,7 +25,7 @@ _ninja_graph_options() {
         audit) echo '--all --only --except --json --list' ;;
         keys) echo '--base --with --with-file --take --resume --all' ;;
         stale) echo '--why --json --no-manifest' ;;
-        times) echo '--top --by-rule --json' ;;
+        times) echo '--top --by-rule --dead --json' ;;
         tests)
             echo '--ctest --meson --source-dir -z --ignore --ignore-unknown --allow-empty --format --why --json --unnamed'
             ;;

@@ -137,6 +137,7 @@ complete -c ninja-graph -n '__ninja_graph_is stale' -l no-manifest \
 
 complete -c ninja-graph -n '__ninja_graph_is times' -l top -x -d 'The slowest commands, at most so many'
 complete -c ninja-graph -n '__ninja_graph_is times' -l by-rule -d 'The sum and the slowest command of each rule'
+complete -c ninja-graph -n '__ninja_graph_is times' -l dead -d 'The outputs that the manifest no longer has'
 complete -c ninja-graph -n '__ninja_graph_is times' -l json -d 'An object of JSON for each line'
 
 complete -c ninja-graph -n '__ninja_graph_is tests' -l ctest -r -F -d 'What ctest --show-only=json-v1 wrote'

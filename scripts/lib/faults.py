@@ -97,6 +97,8 @@ USAGE_FAULTS = {
         rb"ninja-graph: '.*' of --base is not absolute\n",
         rb"ninja-graph: --json excludes --why\n",
         rb"ninja-graph: --top excludes --by-rule\n",
+        rb"ninja-graph: --top excludes --dead\n",
+        rb"ninja-graph: --by-rule excludes --dead\n",
         rb"ninja-graph: unknown kind '.*'; ninja-graph audit --list lists the kinds\n",
         rb"ninja-graph: --deps-log is now --deps, which reads depfiles and times too\n",
         rb"error: (?!out of memory).*\n",

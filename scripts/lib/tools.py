@@ -307,7 +307,7 @@ GRAPH_TOOLS = {
         (f"--ctest={LIST}",),
         looks=((ANYTHING, LINES),),
     ),
-    "times": Tool({"--top": "N", "--by-rule": None, "--json": None}, looks=((LINES, CAVEATS),)),
+    "times": Tool({"--top": "N", "--by-rule": None, "--dead": None, "--json": None}, looks=((LINES, CAVEATS),)),
     "why": Tool({"--validations": None, "--no-order-only": None}, ("test", "text/words.c"), ((NOTHING, NOTHING),)),
 }
 GRAPH_RUNS = {
@@ -345,8 +345,12 @@ GRAPH_RUNS = {
         "times",
         "times --top 2 --json b1 a^",
         "times --by-rule",
+    "times --dead",
         "times --by-rule --json b1 a^",
         "times --by-rule --top 2",
+        "times --dead",
+        "times --dead --json",
+        "times --dead --by-rule",
         "times nothing",
         "why d a",
         "why a d",

@@ -105,6 +105,23 @@ def sleeps(graph, folder):
     yield from expect("--json", [json.loads(line) for line in ran.output.splitlines()], [first, *chain])
 
 
+@check(needs=["ninja"])
+def dead_outputs(graph, folder):
+    """The outputs that --dead writes are those that Ninja deletes."""
+    rule = "rule mk\n  command = touch $out\n"
+    outputs = "old", "kept", "input", "check", "gone"
+    write_files(folder, {MAIN: rule + "".join(f"build {output}: mk\n" for output in outputs)})
+    NINJA.run([], folder)
+    write_files(folder, {MAIN: rule + "build kept: mk input |@ check\n"})
+    (folder / "gone").unlink()
+    before = {path.name for path in folder.iterdir()}
+    ran = graph.run(["times", "--dead"], folder).as_text()
+    found = sorted(ran.output.splitlines())
+    yield from expect("--dead", (ran.status, found), (DONE, ["check", "old"]))
+    NINJA.run(["-t", "cleandead"], folder)
+    yield from expect("deleted by Ninja", sorted(before - {path.name for path in folder.iterdir()}), found)
+
+
 # The example of the page: its manifest, the times that the text states, and what the program writes.
 MANIFEST = re.compile(r"^```ninja\n(rule cc\n.*?)^```$", re.M | re.S)
 LOG = "# ninja log v5\n0\t500\t1\tmain.o\t1\n0\t1250\t1\twords.o\t1\n1250\t1553\t1\tapp\t1\n"

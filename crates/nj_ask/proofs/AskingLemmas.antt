@@ -48,7 +48,7 @@ use Rattle.nj_ask.specs.Endings.Ends.{ended, output_fails}
 use Rattle.nj_ask.specs.KnownGraphs.{Sources, sources_of}
 use Rattle.nj_ask.specs.OptionFiles.{NamedFiles}
 use Rattle.nj_ask.specs.Stales.{AnswersStale}
-use Rattle.nj_ask.specs.Times.{AnswersTimes}
+use Rattle.nj_ask.specs.Times.{AnswersTimings}
 use Rattle.nj_ask.specs.Inside.Asking.{IsTask, LeavesAnswer, LeavesTold}
 use Rattle.nj_ask.specs.Inside.Asking.LeavesAnswer.{answers, lacks_log, lacks_memory as no_memory}
 use Rattle.nj_ask.specs.Inside.Asking.LeavesTold.{tells, tells_memory, tells_why}
@@ -170,7 +170,9 @@ module _ (known : DiscoveredGraph) (entries : List ReadStatement) (log : BuildLo
   stale-returns options same is returns = rw (subst (IsTask subject) same is).0 returns
 
   pub times-returns : (options : Bor TimesOptions) → asked ≡ task.Times options → IsTask subject asked
-      → Returns (AnswersTimes known entries log (times_model options.now)) old new reported
+      → Returns (AnswersTimings (times_model options.now).dead known entries log times
+      (times_model options.now)) old new
+      reported
       → Returns (Answers known entries log times folder subject named input) old new reported
   times-returns options same is returns = rw (subst (IsTask subject) same is).0 returns
 

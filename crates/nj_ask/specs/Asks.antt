@@ -22,7 +22,7 @@ use Rattle.nj_ask.specs.Given.{MisusesAffected, TakesAffected}
 use Rattle.nj_ask.specs.KnownGraphs.{KnowsGraph, LacksGraph, Sources, sources_of}
 use Rattle.nj_ask.specs.OptionFiles.{LacksNamedFiles, NamedFiles, ReadsNamedFiles}
 use Rattle.nj_ask.specs.Stales.{AnswersStale, stale_misuse}
-use Rattle.nj_ask.specs.Times.{AnswersTimes, times_misuse}
+use Rattle.nj_ask.specs.Times.{AnswersTimings, times_misuse}
 
 -- ---- by its graph
 
@@ -41,7 +41,8 @@ Answers known entries log times folder (stale options) named input output ending
     AnswersStale known entries log times options output ending
 Answers known entries log times folder (tests options) named input output ending =
     AnswersTests known entries folder options named.tests input output ending
-Answers known entries log times folder (timings options) named input output ending = AnswersTimes known entries log options output ending
+Answers known entries log times folder (timings options) named input output ending =
+    AnswersTimings options.dead known entries log times options output ending
 Answers known entries log times folder (why options) named input output ending = AnswersWhy known entries options output ending
 
 -- its options are refused before anything is read, and a line says why

@@ -5,7 +5,7 @@ pub use Rattle.nj_ask.specs.Answers.{keys_misuse, mark_misuse, AnswersWhy, neede
 pub use Rattle.nj_ask.specs.Inside.Asking.{AreGlobsAsked, LeavesAnswer, named_files, AnswersTask, IsGiven, IsTask, AreTestsAsked}
 pub use Rattle.nj_ask.specs.Inside.Failures.{Gives, Delivers, WritesAnswer, ConcludesTold, FailsBy, SaysFault, Returns, Stops}
 pub use Rattle.nj_ask.specs.Inside.Findings.{HasEdges, AreFindingsOf, text_if_faulty, if_doubtful, if_faulty}
-pub use Rattle.nj_graph.specs.Graph.{OfStatements, files_of, IsGraphOf, edges_of, rule_name}
+pub use Rattle.nj_graph.specs.Graph.{OfStatements, files_of, edges_of, IsGraphOf, rule_name}
 pub use Rattle.nj_questions.specs.Questions.{affected_model, SubjectModel, question_model, subject_model, audit_model, tests_model}
 pub use Rattle.nj_questions.specs.Questions.{draw_model, asked_graph, keys_model, stale_model, times_model, why_model}
 pub use Rattle.nj_ask.specs.Inside.Lent.{asked_of, change_model, texts}
@@ -47,21 +47,23 @@ pub use Rattle.nj_ask.specs.ChosenTests.{unnamed_misuse, word_misuse}
 pub use Rattle.nj_changes.specs.Tables.{SameNames}
 pub use Rattle.nj_text.specs.Calls.{is_empty}
 pub use Rattle.nj_tests.specs.Tests.{test_model}
+pub use Rattle.nj_ask.specs.DeadAnswers.{AnswersDead, ListsDead, dead_line, unread_line}
+pub use Rattle.nj_discovered.specs.Times.{DeclaredTimes}
+pub use Rattle.serde_json.specs.Written.{compact_text}
+pub use Rattle.nj_times.specs.Dead.{dead_outputs}
+pub use Rattle.serde_json.specs.Data.{string, unsigned}
+pub use Rattle.std.specs.Str.Lossy.{utf8_lossy}
 pub use Rattle.nj_graph.specs.Files.{path_at}
 pub use Rattle.nj_scope.specs.Sources.{outcome_bytes, SourceState}
 pub use Rattle.nj_deps.specs.Logs.{IsLogFault, IsLogOf, opening, LogModel}
 pub use Rattle.nj_ask.specs.Affected.{line, is_asked_for, is_of_rules, line_of_output, lines_of_outputs, rule_names, unknown_rule}
 pub use Rattle.nj_ask.specs.LogsRead.{LacksLog, ReadsBytes, ReadsLog, cut_line, log_path, own_path}
 pub use Rattle.nj_ask.specs.Inside.LogSteps.{IsUnreadable, LacksAt, ReadsAt}
-pub use Rattle.nj_discovered.specs.Times.{DeclaredTimes}
 pub use Rattle.nj_graph.specs.Discovering.{AreDiscovered}
 pub use Rattle.nj_ask.specs.DiscoveredGraphs.{JoinsDiscovered, depfile_text, doubt_line, doubt_lines, fault_texts, no_time_line}
 pub use Rattle.nj_ask.specs.DiscoveredGraphs.{doubtful_edges, edge_discoveries, faulty_edges, state_of, IsTouched}
 pub use Rattle.nj_ask.specs.Joined.{Follows, HasDoubtfulEdges}
 pub use Rattle.nj_ask.specs.DrawingLaws.{EndsAreDrawn, NeededAreDrawn, NodesAreDistinct, NodesAreLimited}
-pub use Rattle.serde_json.specs.Data.{string, unsigned}
-pub use Rattle.serde_json.specs.Written.{compact_text}
-pub use Rattle.std.specs.Str.Lossy.{utf8_lossy}
 pub use Rattle.nj_audit.specs.Findings.{finding_model}
 pub use Rattle.nj_ask.specs.Given.{folder_misuse, given_paths, pattern_line, MisusesAffected}
 pub use Rattle.nj_ask.specs.Inside.AnswerParts.{SaysPattern, IsPageOf, SaysErr, base_misuse}
@@ -106,6 +108,6 @@ pub use Rattle.nj_stale.specs.Missing.{AreStated}
 pub use Rattle.nj_edges.specs.Edges.{is_named}
 pub use Rattle.nj_ask.specs.Statuses.{exit_code}
 pub use Rattle.std.specs.IoError.{error_kind}
-pub use Rattle.nj_ask.specs.Times.{AnswersTimes, IsReportBy, edge_rules, times_misuse}
+pub use Rattle.nj_ask.specs.Times.{AnswersTimes, AnswersTimings, IsReportBy, edge_rules, times_misuse}
 pub use Rattle.nj_times.specs.Rules.{IsRuleReport}
 pub use Rattle.nj_graph.specs.Targets.{picked}

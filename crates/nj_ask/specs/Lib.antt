@@ -30,6 +30,7 @@ pub mod SameFiles
 pub mod Shape
 pub mod StaleObjects
 pub mod Stales
+pub mod DeadAnswers
 pub mod Times
 pub mod Statuses
 pub mod TestLists

@@ -19,7 +19,7 @@ use crate::option_files::{OptionFiles, read_option_files};
 use crate::stale::{answer_stale, check_stale};
 use crate::status::Status;
 use crate::test_options::tests_asked;
-use crate::times::{answer_times, check_times};
+use crate::times::{answer_timings, check_times};
 use crate::why::answer_why;
 use nj_audit::{Kind, Kinds};
 use nj_build_log::BuildLog;
@@ -314,7 +314,7 @@ fn perform<T: FileTimes, O: Sink>(
                 answer_tests(alloc, known, folder, options, globs, &named.tests, input),
             )
         }
-        Task::Times(options) => deliver(out, answer_times(alloc, known, log, options)),
+        Task::Times(options) => deliver(out, answer_timings(alloc, known, log, times, options)),
         Task::Why(options) => deliver(out, answer_why(alloc, known, options)),
     }
 }

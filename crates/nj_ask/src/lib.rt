@@ -11,6 +11,7 @@ mod build_logs;
 mod chains;
 mod changes;
 mod chosen_tests;
+mod dead;
 mod depfiles;
 mod deps_log;
 mod discovered;

@@ -1,9 +1,10 @@
 //! The answer to `times`.
 
 ghost use Rattle.std.specs.Prelude.{◌≡◌, ◌<◌, All, IfErr, IfOk, None, Some, length, map};
-ghost use Rattle.nj_ask.specs.Cited.{AnswersTimes, FailsBy, Gives, IsReportBy, IsRuleReport, OfStatements, Usage, edge_rules, edges_of, files_of, path_at, times_misuse, times_model};
+ghost use Rattle.nj_ask.specs.Cited.{AnswersTimes, AnswersTimings, FailsBy, Gives, IsReportBy, IsRuleReport, OfStatements, Usage, edge_rules, edges_of, files_of, path_at, program_line, times_misuse, times_model};
 
 use crate::answer::Answer;
+use crate::dead::answer_dead;
 use crate::depfiles::check_depfiles;
 use crate::discovered::DiscoveredGraph;
 use crate::failure::Failure;
@@ -11,7 +12,7 @@ use crate::keys::targets_asked;
 use crate::shape::caveat_lines;
 use crate::status::Status;
 use nj_build_log::BuildLog;
-use nj_graph::{EdgeNo, FileNo, Graph};
+use nj_graph::{EdgeNo, FileNo, FileTimes, Graph};
 use nj_needs::grow_targets;
 use nj_questions::TimesOptions;
 use nj_times::{report, rule_report};
@@ -23,20 +24,52 @@ pub(crate) fn check_times(alloc: Global, options: &TimesOptions) -> Result<(), F
     ensures refused { IfErr result (FailsBy Usage (λ line.
         times_misuse (times_model options.now) ≡ Some line)) }
 {
-    if options.top.is_some() && options.by_rule {
-        let text = b"--top excludes --by-rule";
-        return Err(Failure::in_words(alloc, b"", text, b"", Status::Usage));
+    let has_top = options.top.is_some();
+    if has_top && options.by_rule {
+        return Err(excluded(alloc, b"--top excludes --by-rule"));
+    }
+    if has_top && options.dead {
+        return Err(excluded(alloc, b"--top excludes --dead"));
+    }
+    if options.by_rule && options.dead {
+        return Err(excluded(alloc, b"--by-rule excludes --dead"));
     }
     Ok(())
 }
 
-/// Where the time of a build of the targets went.
+// The failure that reports options that exclude each other.
+fn excluded(alloc: Global, text: &[u8]) -> Failure
+    ensures { FailsBy Usage (λ line. line ≡ program_line text.now) result }
+{
+    Failure::in_words(alloc, b"", text, b"", Status::Usage)
+}
+
+/// Where the time of a build of the targets went; or which outputs of the log are dead.
 ///
 /// # Errors
 ///
-/// `Refused` if a word names no file, or if a needed depfile has a fault; and `OutOfMemory` if an
-/// allocation failed.
-pub(crate) fn answer_times(
+/// Those of `answer_times`, and of `answer_dead`.
+pub(crate) fn answer_timings<T: FileTimes>(
+    alloc: Global,
+    known: &DiscoveredGraph,
+    log: &BuildLog,
+    times: &T,
+    options: &TimesOptions,
+) -> Result<Answer, Failure>
+    ensures { OfStatements known.now.graph (λ entries. Gives (AnswersTimings options.now.dead
+        known.now entries log.now (T.times times.now) (times_model options.now)) result) }
+{
+    if options.dead {
+        return answer_dead(alloc, known, log, times, options.json);
+    }
+    answer_times(alloc, known, log, options)
+}
+
+// Where the time of a build of the targets went.
+//
+// Errors: `Refused` if a word names no file, or if a needed depfile has a fault; and `OutOfMemory`
+// if an allocation failed.
+fn answer_times(
     alloc: Global,
     known: &DiscoveredGraph,
     log: &BuildLog,

@@ -71,7 +71,7 @@ use Rattle.nj_ask.specs.Stales.AnswersBuild.{manifest_stops, remade, target_stop
 use Rattle.nj_ask.specs.Stales.AnswersStale.{no_target as unjudged_target, no_depfile as unjudged_depfile}
 use Rattle.nj_ask.specs.Stales.AnswersStale.{no_time, judged}
 use Rattle.nj_ask.specs.Stales.WritesStale.{lines as plain_lines, objects as json_objects}
-use Rattle.nj_ask.specs.Times.{AnswersTimes}
+use Rattle.nj_ask.specs.Times.{AnswersTimes, AnswersTimings}
 use Rattle.nj_ask.specs.Times.AnswersTimes.{no_target as untimed_target, no_depfile as untimed_depfile}
 use Rattle.nj_ask.specs.Times.AnswersTimes.{reported as timed}
 use Rattle.nj_one_answer.specs.Answers.{SameKnown, SameKnownHaveSameAnswers}
@@ -489,6 +489,18 @@ module _ (one other : DiscoveredGraph) (same : SameKnown one other) where
       subst (λ (c : List ℕ). AnswersTimes mid entries log options output (answered false c)) (caveats entries)
       (timed at (clear _ fine) is)
 
+  timings-move : (dead : Bool) (entries : List ReadStatement) (log : BuildLogModel) (times : DeclaredTimes)
+      (options : TimesModel) (output : List ℕ) (ending : Ending)
+      → AnswersTimings dead one entries log times options output ending
+      → AnswersTimings dead mid entries log times options output ending
+  timings-move false entries log times options output ending is =
+      times-move entries log options output ending is
+  timings-move true entries log times options output ending is = record {
+    warnings = is.warnings;
+    lists = is.lists;
+    ending_is = is.ending_is ∙ ap (λ (c : List ℕ). answered false (is.warnings ++ c)) (sym (caveats entries));
+  }
+
   moves : (entries : List ReadStatement) (log : BuildLogModel) (times : DeclaredTimes) (folder : List ℕ)
       (subject : SubjectModel)
       (named : NamedFiles) (input output : List ℕ) (ending : Ending)
@@ -508,7 +520,7 @@ module _ (one other : DiscoveredGraph) (same : SameKnown one other) where
   moves entries log times folder (tests options) named input output ending is =
       tests-move entries folder options named.tests input output ending is
   moves entries log times folder (timings options) named input output ending is =
-      times-move entries log options output ending is
+      timings-move options.dead entries log times options output ending is
   moves entries log times folder (why options) named input output ending is =
       why-moves entries options output ending is
 

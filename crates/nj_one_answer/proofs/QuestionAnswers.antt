@@ -41,7 +41,7 @@ one-answer a u d j k s t m w known entries log times folder (tests options) name
     t known entries folder options named.tests input output other ending end is also
 one-answer a u d j k s t m w known entries log times folder (timings options) named input output other ending
     end graph tells is also =
-    m known entries log options output other ending end is also
+    m known entries log times options tells output other ending end is also
 one-answer a u d j k s t m w known entries log times folder (why options) named input output other ending
     end graph tells is
     also =

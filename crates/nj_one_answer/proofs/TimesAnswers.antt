@@ -1,12 +1,14 @@
 -- Two answers of `times`.
 use Rattle.std.proofs.Common.{◌≡◌, ◌∙◌, ℕ, Bool, true, false, Option, Some, None, Result, List, length, refl}
-use Rattle.std.proofs.Common.{sym, ap, subst}
+use Rattle.std.proofs.Common.{sym, ap, ap₂, subst, ◌++◌}
+use Rattle.nj_discovered.specs.Times.{DeclaredTimes, IsTimeOf}
 use Rattle.nj_build_log.specs.Logs.{BuildLogModel, LineModel}
 use Rattle.nj_edges.specs.Distances.{IsNeeded}
 use Rattle.nj_edges.specs.Edges.{EdgePaths}
 use Rattle.nj_scope.specs.ReadingList.{ReadStatement}
 use Rattle.nj_graph.specs.declared.GraphFault.{GraphFault}
 use Rattle.nj_graph.specs.Graph.{edges_of}
+use Rattle.nj_times.specs.Dead.{dead_outputs}
 use Rattle.nj_times.specs.Laws.{OneListIsSlowest, OnePathIsCritical}
 use Rattle.nj_times.specs.Reports.{AreShown, IsReport, commands_in, report_text}
 use Rattle.nj_times.specs.Rules.{AreSlowestRules, IsRuleReport, first_edges, rule_report_text, rule_sums}
@@ -18,11 +20,16 @@ use Rattle.nj_ask.specs.declared.status.Status.TheVariants.{Fault}
 use Rattle.nj_ask.specs.Answers.{HasDepfileFault, IsClear, asked_targets}
 use Rattle.nj_ask.specs.Endings.{Ending, answered, fault_line, refused}
 use Rattle.nj_ask.specs.Shape.{caveat_text}
-use Rattle.nj_ask.specs.Times.{AnswersTimes, IsReportBy, edge_rules, timed_files}
+use Rattle.nj_ask.specs.DeadAnswers.{ListsDead, dead_line, unread_line}
+use Rattle.nj_ask.specs.DeadAnswers.ListsDead.{none, last}
+use Rattle.nj_ask.specs.Times.{AnswersTimes, AnswersTimings, IsReportBy, edge_rules, timed_files}
 use Rattle.nj_ask.specs.Times.AnswersTimes.{no_target, no_depfile, reported}
 use Rattle.nj_one_answer.specs.Answers.{OneTimesAnswer}
 use Rattle.nj_one_answer.proofs.NeededFaults.{clear-or-fault, fault-lines-agree}
 use Rattle.nj_one_answer.proofs.WhyAnswers.{ok-or-err, same-err, same-ok}
+use Rattle.nj_agreement.specs.Sources.{TellAll}
+use Rattle.nj_one_answer.proofs.AuditAnswers.{last-apart, last-same}
+use Rattle.nj_agreement.proofs.DeclaredAnswers.{answer-is}
 use Rattle.nj_agreement.proofs.ReachedAnswers.{rising-agree}
 
 -- ---- reports
@@ -138,6 +145,45 @@ module _ (one-path : OnePathIsCritical) (one-list : OneListIsSlowest) (known : D
         refl,
       )
 
+-- ---- dead outputs
+
+module _ (times : DeclaredTimes) (all : TellAll times) (is_json : Bool) where
+  lists-agree : (outputs outputs2 : List (List ℕ)) (text warnings text2 warnings2 : List ℕ)
+      → outputs ≡ outputs2
+      → ListsDead times is_json outputs text warnings → ListsDead times is_json outputs2 text2 warnings2
+      → (text ≡ text2) × (warnings ≡ warnings2)
+  lists-agree _ _ _ _ _ _ same none none = (refl, refl)
+  lists-agree _ _ _ _ _ _ same none (last {outputs = ps} {output = p} are is) = absurd (last-apart ps p same)
+  lists-agree _ _ _ _ _ _ same (last {outputs = ps} {output = p} are is) none =
+      absurd (last-apart ps p (sym same))
+  lists-agree _ _ _ _ _ _ same
+      (last {outputs = ps} {text = ts} {warnings = ws} {output = p} {found = a} are is)
+      (last {outputs = qs} {text = us} {warnings = vs} {output = q} {found = b} also it) =
+      let both = last-same ps qs p q same in
+      let front = lists-agree ps qs ts ws us vs both.0 are also in
+      let found : a ≡ b =
+      answer-is times all q a (subst (λ path. IsTimeOf times path a) both.1 is)
+          ∙ sym (answer-is times all q b it) in (
+        ap₂ (λ (t : List ℕ) (o : List ℕ). t ++ dead_line is_json o a) front.0 both.1
+            ∙ ap (λ f. us ++ dead_line is_json q f) found,
+        ap₂ (λ (t : List ℕ) (o : List ℕ). t ++ unread_line o a) front.1 both.1
+            ∙ ap (λ f. vs ++ unread_line q f) found,
+      )
+
 pub one-times-answer : OnePathIsCritical → OneListIsSlowest → OneTimesAnswer
-one-times-answer one-path one-list known entries log options output other ending end is also =
-    answers-agree one-path one-list known entries log options output other ending end is also
+one-times-answer one-path one-list known entries log times options all output other ending end is also =
+    by options.dead is also
+  where
+    by : (dead : Bool) → AnswersTimings dead known entries log times options output ending
+        → AnswersTimings dead known entries log times options other end → Same output other ending end
+    by false is also =
+        answers-agree one-path one-list known entries log options output other ending end is also
+    by true is also =
+        let outputs = dead_outputs (edges_of known.graph) log.lines in
+        let both = lists-agree times all options.json outputs outputs output is.warnings other also.warnings
+            refl
+        is.lists also.lists in (
+          both.0,
+          is.ending_is ∙ ap (λ (w : List ℕ). answered false (w ++ caveat_text known entries)) both.1
+              ∙ sym also.ending_is,
+        )

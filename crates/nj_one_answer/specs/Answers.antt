@@ -18,7 +18,7 @@ use Rattle.nj_ask.specs.DrawnNodes.{drawn_nodes}
 use Rattle.nj_ask.specs.Endings.{Ending}
 use Rattle.nj_ask.specs.OptionFiles.{NamedFiles}
 use Rattle.nj_ask.specs.Stales.{AnswersStale}
-use Rattle.nj_ask.specs.Times.{AnswersTimes}
+use Rattle.nj_ask.specs.Times.{AnswersTimings}
 use Rattle.nj_agreement.specs.Graphs.{SameButTies}
 use Rattle.nj_agreement.specs.Sources.{TellAll}
 
@@ -60,8 +60,8 @@ OneTestsAnswer = (known : DiscoveredGraph) (entries : List ReadStatement) (folde
 
 -- `times`
 abbrev pub OneTimesAnswer : Type 0
-OneTimesAnswer = (known : DiscoveredGraph) (entries : List ReadStatement) (log : BuildLogModel) (options : TimesModel)
-    → HasOneAnswer (AnswersTimes known entries log options)
+OneTimesAnswer = (known : DiscoveredGraph) (entries : List ReadStatement) (log : BuildLogModel) (times : DeclaredTimes)
+    (options : TimesModel) → TellAll times → HasOneAnswer (AnswersTimings options.dead known entries log times options)
 
 -- `why`
 abbrev pub OneWhyAnswer : Type 0

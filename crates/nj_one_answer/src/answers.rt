@@ -60,7 +60,8 @@ pub fn tests_answer_law()
     nj_globs::one_reading();
 }
 
-/// A graph, its statements, a build log and the options have one report of where the time went.
+/// A graph, its statements, a build log and the options have one report of where the time went, and
+/// one list of dead outputs, by times that are declared.
 pub fn times_answer_law()
     ensures { OneTimesAnswer }
 {

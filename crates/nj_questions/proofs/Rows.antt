@@ -121,21 +121,31 @@ stale_json_row : question_of (codes "stale" ∷ codes "--json" ∷ []) ≡ judge
 unfolding question_of command clap_on_literals
 stale_json_row = refl
 
-times_row : question_of (codes "times" ∷ []) ≡ timed (record { targets = []; top = None; by_rule = false; json = false })
+times_row : question_of (codes "times" ∷ []) ≡ timed (record { targets = []; top = None; by_rule = false; dead = false; json = false })
 unfolding question_of command clap_on_literals
 times_row = refl
 
 times_options_row : question_of (codes "times" ∷ codes "app" ∷ codes "--json" ∷ codes "--top" ∷ codes "9" ∷
     codes
     "lib" ∷ [])
-    ≡ timed (record { targets = codes "app" ∷ codes "lib" ∷ []; top = Some 9; by_rule = false; json = true })
+    ≡ timed (record { targets = codes "app" ∷ codes "lib" ∷ []; top = Some 9; by_rule = false; dead = false; json = true })
 unfolding question_of command clap_on_literals
 times_options_row = refl
 
 times_by_rule_row : question_of (codes "times" ∷ codes "--by-rule" ∷ [])
-    ≡ timed (record { targets = []; top = None; by_rule = true; json = false })
+    ≡ timed (record { targets = []; top = None; by_rule = true; dead = false; json = false })
 unfolding question_of command clap_on_literals
 times_by_rule_row = refl
+
+-- what the manifest itself has, without the inputs that builds discovered
+times_dead_row : question_of (codes "times" ∷ codes "--dead" ∷ [])
+    ≡ Ok (record {
+      folder = None;
+      graph = plain;
+      subject = timings (record { targets = []; top = None; by_rule = false; dead = true; json = false });
+    })
+unfolding question_of command clap_on_literals
+times_dead_row = refl
 
 -- ---- a directory before the subcommand
 

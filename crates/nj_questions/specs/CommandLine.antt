@@ -86,7 +86,8 @@ tests_options = long_option (codes "ctest") ∷ long_option (codes "meson") ∷ 
 
 -- the options of `times`
 abbrev pub times_options : List Rule
-times_options = number (codes "top") ∷ flag (codes "by-rule") ∷ flag (codes "json") ∷ words (codes "targets") ∷ []
+times_options = number (codes "top") ∷ flag (codes "by-rule") ∷ flag (codes "dead")
+    ∷ flag (codes "json") ∷ words (codes "targets") ∷ []
 
 -- the options of `why`
 abbrev pub why_options : List Rule

@@ -16,16 +16,16 @@ use Rattle.nj_questions.specs.declared.refusals.Refusal.TheVariants as refusal
 
 -- ---- the question of a subcommand and its rows
 
--- `stale` and `times` join the inputs that builds discovered even without `--deps`
-abbrev pub takes_deps : (name : List ℕ) → Bool
-takes_deps name = bytes_eq name (codes "stale") || bytes_eq name (codes "times")
+-- `stale` and `times` join the inputs that builds discovered even without `--deps`, but `times --dead` does not
+abbrev pub takes_deps : (name : List ℕ) → List Row → Bool
+takes_deps name rows = bytes_eq name (codes "stale") || (bytes_eq name (codes "times") && not (is_on (codes "dead") rows))
 
 -- the options that name the graph, of the subcommand with the given name
 abbrev pub graph_in : (name : List ℕ) → List Row → AskedGraph
 graph_in name rows = record {
   file = text_or (codes "file") (codes "build.ninja") rows;
   dyndep = is_on (codes "dyndep") rows;
-  deps = takes_deps name || is_on (codes "deps") rows;
+  deps = takes_deps name rows || is_on (codes "deps") rows;
   log = first_of (codes "deps-log-file") rows;
 }
 
@@ -103,6 +103,7 @@ times_in rows = record {
   targets = values_in (codes "targets") rows;
   top = number_in (codes "top") rows;
   by_rule = is_on (codes "by-rule") rows;
+  dead = is_on (codes "dead") rows;
   json = is_on (codes "json") rows;
 }
 

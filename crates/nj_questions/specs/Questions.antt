@@ -84,11 +84,13 @@ pub record TestsModel : Type 0 where
   pub json : Bool
   pub unnamed : Option (List ℕ)
 
--- `times`: the `top` slowest commands, or a line for each rule (`by_rule`), or the critical path; `json` asks for objects
+-- `times`: the `top` slowest commands, or a line for each rule (`by_rule`), or the outputs that the manifest no longer has (`dead`), or the
+-- critical path; `json` asks for objects
 pub record TimesModel : Type 0 where
   pub targets : List (List ℕ)
   pub top : Option ℕ
   pub by_rule : Bool
+  pub dead : Bool
   pub json : Bool
 
 -- `why`: the file that needs the other, and the file that is needed
@@ -225,6 +227,7 @@ times_model options = record {
   targets = map string_bytes options.targets.items;
   top = options.top;
   by_rule = options.by_rule;
+  dead = options.dead;
   json = options.json;
 }
 

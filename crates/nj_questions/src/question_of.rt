@@ -101,10 +101,10 @@ fn question_in(alloc: Global, name: &str, options: &ArgMatches<'_>) -> Result<Qu
 
 // Whether the subcommand with the given name joins the inputs that builds discovered even without
 // `--deps`.
-fn takes_deps(name: &str) -> bool
-    ensures { result ≡ takes_deps name.now }
+fn takes_deps(name: &str, options: &ArgMatches<'_>) -> bool
+    ensures { result ≡ takes_deps name.now (rows_in options.now) }
 {
-    name == "stale" || name == "times"
+    name == "stale" || (name == "times" && !is_on(options, "dead"))
 }
 
 // Returns the options that name the graph, of the subcommand with the given name.
@@ -115,7 +115,7 @@ fn graph_in(alloc: Global, name: &str, options: &ArgMatches<'_>) -> Result<Graph
     Ok(GraphOptions {
         file: text_or(alloc, options, "file", MAIN_FILE)?,
         dyndep: is_on(options, "dyndep"),
-        deps: takes_deps(name) || is_on(options, "deps"),
+        deps: takes_deps(name, options) || is_on(options, "deps"),
         log: text_in(alloc, options, "deps-log-file")?,
     })
 }

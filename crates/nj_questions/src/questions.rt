@@ -61,8 +61,8 @@ pub struct GraphOptions {
     pub file: String,
     /// `--dyndep`: whether what dyndep files discover is joined.
     pub dyndep: bool,
-    /// `--deps`: whether the inputs that builds discovered are joined. `stale` and `times` always join
-    /// them.
+    /// `--deps`: whether the inputs that builds discovered are joined. `stale` joins them even without
+    /// it, and so does `times` without `--dead`.
     pub deps: bool,
     /// `--deps-log-file FILE`: the same, with this deps log.
     pub log: Option<String>,
@@ -209,6 +209,8 @@ pub struct TimesOptions {
     pub top: Option<usize>,
     /// `--by-rule`: a line for each rule, instead of the critical path.
     pub by_rule: bool,
+    /// `--dead`: the outputs of the log that the manifest no longer has, instead.
+    pub dead: bool,
     /// `--json`: the lines are objects of JSON.
     pub json: bool,
 }

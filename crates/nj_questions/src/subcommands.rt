@@ -357,7 +357,7 @@ a command that ran several times the last time counts.
   ninja-graph times -C build --top 10",
 };
 
-pub const TIMES_OPTIONS: [Entry; 4] = [
+pub const TIMES_OPTIONS: [Entry; 5] = [
     (
         "top",
         Form::Number("N"),
@@ -367,6 +367,11 @@ pub const TIMES_OPTIONS: [Entry; 4] = [
         "by-rule",
         Form::Flag,
         "Write the sum and the slowest command of each rule instead of the critical path",
+    ),
+    (
+        "dead",
+        Form::Flag,
+        "Write the outputs that the manifest no longer has: those that ninja -t cleandead deletes",
     ),
     ("json", Form::Flag, "Write an object of JSON for each line"),
     (

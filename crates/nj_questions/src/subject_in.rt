@@ -136,6 +136,7 @@ fn times_in(alloc: Global, options: &ArgMatches<'_>) -> Result<TimesOptions, All
         targets: values_in(alloc, options, "targets")?,
         top: count_in(options, "top"),
         by_rule: is_on(options, "by-rule"),
+        dead: is_on(options, "dead"),
         json: is_on(options, "json"),
     })
 }

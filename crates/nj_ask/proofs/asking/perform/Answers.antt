@@ -10,7 +10,7 @@ use Rattle.nj_tests.specs.Tests.{test_model}
 use Rattle.nj_ask.proofs.AskingLemmas.{affected-returns, audit-returns, draw-returns, keys-returns}
 use Rattle.nj_ask.proofs.AskingLemmas.{stale-returns, tests-returns, times-returns, why-returns}
 use Rattle.nj_ask.specs.Stales.{AnswersStale}
-use Rattle.nj_ask.specs.Times.{AnswersTimes}
+use Rattle.nj_ask.specs.Times.{AnswersTimings}
 use Rattle.nj_ask.proofs.EndingLemmas.{returns-delivered}
 use Rattle.nj_ask.proofs.asking.perform.Goals as goal
 
@@ -82,8 +82,9 @@ returns-in-Times g c entries is subject asks =
     let known = c.args.known.now in
     let options = c.in-Times.options in
     times-returns known entries _ _ _ _ c.args.input.now _ _ _ subject c.args.task options c.in-Times.is asks
-    (returns-delivered (AnswersTimes known entries c.args.log.now (times_model options.now))
-    c.answer_times.result _ _ _ (c.answer_times.ensures entries is) c.deliver-in-Times.ensures)
+    (returns-delivered (AnswersTimings options.now.dead known entries c.args.log.now
+    (g.T.FileTimes.times c.args.times.now) (times_model options.now))
+    c.answer_timings.result _ _ _ (c.answer_timings.ensures entries is) c.deliver-in-Times.ensures)
 
 pub returns-in-Tests : goal.returns-in-Tests
 returns-in-Tests g c entries is subject asks =

@@ -63,7 +63,7 @@ returns c entries graph =
     c.in-Ok-check_depfiles.ensures.clear in
     let text = c.in_ok-output.output.items in
     let written = subst (λ (ps : List (List ℕ)). IsReportBy options.by_rule known.graph log.lines ps options
-        text)
+    text)
     (ap (map (path_at (files_of known.graph))) c.deref-4.ensures.value ∙ asked) c.in_ok-output.ensures in
     subst (λ (warnings : List ℕ). AnswersTimes known entries log options text (answered false warnings))
     (sym (c.in_ok-warnings.ensures entries graph)) (reported are clear written)
