@@ -40,6 +40,7 @@ asked bases targets = record {
     take = None;
     resume = None;
     all = false;
+    json = false;
     targets =
         targets;
   });

@@ -49,6 +49,7 @@ keyed bases take resume targets = record {
   take = take;
   resume = resume;
   all = false;
+  json = false;
   targets = targets;
 }
 
@@ -289,6 +290,11 @@ all_keys_row : question_of (codes "keys" ∷ codes "--all" ∷ codes "--base" �
     ≡ asks (keys (record (keyed (codes "/b" ∷ []) None None []) { all = true }))
 unfolding question_of command clap_on_literals
 all_keys_row = refl
+
+key_objects_row : question_of (codes "keys" ∷ codes "--json" ∷ codes "app" ∷ [])
+    ≡ asks (keys (record (keyed [] None None (codes "app" ∷ [])) { json = true }))
+unfolding question_of command clap_on_literals
+key_objects_row = refl
 
 tests_options_row : question_of (codes "tests" ∷ codes "--source-dir" ∷ codes ".." ∷ codes "-z" ∷ codes
     "--ctest=list" ∷ codes "--ignore=*.md" ∷ codes "--format=ctest" ∷ codes "--unnamed" ∷ codes "skip" ∷ codes

@@ -72,7 +72,7 @@ draw_options = flag (codes "affected") ∷ flag (codes "fold") ∷ number (codes
 abbrev pub keys_options : List Rule
 keys_options =
     repeated (codes "base") ∷ repeated (codes "with") ∷ repeated (codes "with-file") ∷ number (codes "take")
-    ∷ long_option (codes "resume") ∷ flag (codes "all") ∷ words (codes "targets") ∷ []
+    ∷ long_option (codes "resume") ∷ flag (codes "all") ∷ flag (codes "json") ∷ words (codes "targets") ∷ []
 
 -- the options of `stale`
 abbrev pub stale_options : List Rule

@@ -73,6 +73,7 @@ keys_in rows = record {
   take = number_in (codes "take") rows;
   resume = first_of (codes "resume") rows;
   all = is_on (codes "all") rows;
+  json = is_on (codes "json") rows;
   targets = values_in (codes "targets") rows;
 }
 

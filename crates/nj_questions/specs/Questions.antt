@@ -56,7 +56,7 @@ pub record DrawModel : Type 0 where
   pub inputs : Option ℕ
 
 -- `keys`: the texts `additions`, and the contents of the `files`, go into every key; `resume` is the text of a mark; `all` asks for every
--- command, whatever targets need
+-- command, whatever targets need, and `json` for objects
 pub record KeysModel : Type 0 where
   pub bases : List (List ℕ)
   pub additions : List (List ℕ)
@@ -64,6 +64,7 @@ pub record KeysModel : Type 0 where
   pub take : Option ℕ
   pub resume : Option (List ℕ)
   pub all : Bool
+  pub json : Bool
   pub targets : List (List ℕ)
 
 -- `stale`: `why` asks for reasons, and `json` for objects; `no_manifest` leaves out what the manifest itself is made from
@@ -197,6 +198,7 @@ keys_model options = record {
   take = options.take;
   resume = option_map string_bytes options.resume;
   all = options.all;
+  json = options.json;
   targets = map string_bytes options.targets.items;
 }
 

@@ -40,4 +40,4 @@ base_word base = codes "--base=" ++ base
 -- bases keep their order, and so do targets, which are all arguments after `--`
 abbrev pub KeysKeepOrder : Type 0
 KeysKeepOrder = (bases targets : List (List ℕ)) → question_of (codes "keys" ∷ map base_word bases ++ codes "--" ∷ targets)
-    ≡ asks (keys (record { bases = bases; additions = []; files = []; take = None; resume = None; all = false; targets = targets }))
+    ≡ asks (keys (record { bases = bases; additions = []; files = []; take = None; resume = None; all = false; json = false; targets = targets }))

@@ -164,6 +164,8 @@ pub struct KeysOptions {
     pub resume: Option<String>,
     /// `--all`: every command of the manifest, whatever targets need.
     pub all: bool,
+    /// `--json`: commands are objects of JSON.
+    pub json: bool,
     /// The targets; without any, the default targets.
     pub targets: Vec<String>,
 }

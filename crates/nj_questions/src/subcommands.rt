@@ -191,7 +191,7 @@ Builds of one project in two directories have the same keys where these are give
   ninja-graph keys -C build --base \"$PWD/build\" --base \"$PWD\"",
 };
 
-pub const KEYS_OPTIONS: [Entry; 7] = [
+pub const KEYS_OPTIONS: [Entry; 8] = [
     (
         "base",
         Form::Repeated("DIR"),
@@ -217,6 +217,11 @@ pub const KEYS_OPTIONS: [Entry; 7] = [
         "all",
         Form::Flag,
         "Write a key for every command, in the order of the manifest",
+    ),
+    (
+        "json",
+        Form::Flag,
+        "Write an object of JSON for each command, with all that a cache needs",
     ),
     (
         "targets",

@@ -97,6 +97,7 @@ fn keys_in(alloc: Global, options: &ArgMatches<'_>) -> Result<KeysOptions, Alloc
         take: number_in(options, "take"),
         resume: text_in(alloc, options, "resume")?,
         all: is_on(options, "all"),
+        json: is_on(options, "json"),
         targets: values_in(alloc, options, "targets")?,
     })
 }
