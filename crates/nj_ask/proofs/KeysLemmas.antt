@@ -17,7 +17,7 @@ use Rattle.nj_ask.specs.declared.answer.Answer.{Answer}
 use Rattle.nj_ask.specs.declared.doubts.EdgeFault.{EdgeFault}
 use Rattle.nj_ask.specs.declared.failure.Failure.{Failure}
 use Rattle.nj_ask.specs.Answers.{AnswersAllKeys, AnswersKeys, AnswersTargetKeys, HasDepfileFault, IsClear}
-use Rattle.nj_ask.specs.Answers.{asked_targets, files_at, key_lines, manifest_edges}
+use Rattle.nj_ask.specs.Answers.{asked_targets, files_at, keys_text, manifest_edges}
 use Rattle.nj_ask.specs.Answers.AnswersAllKeys.{bad_depfile, every}
 use Rattle.nj_ask.specs.Answers.AnswersKeys.{of_all, of_targets}
 use Rattle.nj_ask.specs.Answers.AnswersTargetKeys.{no_depfile, no_target, out_of_range, page}
@@ -64,7 +64,7 @@ module _ (known : DiscoveredGraph) (entries : List ReadStatement) (options : Key
       → (edges : List EdgePaths) → edges ≡ manifest_edges known
       → (written : KeyPage) → IsPageOf files edges entries additions folders mark options.take written
       → (output : List ℕ) (looks : Bool) (warnings : List ℕ)
-      → output ≡ key_lines known.graph written.keys.items → looks ≡ false
+      → output ≡ keys_text known entries options written.keys.items → looks ≡ false
       → warnings ≡ mark_line written.mark ++ caveat_text known entries
       → AnswersTargetKeys known entries options contents mark output (answered looks warnings)
   keys-page files same are clear folders bases additions added edges stated written is output looks warnings o
@@ -95,7 +95,7 @@ module _ (known : DiscoveredGraph) (entries : List ReadStatement) (options : Key
       → (edges : List EdgePaths) → edges ≡ manifest_edges known
       → (keys : List EdgeKey) → HaveKeys additions folders edges entries (all_commands known.graph) keys
       → (output : List ℕ) (looks : Bool) (warnings : List ℕ)
-      → output ≡ key_lines known.graph keys → looks ≡ false → warnings ≡ caveat_text known entries
+      → output ≡ keys_text known entries options keys → looks ≡ false → warnings ≡ caveat_text known entries
       → AnswersAllKeys known entries options contents output (answered looks warnings)
   keys-all clear folders bases additions added edges stated keys is output looks warnings o l w =
       let there = subst (λ es. HaveKeys (options.additions ++ contents) (map clean_path_of options.bases) es

@@ -25,6 +25,8 @@ mod DoubtLemmas
 mod PartLemmas
 mod WhyLemmas
 mod KeysLemmas
+mod JsonTextLemmas
+mod LedLemmas
 mod ClosureLaw
 mod DrawnLemmas
 mod DrawingLemmas

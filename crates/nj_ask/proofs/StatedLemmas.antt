@@ -44,7 +44,7 @@ named-are (e ∷ edges) path =
 -- ---- numbers
 
 -- two files are the same if their paths are
-same-path : (paths : List (List ℕ)) → IsDistinct bytes_eq paths → (n m : ℕ) → n < length paths
+pub same-path : (paths : List (List ℕ)) → IsDistinct bytes_eq paths → (n m : ℕ) → n < length paths
     → m < length paths
     → (n == m) ≡ bytes_eq (name_at paths n) (name_at paths m)
 same-path paths apart n m below below2 = elim (eqb_tells n m) [

@@ -31,6 +31,7 @@ use Rattle.nj_ask.specs.Chains.{HasChain, LacksChain}
 use Rattle.nj_ask.specs.Drawings.{IsDrawing}
 use Rattle.nj_ask.specs.Endings.{Ending, answered, fault_line, program_line, refused}
 use Rattle.nj_ask.specs.Given.{given_paths, LeavesPaths}
+use Rattle.nj_ask.specs.KeyObjects.{key_objects}
 use Rattle.nj_ask.specs.NeededFaults.{IsFirstFault}
 use Rattle.nj_ask.specs.Pages.{mark_line}
 use Rattle.nj_ask.specs.Reports.{ChangeModel, IsReport, no_path_line}
@@ -169,7 +170,17 @@ HaveKeysAsked known entries options contents numbers keys =
 abbrev pub key_lines : GraphModel → List EdgeKey → List ℕ
 key_lines g keys = flat_map (λ next. line (edges_of g) next.edge.0 next.key) keys
 
--- `keys` from a mark on: the lines of the commands that the targets need and that are left there, up to the limit, and the mark after them
+-- the directory of a base by itself; a relative base is refused
+abbrev pub single_base : (base : List ℕ) → List (List ℕ)
+single_base base = if is_absolute base then clean_path_of base ∷ [] else []
+
+-- keys as text: with `--json` objects, else lines
+abbrev pub keys_text : DiscoveredGraph → List ReadStatement → KeysModel → List EdgeKey → List ℕ
+keys_text known entries options keys =
+    if options.json then key_objects known.graph entries known.discoveries.items (map single_base options.bases) keys
+    else key_lines known.graph keys
+
+-- `keys` from a mark on: the commands that the targets need and that are left there, up to the limit, and the mark after them
 pub data AnswersTargetKeys (known : DiscoveredGraph) (entries : List ReadStatement) (options : KeysModel) (contents : List (List ℕ))
     (mark : List ℕ) :
     (output : List ℕ) → Ending → Type 0 where
@@ -185,17 +196,17 @@ pub data AnswersTargetKeys (known : DiscoveredGraph) (entries : List ReadStateme
       → leads (files_at known.graph paths) mark ≡ true
       → HaveKeysAsked known entries options contents (written options.take (left_at (files_at known.graph paths) mark)) keys
       → BeginsAfter (files_at known.graph paths) mark walk → StopsAt walk options.take rest
-      → AnswersTargetKeys known entries options contents mark (key_lines known.graph keys)
+      → AnswersTargetKeys known entries options contents mark (keys_text known entries options keys)
       (answered false (mark_line rest ++ caveat_text known entries))
 
--- `keys --all`: the lines of all commands, in the order of the manifest; a depfile with a fault is refused, as where a target needs its edge
+-- `keys --all`: all commands, in the order of the manifest; a depfile with a fault is refused, as where a target needs its edge
 pub data AnswersAllKeys (known : DiscoveredGraph) (entries : List ReadStatement) (options : KeysModel) (contents : List (List ℕ)) :
     (output : List ℕ) → Ending → Type 0 where
   bad_depfile : {fault : EdgeFault} → slice_get known.faults.items 0 ≡ Some fault
       → AnswersAllKeys known entries options contents [] (refused (program_line fault.text.items) Fault)
   every : {keys : List EdgeKey} → known.faults.items ≡ []
       → HaveKeysAsked known entries options contents (all_commands known.graph) keys
-      → AnswersAllKeys known entries options contents (key_lines known.graph keys) (answered false (caveat_text known entries))
+      → AnswersAllKeys known entries options contents (keys_text known entries options keys) (answered false (caveat_text known entries))
 
 -- `keys`
 pub data AnswersKeys (known : DiscoveredGraph) (entries : List ReadStatement) (options : KeysModel) (contents : List (List ℕ))

@@ -1,11 +1,11 @@
 -- What the contracts of this crate cite: each name comes from the module in its line.
 pub use Rattle.nj_ask.specs.Answers.{AnswersAffected, change_asked, outputs_asked, HasDepfileFault, IsClear, AnswersDraw, AnswersJson}
-pub use Rattle.nj_ask.specs.Answers.{AnswersAllKeys, AnswersKeys, AnswersTargetKeys, all_misuse, key_lines, asked_mark, asked_targets}
-pub use Rattle.nj_ask.specs.Answers.{keys_misuse, mark_misuse, AnswersWhy, needed_from}
+pub use Rattle.nj_ask.specs.Answers.{AnswersAllKeys, AnswersKeys, AnswersTargetKeys, all_misuse, keys_text, single_base, asked_mark}
+pub use Rattle.nj_ask.specs.Answers.{asked_targets, keys_misuse, mark_misuse, AnswersWhy, needed_from}
 pub use Rattle.nj_ask.specs.Inside.Asking.{AreGlobsAsked, LeavesAnswer, named_files, AnswersTask, IsGiven, IsTask, AreTestsAsked}
 pub use Rattle.nj_ask.specs.Inside.Failures.{Gives, Delivers, WritesAnswer, ConcludesTold, FailsBy, SaysFault, Returns, Stops}
 pub use Rattle.nj_ask.specs.Inside.Findings.{HasEdges, AreFindingsOf, text_if_faulty, if_doubtful, if_faulty}
-pub use Rattle.nj_graph.specs.Graph.{OfStatements, files_of, edges_of, IsGraphOf, rule_name}
+pub use Rattle.nj_graph.specs.Graph.{OfStatements, files_of, edges_of, IsGraphOf, rule_name, late_text_of}
 pub use Rattle.nj_questions.specs.Questions.{affected_model, SubjectModel, question_model, subject_model, audit_model, tests_model}
 pub use Rattle.nj_questions.specs.Questions.{draw_model, asked_graph, keys_model, stale_model, times_model, why_model}
 pub use Rattle.nj_ask.specs.Inside.Lent.{asked_of, change_model, texts}
@@ -15,7 +15,7 @@ pub use Rattle.nj_ask.specs.Endings.{Concludes, Reported, answered, memory_line,
 pub use Rattle.nj_ask.specs.Drawings.{stated_count, End, arrow_line, arrows_from, arrows_to, drawn_ends, edge_arrows, end_at, ends}
 pub use Rattle.nj_ask.specs.Drawings.{ends_after, ends_before, node_arrows, count_line, drawing_text, IsDrawing, label, node_line}
 pub use Rattle.nj_ask.specs.Drawings.{edge_look, ellipse_look, left_out, more_text, node_look, node_name, point_look}
-pub use Rattle.std.specs.List.{flat_map, list_any, filter_map, fold, range_with_len, cons_option}
+pub use Rattle.std.specs.List.{flat_map, list_any, fold, filter_map, range_with_len, cons_option}
 pub use Rattle.nj_graph.specs.Handles.{edge_of, file_of, GraphEdge, paths_of, OfEdge, edges_in, files_in, detail_of_edge}
 pub use Rattle.nj_ask.specs.Inside.NodeLists.{node_model, is_full, AreFlagsWithin, SameFlags, SetsFlag, UnsetsFlag}
 pub use Rattle.nj_ask.specs.DrawnNodes.{of_edge, drawn_nodes, has_node, mention, mention_edge, node_of, is_folded}
@@ -49,9 +49,9 @@ pub use Rattle.nj_text.specs.Calls.{is_empty}
 pub use Rattle.nj_tests.specs.Tests.{test_model}
 pub use Rattle.nj_ask.specs.DeadAnswers.{AnswersDead, ListsDead, dead_line, unread_line}
 pub use Rattle.nj_discovered.specs.Times.{DeclaredTimes}
-pub use Rattle.serde_json.specs.Written.{compact_text}
+pub use Rattle.serde_json.specs.Written.{compact_text, comma_if}
 pub use Rattle.nj_times.specs.Dead.{dead_outputs}
-pub use Rattle.serde_json.specs.Data.{string, unsigned}
+pub use Rattle.serde_json.specs.Data.{string, unsigned, array, boolean, number}
 pub use Rattle.std.specs.Str.Lossy.{utf8_lossy}
 pub use Rattle.nj_graph.specs.Files.{path_at}
 pub use Rattle.nj_scope.specs.Sources.{outcome_bytes, SourceState}
@@ -71,10 +71,18 @@ pub use Rattle.nj_graph.specs.Loads.{Loads}
 pub use Rattle.nj_graph.specs.Undeclared.{input_of_edge}
 pub use Rattle.nj_ask.specs.Shape.{caveat_text, dyndep_files, dyndep_of, dyndep_text, line_if_changes, lines_of_changing, may_change}
 pub use Rattle.nj_ask.specs.Shape.{remade_text, shape_text, unjoined_files}
+pub use Rattle.nj_ask.specs.Inside.JsonTexts.{AddsItem, AddsMember, AddsValue, BeginsMember, AddsInputs, AddsFiles, AddsKey, AddsTexts}
+pub use Rattle.nj_ask.specs.KeyObjects.{path_items, text_value, KeyInput, input_value, inputs_among, key_inputs, kind_name}
+pub use Rattle.nj_ask.specs.KeyObjects.{discovered_value, key_object, key_objects, bases_named, is_named_base, key_texts, names_base}
+pub use Rattle.nj_ask.specs.KeyObjects.{number_items}
 pub use Rattle.nj_state.specs.Judged.{HasCounts, IsJudged}
 pub use Rattle.nj_ask.specs.Inside.StaleParts.{IsJudgedBuild, IsJudgedGraph, LacksTime, StopsAt, AnswersManifest, ListsStale, named_paths}
+pub use Rattle.nj_names.specs.NameTables.{name_at, with_name}
+pub use Rattle.nj_ask.specs.Inside.FilesFound.{paths_found}
+pub use Rattle.nj_ask.specs.MissingSources.{stated_edge, IsStop, missing_line, required_files, stated_edges}
+pub use Rattle.nj_ask.specs.LookedThrough.{with_led, behind, phony_inputs}
+pub use Rattle.nj_keys.specs.Keys.{content_of, edges_stated}
 pub use Rattle.nj_text.specs.Paths.{clean_path_of, is_absolute}
-pub use Rattle.nj_keys.specs.Keys.{edges_stated}
 pub use Rattle.nj_needs.specs.MarkTexts.{given_mark}
 pub use Rattle.nj_keys.specs.Pages.{leads}
 pub use Rattle.nj_ask.specs.Pages.{mark_line}
@@ -83,8 +91,6 @@ pub use Rattle.nj_ask.specs.MadeFrom.{TellMadeFrom}
 pub use Rattle.nj_ask.specs.Manifest.{makers_of_opened, makes_manifest, FeedsManifest, opened_paths, opened_files}
 pub use Rattle.nj_ask.specs.Inside.Flags.{AreFeeds, AreFlags, is_made_flag, AreMarks}
 pub use Rattle.nj_names.specs.Files.{AreFiles}
-pub use Rattle.nj_ask.specs.MissingSources.{IsStop, missing_line, required_files, stated_edge, stated_edges}
-pub use Rattle.nj_names.specs.NameTables.{name_at}
 pub use Rattle.nj_ask.specs.NeededFaults.{IsFirstFault}
 pub use Rattle.std.specs.Fmt.{decimal}
 pub use Rattle.nj_ask.specs.Quotes.{quoted, escaped, escapes}

@@ -6,9 +6,11 @@ pub mod BuildLogSteps
 pub mod ChainTexts
 pub mod Failures
 pub mod FileLines
+pub mod FilesFound
 pub mod Findings
 pub mod Flags
 pub mod GraphSteps
+pub mod JsonTexts
 pub mod Lent
 pub mod LogSteps
 pub mod NodeLists

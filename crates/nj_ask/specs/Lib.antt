@@ -15,10 +15,12 @@ pub mod DrawnNodes
 pub mod Endings
 pub mod Given
 pub mod Joined
+pub mod KeyObjects
 pub mod KnownGraphs
 pub mod Laws
 pub mod LogsRead
 pub mod MadeFrom
+pub mod LookedThrough
 pub mod Manifest
 pub mod MissingSources
 pub mod NeededFaults

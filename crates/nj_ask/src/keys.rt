@@ -2,12 +2,13 @@
 
 ghost use Rattle.std.specs.Prelude.{◌≡◌, ◌≢◌, ◌<◌, ◌++◌, ◌∷◌, [], true, false, None, Ok, Some, All, IfErr, IfOk, OnOk, length, map, not, option_copied, string_bytes, codes};
 ghost use Rattle.nj_needs.specs.MarkFaults.{fault_text};
-ghost use Rattle.nj_ask.specs.Cited.{Fault, Usage, OfStatements, clean_path_of, edges_of, edges_stated, is_absolute, is_empty, given_mark, leads, caveat_text, mark_line, program_line, AnswersAllKeys, AnswersKeys, AnswersTargetKeys, all_misuse, key_lines, FailsBy, Gives, IsPageOf, SaysErr, asked_mark, asked_targets, base_misuse, keys_misuse, keys_model, mark_misuse};
+ghost use Rattle.nj_ask.specs.Cited.{Fault, Usage, OfStatements, clean_path_of, edges_of, edges_stated, is_absolute, is_empty, given_mark, leads, caveat_text, mark_line, program_line, AnswersAllKeys, AnswersKeys, AnswersTargetKeys, all_misuse, keys_text, single_base, FailsBy, Gives, IsPageOf, SaysErr, asked_mark, asked_targets, base_misuse, keys_misuse, keys_model, mark_misuse};
 
 use crate::answer::Answer;
 use crate::depfiles::check_depfiles;
 use crate::discovered::DiscoveredGraph;
 use crate::failure::Failure;
+use crate::key_objects::key_objects;
 use crate::pages::mark_line;
 use crate::shape::caveat_lines;
 use crate::status::Status;
@@ -201,7 +202,7 @@ fn answer_all_keys(
     let additions = additions_of(alloc, &options.additions, contents)?;
     let counts = stated_counts(alloc, &known.discoveries)?;
     let keys = all_keys(alloc, &known.graph, bases, &additions, &counts)?;
-    Ok(keys_answer(alloc, known, &keys, None)?)
+    Ok(keys_answer(alloc, known, options, &counts, &keys, None)?)
 }
 
 /// The page that the options request of the keys of the commands that targets need.
@@ -231,7 +232,8 @@ fn answer_target_keys(
         Ok(page) => page,
         Err(failure) => return Err(failure),
     };
-    Ok(keys_answer(alloc, known, &page.keys, page.mark.as_ref())?)
+    let rest = page.mark.as_ref();
+    Ok(keys_answer(alloc, known, options, &counts, &page.keys, rest)?)
 }
 
 /// The files that words denote; without words, the defaults.
@@ -353,22 +355,27 @@ fn page_of(
     }
 }
 
-/// The answer with the given keys, and with the mark of the rest, if any are left.
+/// The answer with the given keys, and with the mark of the rest, if any are left. `counts` says how
+/// many implicit inputs each edge has without those that builds discovered.
 fn keys_answer(
     alloc: Global,
     known: &DiscoveredGraph,
+    options: &KeysOptions,
+    counts: &[usize],
     keys: &[EdgeKey],
     rest: Option<&Mark>,
 ) -> Result<Answer, AllocError>
-    requires { All (λ next. next.edge.0 < length (edges_of known.now.graph)) keys.now }
-    ensures output { IfOk result (λ answer.
-        answer.output.items ≡ key_lines known.now.graph keys.now) }
+    requires counts { counts.now
+        ≡ map (λ discovery. discovery.stated_inputs) known.now.discoveries.items }
+    requires keys { All (λ next. next.edge.0 < length (edges_of known.now.graph)) keys.now }
+    ensures output { OfStatements known.now.graph (λ entries. IfOk result (λ answer.
+        answer.output.items ≡ keys_text known.now entries (keys_model options.now) keys.now)) }
     ensures looks { IfOk result (λ answer. answer.looks ≡ false) }
     ensures warnings { OfStatements known.now.graph (λ entries.
         IfOk result (λ answer. answer.warnings.items
         ≡ mark_line (option_copied rest.entry) ++ caveat_text known.now entries)) }
 {
-    let output = key_lines(alloc, &known.graph, keys)?;
+    let output = keys_text(alloc, known, options, counts, keys)?;
     let mut warnings = mark_line(alloc, rest)?;
     warnings.extend_from_slice(&caveat_lines(alloc, known)?)?;
     Ok(Answer {
@@ -376,4 +383,46 @@ fn keys_answer(
         warnings,
         looks: false,
     })
+}
+
+/// Keys as text: with `--json` objects, else lines.
+fn keys_text(
+    alloc: Global,
+    known: &DiscoveredGraph,
+    options: &KeysOptions,
+    counts: &[usize],
+    keys: &[EdgeKey],
+) -> Result<Vec<u8>, AllocError>
+    requires counts { counts.now
+        ≡ map (λ discovery. discovery.stated_inputs) known.now.discoveries.items }
+    requires keys { All (λ next. next.edge.0 < length (edges_of known.now.graph)) keys.now }
+    ensures { OfStatements known.now.graph (λ entries. IfOk result (λ text.
+        text.items ≡ keys_text known.now entries (keys_model options.now) keys.now)) }
+{
+    if !options.json {
+        return key_lines(alloc, &known.graph, keys);
+    }
+    let bases = single_bases(alloc, &options.bases)?;
+    key_objects(alloc, known, counts, &bases, keys)
+}
+
+/// The directory at each of the given paths by itself.
+fn single_bases(alloc: Global, paths: &[String]) -> Result<Vec<Bases>, AllocError>
+    ensures { IfOk result (λ bases.
+        bases.items ≡ map single_base (map string_bytes paths.now)) }
+{
+    let mut bases = Vec::new(alloc);
+    'paths: for path in paths {
+        bases.push(single_base(alloc, path.as_bytes())?)?;
+    }
+    Ok(bases)
+}
+
+/// The directory at a path by itself.
+fn single_base(alloc: Global, path: &[u8]) -> Result<Bases, AllocError>
+    ensures { IfOk result (λ base. base ≡ single_base path.now) }
+{
+    let mut base = Bases::new(alloc);
+    base.add(alloc, path)?;
+    Ok(base)
 }

@@ -63,7 +63,11 @@ fn push_stated(
 }
 
 /// The implicit inputs that the manifest itself has for an edge.
-fn stated_inputs<'g>(graph: &'g EdgeGraph, stated: &[usize], edge: EdgeNo) -> &'g [FileNo]
+pub(crate) fn stated_inputs<'g>(
+    graph: &'g EdgeGraph,
+    stated: &[usize],
+    edge: EdgeNo,
+) -> &'g [FileNo]
     requires { edge.0 < length graph.now.edges }
     ensures paths { map (path_at graph.entry.now.files) result.now
         ≡ (stated_edge graph.entry.now.edges stated.now edge.0).implicit_inputs }

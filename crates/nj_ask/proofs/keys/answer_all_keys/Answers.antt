@@ -5,7 +5,7 @@ use Rattle.nj_graph.specs.Graph.{edges_of}
 use Rattle.nj_keys.specs.Keys.{edges_stated}
 use Rattle.nj_tools.specs.declared.EdgeDiscovery.{EdgeDiscovery}
 use Rattle.nj_questions.specs.Questions.{keys_model}
-use Rattle.nj_ask.specs.Answers.{AnswersAllKeys, key_lines}
+use Rattle.nj_ask.specs.Answers.{AnswersAllKeys, keys_text}
 use Rattle.nj_ask.specs.Endings.{program_line}
 use Rattle.nj_ask.specs.declared.status.Status.TheVariants.{Fault}
 use Rattle.nj_ask.proofs.KeysLemmas.{keys-all, keys-bad-depfile, nothing-first}
@@ -43,5 +43,6 @@ returns c entries graph =
     c.deref-3.ensures.value))
     c.in_ok-keys.keys.items (c.in_ok-keys.ensures.keys entries graph) answer.output.items answer.looks
     answer.warnings.items
-    (c.in_ok-keys_answer.ensures.output ∙ ap (key_lines known.graph) c.deref-6.ensures.value)
+    (c.in_ok-keys_answer.ensures.output entries graph
+    ∙ ap (keys_text known entries (keys_model c.args.options.now)) c.deref-7.ensures.value)
     c.in_ok-keys_answer.ensures.looks (c.in_ok-keys_answer.ensures.warnings entries graph)

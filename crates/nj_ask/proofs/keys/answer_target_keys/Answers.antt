@@ -6,7 +6,7 @@ use Rattle.nj_keys.specs.Keys.{edges_stated}
 use Rattle.nj_tools.specs.declared.EdgeDiscovery.{EdgeDiscovery}
 use Rattle.nj_keys.specs.Pages.{leads}
 use Rattle.nj_questions.specs.Questions.{keys_model}
-use Rattle.nj_ask.specs.Answers.{AnswersTargetKeys, HasDepfileFault, IsClear, asked_targets, key_lines}
+use Rattle.nj_ask.specs.Answers.{AnswersTargetKeys, HasDepfileFault, IsClear, asked_targets, keys_text}
 use Rattle.nj_ask.specs.Endings.{program_line}
 use Rattle.nj_ask.specs.Pages.{mark_line}
 use Rattle.nj_ask.specs.Shape.{caveat_text}
@@ -95,7 +95,8 @@ returns c entries graph =
     (c.in-Ok-page_of.ensures.page entries (subst (λ (g : GraphModel). IsGraphOf g entries)
     (sym c.in-Ok.ensures.of) graph))
     answer.output.items answer.looks answer.warnings.items
-    (c.in_ok-keys_answer.ensures.output ∙ ap (key_lines known.graph) c.deref-6.ensures.value)
+    (c.in_ok-keys_answer.ensures.output entries graph
+    ∙ ap (keys_text known entries (keys_model c.args.options.now)) c.deref-7.ensures.value)
     c.in_ok-keys_answer.ensures.looks
     (c.in_ok-keys_answer.ensures.warnings entries graph
-    ∙ ap (λ rest. mark_line rest ++ caveat_text known entries) c.as_ref.ensures.value)
+    ∙ ap (λ rest. mark_line rest ++ caveat_text known entries) c.as_ref-rest.ensures.value)
