@@ -23,7 +23,7 @@ _ninja_graph_options() {
         draw) echo '--affected --fold --limit --inputs' ;;
         why) echo '--validations --no-order-only' ;;
         audit) echo '--all --only --except --json --list' ;;
-        keys) echo '--base --with --with-file --take --resume --all' ;;
+        keys) echo '--base --with --with-file --take --resume --all --json' ;;
         stale) echo '--why --json --no-manifest' ;;
         times) echo '--top --by-rule --dead --json' ;;
         tests)

@@ -129,6 +129,7 @@ complete -c ninja-graph -n '__ninja_graph_is keys' -l with-file -r -F \
 complete -c ninja-graph -n '__ninja_graph_is keys' -l take -x -d 'Stop after so many commands'
 complete -c ninja-graph -n '__ninja_graph_is keys' -l resume -x -d 'Write the rest after this mark'
 complete -c ninja-graph -n '__ninja_graph_is keys' -l all -d 'Every command, in the order of the manifest'
+complete -c ninja-graph -n '__ninja_graph_is keys' -l json -d 'An object of JSON for each command'
 
 complete -c ninja-graph -n '__ninja_graph_is stale' -l why -d 'Write the first reason after each output'
 complete -c ninja-graph -n '__ninja_graph_is stale' -l json -d 'An object of JSON for each stale edge'

@@ -19,26 +19,16 @@ class Build:
     def __init__(self, store, folder, words):
         self.store, self.folder = Path(store).resolve(), Path(folder).resolve()
         shared = ["--base", str(self.folder), *words]
-        lists = [ask(folder, "keys", *words) for words in (shared, [*shared, "--with", str(self.folder)])]
-        self.lines = [[line.split(" ", 1) for line in lines] for lines in lists]
-        edges = [json.loads(line) for line in ask(folder, "json")]
-        self.makers = {path: edge for edge in edges for path in edge["outputs"] + edge["implicit_outputs"]}
+        lists = [ask(folder, "keys", "--json", *words) for words in (shared, [*shared, "--with", str(self.folder)])]
+        self.edges = [[json.loads(line) for line in lines] for lines in lists]
 
     def digest(self, path):
         file = self.folder / path
         return sha256(file.read_bytes()).hexdigest() if file.is_file() else ""
 
-    def files(self, edge, seen):
-        """The files that the inputs of an edge stand for: a phony edge stands for its inputs."""
-        inputs = edge["inputs"] + edge["implicit_inputs"] + edge["order_only_inputs"]
-        for path in (path for path in inputs if path not in seen):
-            seen.add(path)
-            maker = self.makers.get(path)
-            yield from self.files(maker, seen) if maker and maker["phony"] else [path]
-
-    def entry(self, key, edge):
-        digests = [self.digest(path) for path in self.files(edge, set())]
-        return self.store / sha256("\n".join([key, *digests]).encode()).hexdigest()
+    def entry(self, edge):
+        digests = [self.digest(read["path"]) for read in edge["inputs"]]
+        return self.store / sha256("\n".join([edge["key"], *digests]).encode()).hexdigest()
 
     def discovered(self, depfile):
         """The files that a depfile names, each with its digest; paths below the build are relative to it."""
@@ -61,14 +51,14 @@ class Build:
         kept = entry / sha256(files.encode()).hexdigest()
         shutil.rmtree(made) if kept.exists() else made.rename(kept)
 
-    def make(self, edge, keys):
-        outputs, entries = edge["outputs"] + edge["implicit_outputs"], [self.entry(key, edge) for key in keys]
-        for path in filter(None, [*outputs, edge["rspfile"], edge["depfile"]]):
+    def make(self, edge, own):
+        outputs, entries = edge["outputs"] + edge["implicit_outputs"], [self.entry(edge), self.entry(own)]
+        for path in filter(None, [*outputs, edge["response_file"], edge["depfile"]]):
             (self.folder / path).parent.mkdir(parents=True, exist_ok=True)
         if any(self.fetch(entry, outputs) for entry in entries):
             return "hit"
-        if edge["rspfile"]:
-            (self.folder / edge["rspfile"]).write_text(edge["rspfile_content"])
+        if edge["response_file"]:
+            (self.folder / edge["response_file"]).write_text(edge["response"])
         subprocess.run(["sh", "-c", edge["command"]], cwd=self.folder, check=True)
         is_own = any(os.fsencode(self.folder) in (self.folder / path).read_bytes() for path in outputs)
         self.keep(entries[is_own], edge["depfile"], outputs)
@@ -76,5 +66,5 @@ class Build:
 
 
 build = Build(sys.argv[1], sys.argv[2], sys.argv[3:])
-for (shared, output), (own, _) in zip(*build.lines):
-    print(build.make(build.makers[output], [shared, own]), output, flush=True)
+for shared, own in zip(*build.edges):
+    print(build.make(shared, own), *(shared["outputs"] + shared["implicit_outputs"])[:1], flush=True)

@@ -6,6 +6,7 @@ below as its manifest has them; and random builds are known from their generatio
 """
 
 import hashlib
+import json
 import random
 import re
 import shutil
@@ -99,6 +100,11 @@ PHONY = [
     Edge("checked", "headers notes.txt"),
     Edge("lint", "checked"),
 ]
+
+
+# All edges with a command, in the order of the manifest.
+IN_ORDER = "gen/version.h main.o words.o lines.o libwords.a count words_test test.o".split()
+KINDS = {"": "explicit", "|": "implicit", "||": "order_only"}
 
 
 def field(data):
@@ -202,6 +208,41 @@ def keys_of_files(program, graph, folder):
     whole = Keys(LISTED + PHONY).lines(edge.outputs[0] for edge in LISTED)
     yield from expect("all", run(graph, folder, []), (DONE, whole, ""))
     yield from pages_differ(folder, program, graph, [], whole)
+
+
+@check
+def keys_of_all(graph, folder):
+    write_files(folder, FILES)
+    whole = Keys(LISTED + PHONY).lines(IN_ORDER)
+    yield from expect("--all", run(graph, folder, ["--all"]), (DONE, whole, ""))
+
+
+def files_behind(path):
+    """The files for which a file stands: those of the inputs of a phony edge that makes it."""
+    edge = next((edge for edge in PHONY if path in edge.outputs), None)
+    return {path} if edge is None else set().union(*(files_behind(behind) for _, behind in edge.inputs))
+
+
+def inputs_behind(edge):
+    """The kind of each file for which an input of an edge stands, by the first input that does."""
+    return {path: KINDS[bars] for bars, named in reversed(edge.inputs) for path in files_behind(named)}
+
+
+@check
+def objects_of_files(graph, folder):
+    write_files(folder, FILES)
+    keys, (status, lines, error) = Keys(LISTED + PHONY), run(graph, folder, ["--json", "--base", "/w"])
+    yield from expect("how it ends", (status, error), (DONE, ""))
+    objects = [json.loads(line) for line in lines.splitlines()]
+    yield from expect("outputs", [found["outputs"] for found in objects], [edge.outputs for edge in LISTED])
+    for edge, found in zip(LISTED, objects):
+        yield from expect(f"key of {edge.outputs}", found["key"], keys.key(edge.outputs[0]).hex())
+        kinds = {read["path"]: read["kind"] for read in found["inputs"]}
+        yield from expect(f"inputs of {edge.outputs}", kinds, inputs_behind(edge))
+        yield from expect(f"each once: {edge.outputs}", len(kinds), len(found["inputs"]))
+        texts = [found[name] for name in ("command", "response_file", "response")]
+        yield from expect(f"texts of {edge.outputs}", texts, [edge.command, edge.file, edge.content])
+        yield from expect(f"the rest of {edge.outputs}", [found["discovered"], found["bases"]], [None, []])
 
 
 @check
