@@ -83,7 +83,7 @@ ends-unshown text taken same fails error = output_fails {ending = answered false
 -- the options of a task are not refused
 pub task-taken : (subject : SubjectModel) (asked : Task) → IsTask subject asked → IsTaken subject
 task-taken subject (task.Affected options globs) is =
-    rw is.0 (record { folder = is.1.allowed; globs = globs.items; are_globs = is.1.are })
+    rw is.0 (record { words = is.1.allowed; globs = globs.items; are_globs = is.1.are })
 task-taken subject (task.Audit options kinds) is = rw is.0 is.1.allowed
 task-taken subject (task.Draw options) is = rw is tt
 task-taken subject task.Json is = rw is tt
@@ -92,7 +92,7 @@ task-taken subject (task.Stale options) is = rw is.0 is.1
 task-taken subject (task.Tests options globs) is = rw is.0 (record {
   words = is.1.words;
   change = record {
-    folder = is.1.globs_are.allowed;
+    words = is.1.globs_are.allowed;
     globs = globs.items;
     are_globs = is.1.globs_are.are;
   };
@@ -144,7 +144,7 @@ module _ (known : DiscoveredGraph) (entries : List ReadStatement) (log : BuildLo
   pub affected-returns : (options : Bor AffectedOptions) (globs : Vec (List GlobPart))
       → asked ≡ task.Affected options globs
       → IsTask subject asked
-      → Returns (AnswersAffected known entries folder (affected_model options.now) input) old new reported
+      → Returns (AnswersAffected known entries folder (affected_model options.now) named.since input) old new reported
       → Returns (Answers known entries log times folder subject named input) old new reported
   affected-returns options globs same is returns = rw (subst (IsTask subject) same is).0 returns
 
@@ -192,7 +192,7 @@ module _ (known : DiscoveredGraph) (entries : List ReadStatement) (log : BuildLo
   pub tests-returns : (options : Bor TestsOptions) (globs : Vec (List GlobPart))
       → asked ≡ task.Tests options globs
       → IsTask subject asked
-      → Returns (AnswersTests known entries folder (tests_model options.now) named.tests input) old new
+      → Returns (AnswersTests known entries folder (tests_model options.now) named.tests named.since input) old new
       reported
       → Returns (Answers known entries log times folder subject named input) old new reported
   tests-returns options globs same is returns = rw (subst (IsTask subject) same is).0 returns

@@ -64,7 +64,7 @@ among-filter p (m ∷ ms) n = by (p m) refl (eqb_tells n m) (among-filter p ms n
         ∙ sym (ap (λ b. (n == m || is_one_of ms n) && b) none ∙ and-none (n == m || is_one_of ms n))
     by false fails (inr other) rest = rest ∙ sym (ap (λ b. (b || is_one_of ms n) && p n) other.0)
 
-and-both : (a b : Bool) → (a && b) ≡ true → (a ≡ true) × (b ≡ true)
+pub and-both : (a b : Bool) → (a && b) ≡ true → (a ≡ true) × (b ≡ true)
 and-both true b is = (refl, is)
 and-both false b is = absurd cc
 

@@ -16,6 +16,8 @@ mod NeedLemmas
 mod ManifestLemmas
 mod MadeLemmas
 mod MeantLemmas
+mod NewCommandLemmas
+mod SinceLemmas
 mod ReportLaws
 mod FailureLemmas
 mod FindingLemmas

@@ -100,7 +100,7 @@ module _ (g : GraphModel) (opened : List ℕ) (entries : List ReadStatement) (m 
 
   -- the record of the edges that all changed files affect shows it for each of them
   pub can-tell : (edges changed : List ℕ) → IsReached g opened entries edges m
-      → ((edge : ℕ) → Contains edges edge ↔ IsAffected (edges_of g) (map (path_of g) changed) edge)
+      → ((edge : ℕ) → IsAffected (edges_of g) (map (path_of g) changed) edge → Contains edges edge)
       → (file : ℕ) → file < length (files_of g) → Contains changed file → CanTell g opened entries file m
   can-tell edges changed r affected file below has = record {
     opened = r.opened.are file below;
@@ -127,7 +127,7 @@ module _ (g : GraphModel) (opened : List ℕ) (entries : List ReadStatement) (m 
           let all = affects-more (edges_of g) (path_of g file) (map (path_of g) changed)
           (contains-mapped (path_of g) changed file has) maker alone in (
             maker,
-            passes-there (makes_manifest g opened entries) edges maker ((affected maker).1 all) makes,
+            passes-there (makes_manifest g opened entries) edges maker (affected maker all) makes,
             needs,
           )
 

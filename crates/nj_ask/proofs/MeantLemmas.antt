@@ -22,7 +22,7 @@ use Rattle.nj_ask.specs.Manifest.{opened_paths}
 use Rattle.nj_ask.specs.Reports.{changed_numbers, files_meant, is_opened, made_from_line, ChangeModel}
 use Rattle.nj_ask.specs.Reports.{ChangesManifest, HasWarnings, IsUnnamed, IsWarning, is_test_file}
 use Rattle.nj_ask.specs.Reports.HasWarnings.{none, next}
-use Rattle.nj_ask.specs.Reports.IsWarning.{ignored, made_from, nothing, of_test, unknown}
+use Rattle.nj_ask.specs.Reports.IsWarning.{ignored, made_from, nothing, of_test, settled, unknown}
 use Rattle.nj_ask.specs.SameFiles.{full_path_of, numbers_at}
 use Rattle.nj_ask.proofs.FlagLemmas.{passes-there, there-passes}
 use Rattle.nj_ask.proofs.ManifestLemmas.{contains-mapped}
@@ -72,7 +72,7 @@ any-same : {X : Type 0} (p q : X → Bool) → ((x : X) → p x ≡ q x) → (xs
 any-same p q same [] = refl
 any-same p q same (x ∷ xs) = ap (λ b. b || list_any p xs) (same x) ∙ ap (λ b. q x || b) (any-same p q same xs)
 
-filter-same : {X : Type 0} (p q : X → Bool) → ((x : X) → p x ≡ q x) → (xs : List X)
+pub filter-same : {X : Type 0} (p q : X → Bool) → ((x : X) → p x ≡ q x) → (xs : List X)
     → filter p xs ≡ filter q xs
 filter-same p q same [] = refl
 filter-same p q same (x ∷ xs) =
@@ -92,13 +92,13 @@ at-one names others path has is =
 
 -- ---- numbers of files at full paths
 
-below-there : (count n : ℕ) → n < count → Contains (range_with_len 0 count) n
+pub below-there : (count n : ℕ) → n < count → Contains (range_with_len 0 count) n
 below-there count n below =
     let long = length-range_with_len 0 count in
     let same : 0 + n ≡ n = omega arith in
     (n, omega (arith, below, long), get_or-range_with_len 0 count n n below ∙ same)
 
-there-below : (count n : ℕ) → Contains (range_with_len 0 count) n → n < count
+pub there-below : (count n : ℕ) → Contains (range_with_len 0 count) n → n < count
 there-below count n has =
     let long = length-range_with_len 0 count in
     let under = has.1 in
@@ -229,6 +229,15 @@ module _ (g : GraphModel) (entries : List ReadStatement) (q : ChangeModel) where
           (one-table (changed_numbers g q) tables.changed are.changed changed-known path n
           (meant-changed path has n it) it))
 
+      from-manifest : ChangesManifest g entries q path
+          → IsWarning g entries q path (cond q.is_settled [] (made_from_line path))
+      from-manifest changes = by q.is_settled refl
+        where
+          by : (is : Bool) → q.is_settled ≡ is
+              → IsWarning g entries q path (cond is [] (made_from_line path))
+          by true is = settled changes is
+          by false is = made_from changes is
+
       warned : IsWarning g entries q path (warning_by opened tables q path)
       warned = by (has_one opened (found path)) (has_one tables.feeding (found path))
           (has_one tables.changed (found path)) (is_test_file q path) q.ignores_unknown refl refl refl refl
@@ -237,9 +246,11 @@ module _ (g : GraphModel) (entries : List ReadStatement) (q : ChangeModel) where
           by : (was fed is test ignores : Bool) → has_one opened (found path) ≡ was
               → has_one tables.feeding (found path) ≡ fed → has_one tables.changed (found path) ≡ is
               → is_test_file q path ≡ test → q.ignores_unknown ≡ ignores → IsWarning g entries q path
-              (cond (was || fed) (made_from_line path) (cond (is || test || ignores) [] (line path)))
-          by true fed is test ignores one two three four five = made_from (inl (sym (opened-same path) ∙ one))
-          by false true is test ignores one two three four five = made_from (feeds two)
+              (cond (was || fed) (cond q.is_settled [] (made_from_line path))
+              (cond (is || test || ignores) [] (line path)))
+          by true fed is test ignores one two three four five =
+              from-manifest (inl (sym (opened-same path) ∙ one))
+          by false true is test ignores one two three four five = from-manifest (feeds two)
           by false false true test ignores one two three four five = nothing (keeps one two) (named three)
           by false false false true ignores one two three four five =
               of_test (keeps one two) (unnamed three) four
@@ -273,7 +284,8 @@ module _ (g : GraphModel) (entries : List ReadStatement) (q : ChangeModel) (file
 
   warning-same : (path text : List ℕ) → IsWarning g entries q path text
       → IsWarning g entries with_files path text
-  warning-same path _ (made_from changes) = made_from changes
+  warning-same path _ (made_from changes not) = made_from changes not
+  warning-same path _ (settled changes is) = settled changes is
   warning-same path _ (unknown not missing other asks) =
       unknown not missing (sym (test-same path) ∙ other) asks
   warning-same path _ (of_test not missing is) = of_test not missing (sym (test-same path) ∙ is)

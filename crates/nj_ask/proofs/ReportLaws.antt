@@ -1,5 +1,5 @@
 -- The meaning of no warning, and that paths have one text of warnings.
-use Rattle.std.proofs.Common.{◌≡◌, ◌<◌, ℕ, ◌⊎◌, inl, inr, true, false, List, [], ◌∷◌, ◌++◌, length, get_or}
+use Rattle.std.proofs.Common.{◌≡◌, ◌<◌, ℕ, ◌⊎◌, inl, inr, true, false, Option, List, [], ◌∷◌, ◌++◌, length, get_or}
 use Rattle.std.proofs.Common.{zero}
 use Rattle.std.proofs.Common.{suc}
 use Rattle.std.proofs.Common.{refl, sym, ap, subst, ◌∙◌, arith}
@@ -13,23 +13,26 @@ use Rattle.nj_graph.specs.ReadingList.{ReadStatement}
 use Rattle.nj_graph.specs.Graph.{GraphModel}
 use Rattle.nj_ask.specs.declared.discovered.DiscoveredGraph.{DiscoveredGraph}
 use Rattle.nj_ask.specs.Affected.{line}
+use Rattle.nj_ask.specs.Since.{IsNewSince, NewModel}
 use Rattle.nj_ask.specs.Shape.{shape_text}
 use Rattle.nj_ask.specs.Manifest.{makes_manifest, opened_files}
 use Rattle.nj_ask.specs.Manifest.FeedsManifest.{by_maker}
-use Rattle.nj_ask.specs.Answers.{AnswersAffected, change_asked, outputs_asked}
-use Rattle.nj_ask.specs.Answers.AnswersAffected.{no_path, no_rule, reported}
+use Rattle.nj_ask.specs.Answers.{AnswersAffected, change_asked, manifest_edges, outputs_asked}
+use Rattle.nj_ask.specs.Answers.AnswersAffected.{no_keys, no_path, no_rule, reported}
 use Rattle.nj_ask.specs.Endings.{Concludes, Ending, Ends, Sinks, answered_status}
 use Rattle.nj_ask.specs.Endings.Ends.{ended, memory_fails, output_fails}
 use Rattle.nj_ask.specs.ChosenTests.{AnswersTests, Reaches, WritesTests, remarks, tests_change}
-use Rattle.nj_ask.specs.ChosenTests.AnswersTests.{chosen, no_folder}
-use Rattle.nj_ask.specs.Laws.{DoneMissesNothing, DoneMissesNoTest, IsIgnored, IsOfTest, KeepsManifest}
+use Rattle.nj_ask.specs.ChosenTests.AnswersTests.{chosen, no_folder, no_keys as no_test_keys}
+use Rattle.nj_ask.specs.Laws.{DoneMissesNothing, DoneMissesNoTest, IsIgnored, IsOfTest, IsSettled}
+use Rattle.nj_ask.specs.Laws.{KeepsManifest}
 use Rattle.nj_ask.specs.Laws.{MissesNothing, MissesNoTest, WarningsAreUnique}
 use Rattle.nj_ask.specs.Given.{given_paths, LeavesPaths}
-use Rattle.nj_ask.specs.Reports.{changed_numbers, is_opened, is_test_file, made_from_line, ChangeModel}
+use Rattle.nj_ask.specs.Reports.{changed_numbers, is_opened, is_test_file, made_from_line, remade_files}
+use Rattle.nj_ask.specs.Reports.{ChangeModel}
 use Rattle.nj_ask.specs.Reports.{ChangesManifest}
 use Rattle.nj_ask.specs.Reports.{HasWarnings, IsReport, IsWarning}
 use Rattle.nj_ask.specs.Reports.HasWarnings.{none, next}
-use Rattle.nj_ask.specs.Reports.IsWarning.{ignored, made_from, nothing, of_test, unknown}
+use Rattle.nj_ask.specs.Reports.IsWarning.{ignored, made_from, nothing, of_test, settled, unknown}
 use Rattle.nj_ask.specs.declared.status.Status.{Status}
 use Rattle.nj_ask.specs.declared.status.Status.TheVariants.{Done}
 use Rattle.nj_tools.specs.Sinks.{Takes}
@@ -56,18 +59,21 @@ none-has-one (path ∷ paths) = none-has-one paths
 module _ (g : GraphModel) (entries : List ReadStatement) (q : ChangeModel) where
   -- where a warning is empty
   abbrev Harmless : List ℕ → Type 0
-  Harmless path = IsOfTest g q path ⊎ KeepsManifest g entries q path ⊎ IsIgnored g q path
+  Harmless path =
+      IsOfTest g q path ⊎ KeepsManifest g entries q path ⊎ IsIgnored g q path ⊎ IsSettled g entries q path
 
   not-opened : (path : List ℕ) → ¬ ChangesManifest g entries q path → is_opened g q path ≡ false
   not-opened path not = false_from_ne_true (is_opened g q path) (λ was. not (inl was))
 
   not-warned : (path text : List ℕ) → [] ≡ text → IsWarning g entries q path text → Harmless path
-  not-warned path _ is (made_from changes) = absurd (made-from-apart path is)
+  not-warned path _ is (made_from changes not) = absurd (made-from-apart path is)
+  not-warned path _ is (settled changes up-to-date) =
+      inr (inr (inr (record { changes = changes; settled = up-to-date })))
   not-warned path _ is (unknown not missing other asks) = absurd (line-apart path is)
   not-warned path _ is (of_test not missing names) =
       inl (record { unnamed = missing; unopened = not-opened path not; is_named = names })
   not-warned path _ is (ignored not missing ignores) =
-      inr (inr (record { unnamed = missing; unopened = not-opened path not; ignores = ignores }))
+      inr (inr (inl (record { unnamed = missing; unopened = not-opened path not; ignores = ignores })))
   not-warned path _ is (nothing not some) = inr (inl (record {
     named = some;
     unopened = not-opened path not;
@@ -91,31 +97,42 @@ module _ (g : GraphModel) (entries : List ReadStatement) (q : ChangeModel) where
   -- a path has one warning
   one-warning : (path text other : List ℕ) → IsWarning g entries q path text
       → IsWarning g entries q path other → text ≡ other
-  one-warning path _ _ (made_from changes) (made_from also) = refl
-  one-warning path _ _ (made_from changes) (unknown not missing other asks) = absurd (not changes)
-  one-warning path _ _ (made_from changes) (of_test not missing names) = absurd (not changes)
-  one-warning path _ _ (made_from changes) (ignored not missing ignores) = absurd (not changes)
-  one-warning path _ _ (made_from changes) (nothing not some) = absurd (not changes)
-  one-warning path _ _ (unknown not missing other asks) (made_from changes) = absurd (not changes)
+  one-warning path _ _ (made_from changes is) (made_from also too) = refl
+  one-warning path _ _ (made_from changes is) (settled also other) = absurd (both_ways q.is_settled is other)
+  one-warning path _ _ (made_from changes is) (unknown not missing other asks) = absurd (not changes)
+  one-warning path _ _ (made_from changes is) (of_test not missing names) = absurd (not changes)
+  one-warning path _ _ (made_from changes is) (ignored not missing ignores) = absurd (not changes)
+  one-warning path _ _ (made_from changes is) (nothing not some) = absurd (not changes)
+  one-warning path _ _ (settled changes is) (made_from also other) = absurd (both_ways q.is_settled other is)
+  one-warning path _ _ (settled changes is) (settled also other) = refl
+  one-warning path _ _ (settled changes is) (unknown not missing other asks) = absurd (not changes)
+  one-warning path _ _ (settled changes is) (of_test not missing names) = absurd (not changes)
+  one-warning path _ _ (settled changes is) (ignored not missing ignores) = absurd (not changes)
+  one-warning path _ _ (settled changes is) (nothing not some) = absurd (not changes)
+  one-warning path _ _ (unknown not missing other asks) (made_from changes is) = absurd (not changes)
+  one-warning path _ _ (unknown not missing other asks) (settled changes is) = absurd (not changes)
   one-warning path _ _ (unknown not missing other asks) (unknown again lacks apart more) = refl
   one-warning path _ _ (unknown not missing other asks) (of_test again lacks names) =
       absurd (both_ways (is_test_file q path) other names)
   one-warning path _ _ (unknown not missing other asks) (ignored again lacks ignores) =
       absurd (both_ways q.ignores_unknown asks ignores)
   one-warning path _ _ (unknown not missing other asks) (nothing again some) = absurd (some missing)
-  one-warning path _ _ (of_test not missing names) (made_from changes) = absurd (not changes)
+  one-warning path _ _ (of_test not missing names) (made_from changes is) = absurd (not changes)
+  one-warning path _ _ (of_test not missing names) (settled changes is) = absurd (not changes)
   one-warning path _ _ (of_test not missing names) (unknown again lacks other asks) =
       absurd (both_ways (is_test_file q path) other names)
   one-warning path _ _ (of_test not missing names) (of_test again lacks also) = refl
   one-warning path _ _ (of_test not missing names) (ignored again lacks ignores) = refl
   one-warning path _ _ (of_test not missing names) (nothing again some) = refl
-  one-warning path _ _ (ignored not missing ignores) (made_from changes) = absurd (not changes)
+  one-warning path _ _ (ignored not missing ignores) (made_from changes is) = absurd (not changes)
+  one-warning path _ _ (ignored not missing ignores) (settled changes is) = absurd (not changes)
   one-warning path _ _ (ignored not missing ignores) (unknown again lacks other asks) =
       absurd (both_ways q.ignores_unknown asks ignores)
   one-warning path _ _ (ignored not missing ignores) (of_test again lacks names) = refl
   one-warning path _ _ (ignored not missing ignores) (ignored again lacks more) = refl
   one-warning path _ _ (ignored not missing ignores) (nothing again some) = refl
-  one-warning path _ _ (nothing not some) (made_from changes) = absurd (not changes)
+  one-warning path _ _ (nothing not some) (made_from changes is) = absurd (not changes)
+  one-warning path _ _ (nothing not some) (settled changes is) = absurd (not changes)
   one-warning path _ _ (nothing not some) (unknown again missing other asks) = absurd (some missing)
   one-warning path _ _ (nothing not some) (of_test again missing names) = refl
   one-warning path _ _ (nothing not some) (ignored again missing ignores) = refl
@@ -147,33 +164,38 @@ no-warnings [] is = refl
 no-warnings (b ∷ warnings) is = absurd cc
 
 module _ (known : DiscoveredGraph) (entries : List ReadStatement) (folder : List ℕ) (options : AffectedModel)
-    (input : List ℕ) (old new : Sinks) where
-  abbrev change : (paths : List (List ℕ)) → ChangeModel
-  change paths = change_asked options folder [] paths
+    (since : Option (List ℕ)) (input : List ℕ) (old new : Sinks) where
+  abbrev change : (paths : List (List ℕ)) → NewModel → ChangeModel
+  change paths more = change_asked options folder [] paths more
 
-  abbrev MissesOf : (paths : List (List ℕ)) → Type 0
-  MissesOf paths = MissesNothing known entries (change paths) (outputs_asked options) old.output new.output
+  abbrev MissesOf : (paths : List (List ℕ)) → NewModel → Type 0
+  MissesOf paths more =
+      MissesNothing known entries (change paths more) (outputs_asked options) old.output new.output
 
   abbrev Misses : Type 0
-  Misses = (paths : List (List ℕ)) × LeavesPaths options (given_paths options input) paths × MissesOf paths
+  Misses = (paths : List (List ℕ)) × LeavesPaths options (given_paths options input) paths
+      × (more : NewModel) × IsNewSince known.graph (manifest_edges known) entries options.bases since more
+      × MissesOf paths more
 
   -- tests name no file here
-  untested : (paths : List (List ℕ)) (path : List ℕ) → Harmless known.graph entries (change paths) path
-      → KeepsManifest known.graph entries (change paths) path ⊎ IsIgnored known.graph (change paths) path
-  untested paths path (inl of) = absurd (both_ways (is_test_file (change paths) path)
+  untested : (paths : List (List ℕ)) (more : NewModel) (path : List ℕ) → Harmless known.graph entries (change paths more) path
+      → KeepsManifest known.graph entries (change paths more) path ⊎ IsIgnored known.graph (change paths more) path
+      ⊎ IsSettled known.graph entries (change paths more) path
+  untested paths more path (inl of) = absurd (both_ways (is_test_file (change paths more) path)
       (none-has-one (sought folder options.source_dirs path)) of.is_named)
-  untested paths path (inr harmless) = harmless
+  untested paths more path (inr harmless) = harmless
 
-  without-warnings : (paths : List (List ℕ)) (outputs warnings : List ℕ) → warnings ≡ []
-      → IsReport known entries (change paths) (outputs_asked options) outputs warnings
-      → Takes old.output new.output outputs → MissesOf paths
-  without-warnings paths outputs warnings empty report took =
+  without-warnings : (paths : List (List ℕ)) (more : NewModel) (outputs warnings : List ℕ) → warnings ≡ []
+      → IsReport known entries (change paths more) (outputs_asked options) outputs warnings
+      → Takes old.output new.output outputs → MissesOf paths more
+  without-warnings paths more outputs warnings empty report took =
       let texts = three-empty known.caveats.items report.caveats.about
-      (shape_text known entries (opened_files known.graph folder) (changed_numbers known.graph (change paths))
+      (shape_text known entries (remade_files known.graph (change paths more))
+          (changed_numbers known.graph (change paths more))
       report.lists.edges)
       (sym empty ∙ report.caveats.all) in
       record {
-        keeps = λ path has. untested paths path (none-warned known.graph entries (change paths) paths
+        keeps = λ path has. untested paths more path (none-warned known.graph entries (change paths more) paths
             report.caveats.about texts.1 report.caveats.warns path has);
         clear = sym texts.0;
         outputs = outputs;
@@ -183,46 +205,54 @@ module _ (known : DiscoveredGraph) (entries : List ReadStatement) (folder : List
       }
 
   answer-misses : {output : List ℕ} {ending : Ending}
-      → AnswersAffected known entries folder options input output ending
+      → AnswersAffected known entries folder options since input output ending
       → Takes old.output new.output output → Concludes ending old.error new.error Done → Misses
   answer-misses (no_rule is) took concludes = let is-fault = concludes.1 in absurd cc
   answer-misses (no_path known_rules empty asks) took (inl told) = let looks = told.1 in absurd cc
   answer-misses (no_path known_rules empty asks) took (inr fails) = let is-failed = fails.1 in absurd cc
-  answer-misses (reported {paths = paths} {outputs = outputs} {warnings = warnings} known_rules some leaves
-      report)
-      took (inl told) =
-      (paths, leaves, without-warnings paths outputs warnings (no-warnings warnings told.1) report took)
-  answer-misses (reported known_rules some leaves report) took (inr fails) = let is-failed = fails.1
+  answer-misses (no_keys known_rules some lacks) took concludes = let is-fault = concludes.1 in absurd cc
+  answer-misses (reported {paths = paths} {new = more} {outputs = outputs} {warnings = warnings} known_rules
+      some is leaves report)
+      took (inl told) = (
+        paths,
+        leaves,
+        more,
+        is,
+        without-warnings paths more outputs warnings (no-warnings warnings told.1) report took,
+      )
+  answer-misses (reported known_rules some is leaves report) took (inr fails) = let is-failed = fails.1
       in absurd cc
 
   done-misses : (status : Status) → status ≡ Done
-      → Ends (AnswersAffected known entries folder options input) old new status → Misses
+      → Ends (AnswersAffected known entries folder options since input) old new status → Misses
   done-misses _ is (ended {output = output} {ending = ending} answers took concludes) =
       answer-misses answers took (subst (Concludes ending old.error new.error) is concludes)
   done-misses _ is (output_fails answers fails same) = absurd cc
   done-misses _ is (memory_fails front took told) = absurd cc
 
 module _ (known : DiscoveredGraph) (entries : List ReadStatement) (folder : List ℕ) (options : TestsModel)
-    (tests : List TestModel) (input : List ℕ) (old new : Sinks) where
-  abbrev change_of : (paths : List (List ℕ)) → ChangeModel
-  change_of paths = tests_change known.has_discovered options tests folder paths
+    (tests : List TestModel) (since : Option (List ℕ)) (input : List ℕ) (old new : Sinks) where
+  abbrev change_of : (paths : List (List ℕ)) → NewModel → ChangeModel
+  change_of paths more = tests_change known.has_discovered options tests folder paths more
 
   abbrev MissesNone : Type 0
   MissesNone = (paths : List (List ℕ)) × LeavesPaths options.change (given_paths options.change input) paths
-      × MissesNoTest known entries options tests (change_of paths) old.output new.output
+      × (more : NewModel)
+      × IsNewSince known.graph (manifest_edges known) entries options.change.bases since more
+      × MissesNoTest known entries options tests (change_of paths more) old.output new.output
 
-  chosen-miss : (paths : List (List ℕ)) (edges caveats warnings output : List ℕ) → warnings ≡ []
-      → Reaches known entries (change_of paths) edges caveats
+  chosen-miss : (paths : List (List ℕ)) (more : NewModel) (edges caveats warnings output : List ℕ) → warnings ≡ []
+      → Reaches known entries (change_of paths more) edges caveats
       → warnings ≡ remarks options (given_paths options.change input) tests ++ caveats
-      → WritesTests known entries (change_of paths) edges options tests (not (is_empty warnings)) output
+      → WritesTests known entries (change_of paths more) edges options tests (not (is_empty warnings)) output
       → Takes old.output new.output output
-      → MissesNoTest known entries options tests (change_of paths) old.output new.output
-  chosen-miss paths edges caveats warnings output empty reaches said writes took =
-      let q = change_of paths in
+      → MissesNoTest known entries options tests (change_of paths more) old.output new.output
+  chosen-miss paths more edges caveats warnings output empty reaches said writes took =
+      let q = change_of paths more in
       let both = both-empty (remarks options (given_paths options.change input) tests) caveats
       (sym empty ∙ said) in
       let texts = three-empty known.caveats.items reaches.are_caveats.about
-      (shape_text known entries (opened_files known.graph folder) (changed_numbers known.graph q) edges)
+      (shape_text known entries (remade_files known.graph q) (changed_numbers known.graph q) edges)
       (both.1 ∙ reaches.are_caveats.all) in
       record {
         keeps = λ path has. none-warned known.graph entries q paths reaches.are_caveats.about texts.1
@@ -238,32 +268,35 @@ module _ (known : DiscoveredGraph) (entries : List ReadStatement) (folder : List
       }
 
   tests-miss : {output : List ℕ} {ending : Ending}
-      → AnswersTests known entries folder options tests input output ending
+      → AnswersTests known entries folder options tests since input output ending
       → Takes old.output new.output output → Concludes ending old.error new.error Done → MissesNone
   tests-miss (no_folder is) took concludes = let is-fault = concludes.1 in absurd cc
-  tests-miss (chosen {paths = paths} {edges = edges} {caveats = caveats} {warnings = warnings}
-      {output = output} some leaves reaches said writes) took (inl told) = (
+  tests-miss (no_test_keys some lacks) took concludes = let is-fault = concludes.1 in absurd cc
+  tests-miss (chosen {paths = paths} {new = more} {edges = edges} {caveats = caveats} {warnings = warnings}
+      {output = output} some is leaves reaches said writes) took (inl told) = (
         paths,
         leaves,
-        chosen-miss paths edges caveats warnings output (no-warnings warnings told.1) reaches said writes
+        more,
+        is,
+        chosen-miss paths more edges caveats warnings output (no-warnings warnings told.1) reaches said writes
             took,
       )
-  tests-miss (chosen some leaves reaches said writes) took (inr fails) = let is-failed = fails.1 in absurd cc
+  tests-miss (chosen some is leaves reaches said writes) took (inr fails) = let is-failed = fails.1 in absurd cc
 
   done-tests : (status : Status) → status ≡ Done
-      → Ends (AnswersTests known entries folder options tests input) old new status → MissesNone
+      → Ends (AnswersTests known entries folder options tests since input) old new status → MissesNone
   done-tests _ is (ended {output = output} {ending = ending} answers took concludes) =
       tests-miss answers took (subst (Concludes ending old.error new.error) is concludes)
   done-tests _ is (output_fails answers fails same) = absurd cc
   done-tests _ is (memory_fails front took told) = absurd cc
 
 pub complete-tests : DoneMissesNoTest
-complete-tests known entries folder options tests input old new ends =
-    done-tests known entries folder options tests input old new Done refl ends
+complete-tests known entries folder options tests since input old new ends =
+    done-tests known entries folder options tests since input old new Done refl ends
 
 pub complete : DoneMissesNothing
-complete known entries folder options input old new ends =
-    done-misses known entries folder options input old new Done refl ends
+complete known entries folder options since input old new ends =
+    done-misses known entries folder options since input old new Done refl ends
 
 pub unique : WarningsAreUnique
 unique g entries q paths text other are also = one-text g entries q paths paths text other refl are also

@@ -22,12 +22,13 @@ use Rattle.nj_ask.specs.declared.discovered.DiscoveredGraph.{DiscoveredGraph}
 use Rattle.nj_ask.specs.declared.failure.Failure.{Failure}
 use Rattle.nj_ask.specs.declared.report.Reach.{Reach}
 use Rattle.nj_ask.specs.declared.status.Status.TheVariants.{Fault}
-use Rattle.nj_ask.specs.Answers.{change_asked}
+use Rattle.nj_ask.specs.Answers.{change_asked, manifest_edges}
 use Rattle.nj_ask.specs.ChosenTests.{AnswersTests, WritesTests, remarks, test_files}
-use Rattle.nj_ask.specs.ChosenTests.AnswersTests.{chosen, no_folder}
+use Rattle.nj_ask.specs.ChosenTests.AnswersTests.{chosen, no_folder, no_keys}
 use Rattle.nj_ask.specs.Endings.{program_line, refused}
 use Rattle.nj_ask.specs.Given.{given_paths, LeavesPaths}
 use Rattle.nj_ask.specs.Reports.{ChangeModel, HasCaveats, IsTouchedBy}
+use Rattle.nj_ask.specs.Since.{IsNewSince, LacksKeys, NewModel}
 use Rattle.nj_ask.specs.Inside.Failures.{FailsBy, Gives}
 use Rattle.nj_ask.specs.Inside.Reached.{IsReach, edge_numbers}
 use Rattle.nj_ask.proofs.EndingLemmas.{gives-refused}
@@ -44,16 +45,24 @@ some-bytes [] some is = true≢false some
 some-bytes (byte ∷ text) some is = absurd cc
 
 module _ (known : DiscoveredGraph) (entries : List ReadStatement) (folder : List ℕ) (options : TestsModel)
-    (tests : List TestModel) (input : List ℕ) where
+    (tests : List TestModel) (since : Option (List ℕ)) (input : List ℕ) where
   -- a working directory that is not known
   pub gives-no-folder : (failure : Failure) → folder ≡ []
       → FailsBy Fault (λ line. line ≡ program_line (codes "the working directory is not known")) failure
-      → Gives (AnswersTests known entries folder options tests input) (Err failure)
+      → Gives (AnswersTests known entries folder options tests since input) (Err failure)
   gives-no-folder failure none fails =
-      gives-refused (AnswersTests known entries folder options tests input) Fault
+      gives-refused (AnswersTests known entries folder options tests since input) Fault
       (λ line. line ≡ program_line (codes "the working directory is not known"))
-      (λ line is. subst (λ l. AnswersTests known entries folder options tests input [] (refused l Fault))
+      (λ line is. subst (λ l. AnswersTests known entries folder options tests since input [] (refused l Fault))
       (sym is) (no_folder none)) failure fails
+
+  -- a file that has no keys
+  pub gives-no-keys : (failure : Failure) → folder ≢ []
+      → FailsBy Fault (LacksKeys options.change.since since) failure
+      → Gives (AnswersTests known entries folder options tests since input) (Err failure)
+  gives-no-keys failure some fails =
+      gives-refused (AnswersTests known entries folder options tests since input) Fault
+      (LacksKeys options.change.since since) (λ line lacks. no_keys some lacks) failure fails
 
   abbrev Touches : Reach → (edge : ℕ) → ChangeModel → Type 0
   Touches reach edge q = Contains (edge_numbers reach.touched.items) edge ↔ IsTouchedBy known q edge
@@ -62,26 +71,28 @@ module _ (known : DiscoveredGraph) (entries : List ReadStatement) (folder : List
   files_at paths = test_files known.has_discovered options tests folder paths
 
   -- the tests that a change reaches
-  pub gives-tests : (answer : Answer) (q : ChangeModel) (files paths : List (List ℕ)) (reach : Reach)
-      (said : List ℕ) → folder ≢ [] → LeavesPaths options.change (given_paths options.change input) paths
+  pub gives-tests : (answer : Answer) (q : ChangeModel) (files paths : List (List ℕ)) (new : NewModel)
+      (reach : Reach) (said : List ℕ) → folder ≢ []
+      → IsNewSince known.graph (manifest_edges known) entries options.change.bases since new
+      → LeavesPaths options.change (given_paths options.change input) paths
       → SameNames files (files_at paths)
-      → q ≡ change_asked options.change folder files paths → IsReach known q reach
+      → q ≡ change_asked options.change folder files paths new → IsReach known q reach
       → HasCaveats known entries q (edge_numbers reach.touched.items) reach.caveats.items
       → said ≡ remarks options (given_paths options.change input) tests
       → answer.warnings.items ≡ said ++ reach.caveats.items
       → WritesTests known entries q (edge_numbers reach.touched.items) options tests
       (not (is_empty answer.warnings.items)) answer.output.items
-      → answer.looks ≡ false → Gives (AnswersTests known entries folder options tests input) (Ok answer)
-  gives-tests answer q files paths reach said some leaves same change reaches caveats about warnings writes
+      → answer.looks ≡ false → Gives (AnswersTests known entries folder options tests since input) (Ok answer)
+  gives-tests answer q files paths new reach said some is leaves same change reaches caveats about warnings writes
       quiet =
       let edges = edge_numbers reach.touched.items in
-      let by = change_asked options.change folder files paths in
+      let by = change_asked options.change folder files paths new in
       let are : HasCaveats known entries by edges reach.caveats.items =
       subst (λ x. HasCaveats known entries x edges reach.caveats.items) change caveats in
       let all = not (is_empty answer.warnings.items) in
       let written : WritesTests known entries by edges options tests all answer.output.items =
       subst (λ x. WritesTests known entries x edges options tests all answer.output.items) change writes in
-      rw quiet (chosen some leaves
+      rw quiet (chosen some is leaves
       (record {
         touched = λ edge. subst (Touches reach edge) change (reaches.touched.touched edge);
         rises = reaches.touched.rises;

@@ -1,6 +1,6 @@
 -- The answer to each question, by a graph and its statements: standard output, and how it ends.
-use Rattle.std.specs.Prelude.{◌≡◌, ◌≢◌, ◌⊎◌, ℕ, Bool, true, false, ◌&&◌, not, if◌then◌else◌, Option, Some, None, is_some, unwrap_or, option_map}
-use Rattle.std.specs.Prelude.{Result, Ok, Err, List, [], ◌∷◌, ◌++◌, map, codes, find, slice_get}
+use Rattle.std.specs.Prelude.{◌≡◌, ◌≢◌, ◌⊎◌, ℕ, Bool, true, false, ◌&&◌, not, if◌then◌else◌, Option, Some, None, is_some, unwrap_or}
+use Rattle.std.specs.Prelude.{Result, Ok, Err, List, [], ◌∷◌, ◌++◌, map, codes, slice_get}
 use Rattle.std.specs.List.{flat_map}
 use Rattle.std.specs.Option.{option_or}
 use Rattle.nj_text.specs.Calls.{is_empty}
@@ -30,12 +30,13 @@ use Rattle.nj_ask.specs.Affected.{Asked, unknown_rule}
 use Rattle.nj_ask.specs.Chains.{HasChain, LacksChain}
 use Rattle.nj_ask.specs.Drawings.{IsDrawing}
 use Rattle.nj_ask.specs.Endings.{Ending, answered, fault_line, program_line, refused}
-use Rattle.nj_ask.specs.Given.{given_paths, LeavesPaths}
+use Rattle.nj_ask.specs.Given.{base_misuse, given_paths, LeavesPaths}
 use Rattle.nj_ask.specs.KeyObjects.{key_objects}
 use Rattle.nj_ask.specs.NeededFaults.{IsFirstFault}
 use Rattle.nj_ask.specs.Pages.{mark_line}
 use Rattle.nj_ask.specs.Reports.{ChangeModel, IsReport, no_path_line}
 use Rattle.nj_ask.specs.Shape.{caveat_text}
+use Rattle.nj_ask.specs.Since.{IsNewSince, LacksKeys, NewModel}
 
 -- ---- depfiles with faults, at which Ninja stops
 
@@ -49,16 +50,26 @@ pub record HasDepfileFault (known : DiscoveredGraph) (files : List (List ℕ)) (
   pub first : IsFirstFault known files (Some fault)
   pub line_is : line ≡ program_line fault.text.items
 
+-- ---- the manifest alone
+
+-- the edges of the manifest alone: a key is the same whatever builds discovered
+abbrev pub manifest_edges : DiscoveredGraph → List EdgePaths
+manifest_edges known = edges_stated (map (λ discovery. discovery.stated_inputs) known.discoveries.items) (edges_of known.graph)
+
 -- ---- `affected`
 
--- the change of the files at the given paths, in the given working directory, where tests name the files at the given full paths
-abbrev pub change_asked : AffectedModel → (working : List ℕ) → (test_files : List (List ℕ)) → (paths : List (List ℕ)) → ChangeModel
-change_asked options working test_files paths = record {
+-- The change of the files at the given paths, in the given working directory, where tests name the files at the given full paths. It comes
+-- with what is new in the manifest.
+abbrev pub change_asked : AffectedModel → (working : List ℕ) → (test_files : List (List ℕ)) → (paths : List (List ℕ)) → (new : NewModel)
+    → ChangeModel
+change_asked options working test_files paths new = record {
   working = working;
   folders = options.source_dirs;
   paths = paths;
   ignores_unknown = options.ignore_unknown;
   test_files = test_files;
+  commands = new.commands;
+  is_settled = new.is_settled;
 }
 
 -- the outputs that are listed
@@ -66,20 +77,24 @@ abbrev pub outputs_asked : AffectedModel → Asked
 outputs_asked options = record { rules = options.rules; prefix = options.prefix; no_phony = options.no_phony }
 
 -- `affected`: a rule's name that no rule has would list nothing, as if nothing were affected, so it is refused; so it is something to
--- look at that no path is given, unless none need be. The report is about the paths that are not ignored. `folder` is the working
--- directory.
+-- look at that no path is given, unless none need be. The report is about the paths that are not ignored, and about the commands with
+-- keys that the text `since` does not have, if there is one. `folder` is the working directory.
 pub data AnswersAffected (known : DiscoveredGraph) (entries : List ReadStatement) (folder : List ℕ) (options : AffectedModel)
-    (input : List ℕ) : (output : List ℕ) → Ending → Type 0 where
+    (since : Option (List ℕ)) (input : List ℕ) : (output : List ℕ) → Ending → Type 0 where
   no_rule : {name : List ℕ} → unknown_rule known.graph options.rules ≡ Some name
-      → AnswersAffected known entries folder options input []
+      → AnswersAffected known entries folder options since input []
       (refused (program_line (codes "unknown rule '" ++ name ++ codes "'")) Fault)
   no_path : unknown_rule known.graph options.rules ≡ None → given_paths options input ≡ [] → options.allow_empty ≡ false
-      → AnswersAffected known entries folder options input [] (answered false no_path_line)
-  reported : {paths : List (List ℕ)} {outputs warnings : List ℕ} → unknown_rule known.graph options.rules ≡ None
+      → AnswersAffected known entries folder options since input [] (answered false no_path_line)
+  no_keys : {line : List ℕ} → unknown_rule known.graph options.rules ≡ None
+      → (given_paths options input ≢ []) ⊎ (options.allow_empty ≡ true) → LacksKeys options.since since line
+      → AnswersAffected known entries folder options since input [] (refused line Fault)
+  reported : {paths : List (List ℕ)} {new : NewModel} {outputs warnings : List ℕ} → unknown_rule known.graph options.rules ≡ None
       → (given_paths options input ≢ []) ⊎ (options.allow_empty ≡ true)
+      → IsNewSince known.graph (manifest_edges known) entries options.bases since new
       → LeavesPaths options (given_paths options input) paths
-      → IsReport known entries (change_asked options folder [] paths) (outputs_asked options) outputs warnings
-      → AnswersAffected known entries folder options input outputs (answered false warnings)
+      → IsReport known entries (change_asked options folder [] paths new) (outputs_asked options) outputs warnings
+      → AnswersAffected known entries folder options since input outputs (answered false warnings)
 
 -- ---- `why`
 
@@ -116,10 +131,6 @@ pub data AnswersWhy (known : DiscoveredGraph) (entries : List ReadStatement) (op
 
 -- ---- `keys`
 
--- the first base that is not an absolute path
-abbrev pub relative_base : (bases : List (List ℕ)) → Option (List ℕ)
-relative_base bases = find (λ base. not (is_absolute base)) bases
-
 -- the text of the mark of the run before; without one that of the start
 abbrev pub mark_text : KeysModel → List ℕ
 mark_text options = unwrap_or options.resume (codes "start")
@@ -144,7 +155,7 @@ all_misuse options =
 -- why the options are refused before anything is read
 abbrev pub keys_misuse : KeysModel → Option (List ℕ)
 keys_misuse options =
-    option_or (option_map (λ base. program_line (codes "'" ++ base ++ codes "' of --base is not absolute")) (relative_base options.bases))
+    option_or (base_misuse options.bases)
     (option_or (all_misuse options) (mark_misuse (mark_text options) (asked_mark options)))
 
 -- the targets that words mean; the default ones if there are none
@@ -154,10 +165,6 @@ asked_targets g words = targets_or (defaults_in_force g.built.defaults (edges_of
 -- the files at the given paths
 abbrev pub files_at : GraphModel → (paths : List (List ℕ)) → GraphFiles
 files_at g paths = record { graph = g; paths = paths }
-
--- the edges of the manifest alone: a key is the same whatever builds discovered
-abbrev pub manifest_edges : DiscoveredGraph → List EdgePaths
-manifest_edges known = edges_stated (map (λ discovery. discovery.stated_inputs) known.discoveries.items) (edges_of known.graph)
 
 -- the keys of the given edges, by the options: the additions are the texts of the options, and after them `contents`, those for the contents
 -- of files

@@ -17,10 +17,11 @@ use Rattle.nj_test_texts.specs.declared.style.Style.TheVariants.{CTest, Meson, N
 use Rattle.nj_questions.specs.Questions.{TestsModel}
 use Rattle.nj_ask.specs.declared.discovered.DiscoveredGraph.{DiscoveredGraph}
 use Rattle.nj_ask.specs.declared.status.Status.TheVariants.{Fault}
-use Rattle.nj_ask.specs.Answers.{change_asked}
+use Rattle.nj_ask.specs.Answers.{change_asked, manifest_edges}
 use Rattle.nj_ask.specs.Endings.{Ending, answered, program_line, refused}
 use Rattle.nj_ask.specs.Given.{given_paths, LeavesPaths, MisusesAffected, TakesAffected}
 use Rattle.nj_ask.specs.Reports.{ChangeModel, HasCaveats, IsTouchedBy, changed_paths, no_path_line}
+use Rattle.nj_ask.specs.Since.{IsNewSince, LacksKeys, NewModel}
 use Rattle.nj_ask.specs.TestLists.{list_path}
 
 -- ---- options
@@ -101,10 +102,11 @@ abbrev pub test_files : (has_discovered : Bool) → TestsModel → List TestMode
 test_files has_discovered options tests folder paths =
     if has_discovered then named_by_tests folder (all_sought folder options.change.source_dirs paths) tests else []
 
--- the change of the files at the given paths, in the given working directory
-abbrev pub tests_change : (has_discovered : Bool) → TestsModel → List TestModel → (folder : List ℕ) → (paths : List (List ℕ)) → ChangeModel
-tests_change has_discovered options tests folder paths =
-    change_asked options.change folder (test_files has_discovered options tests folder paths) paths
+-- the change of the files at the given paths, in the given working directory, with what is new in the manifest
+abbrev pub tests_change : (has_discovered : Bool) → TestsModel → List TestModel → (folder : List ℕ) → (paths : List (List ℕ)) → NewModel
+    → ChangeModel
+tests_change has_discovered options tests folder paths new =
+    change_asked options.change folder (test_files has_discovered options tests folder paths) paths new
 
 -- the edges are exactly those that a change touches, and the text says why there may be more
 pub record Reaches (known : DiscoveredGraph) (entries : List ReadStatement) (q : ChangeModel) (edges : List ℕ) (caveats : List ℕ)
@@ -155,13 +157,16 @@ remarks options paths tests = no_path_remark options paths ++ no_test_remark opt
 -- `tests`: those that the change of the files at the paths that are not ignored reaches. Where something is said of the change or of
 -- what is given, others may be affected too, and all tests are written. `folder` is the working directory, below which tests name files.
 pub data AnswersTests (known : DiscoveredGraph) (entries : List ReadStatement) (folder : List ℕ) (options : TestsModel)
-    (tests : List TestModel) (input : List ℕ) : (output : List ℕ) → Ending → Type 0 where
-  no_folder : folder ≡ [] → AnswersTests known entries folder options tests input []
+    (tests : List TestModel) (since : Option (List ℕ)) (input : List ℕ) : (output : List ℕ) → Ending → Type 0 where
+  no_folder : folder ≡ [] → AnswersTests known entries folder options tests since input []
       (refused (program_line (codes "the working directory is not known")) Fault)
-  chosen : {paths : List (List ℕ)} {edges : List ℕ} {caveats warnings output : List ℕ} → folder ≢ []
+  no_keys : {line : List ℕ} → folder ≢ [] → LacksKeys options.change.since since line
+      → AnswersTests known entries folder options tests since input [] (refused line Fault)
+  chosen : {paths : List (List ℕ)} {new : NewModel} {edges : List ℕ} {caveats warnings output : List ℕ} → folder ≢ []
+      → IsNewSince known.graph (manifest_edges known) entries options.change.bases since new
       → LeavesPaths options.change (given_paths options.change input) paths
-      → Reaches known entries (tests_change known.has_discovered options tests folder paths) edges caveats
+      → Reaches known entries (tests_change known.has_discovered options tests folder paths new) edges caveats
       → warnings ≡ remarks options (given_paths options.change input) tests ++ caveats
-      → WritesTests known entries (tests_change known.has_discovered options tests folder paths) edges options tests
+      → WritesTests known entries (tests_change known.has_discovered options tests folder paths new) edges options tests
       (not (is_empty warnings)) output
-      → AnswersTests known entries folder options tests input output (answered false warnings)
+      → AnswersTests known entries folder options tests since input output (answered false warnings)

@@ -1,15 +1,16 @@
 -- What the contracts of this crate cite: each name comes from the module in its line.
 pub use Rattle.nj_ask.specs.Answers.{AnswersAffected, change_asked, outputs_asked, HasDepfileFault, IsClear, AnswersDraw, AnswersJson}
 pub use Rattle.nj_ask.specs.Answers.{AnswersAllKeys, AnswersKeys, AnswersTargetKeys, all_misuse, keys_text, single_base, asked_mark}
-pub use Rattle.nj_ask.specs.Answers.{asked_targets, keys_misuse, mark_misuse, AnswersWhy, needed_from}
-pub use Rattle.nj_ask.specs.Inside.Asking.{AreGlobsAsked, LeavesAnswer, named_files, AnswersTask, IsGiven, IsTask, AreTestsAsked}
+pub use Rattle.nj_ask.specs.Answers.{asked_targets, keys_misuse, mark_misuse, manifest_edges, AnswersWhy, needed_from}
+pub use Rattle.nj_ask.specs.Inside.Asking.{AreGlobsAsked, named_files, LeavesAnswer, AnswersTask, IsGiven, IsTask, AreTestsAsked}
 pub use Rattle.nj_ask.specs.Inside.Failures.{Gives, Delivers, WritesAnswer, ConcludesTold, FailsBy, SaysFault, Returns, Stops}
 pub use Rattle.nj_ask.specs.Inside.Findings.{HasEdges, AreFindingsOf, text_if_faulty, if_doubtful, if_faulty}
-pub use Rattle.nj_graph.specs.Graph.{OfStatements, files_of, edges_of, IsGraphOf, rule_name, late_text_of}
+pub use Rattle.nj_graph.specs.Graph.{OfStatements, files_of, edges_of, IsGraphOf, late_text_of, rule_name}
 pub use Rattle.nj_questions.specs.Questions.{affected_model, SubjectModel, question_model, subject_model, audit_model, tests_model}
 pub use Rattle.nj_questions.specs.Questions.{draw_model, asked_graph, keys_model, stale_model, times_model, why_model}
-pub use Rattle.nj_ask.specs.Inside.Lent.{asked_of, change_model, texts}
+pub use Rattle.nj_ask.specs.Inside.Lent.{asked_of, change_model, new_model, texts}
 pub use Rattle.nj_ask.specs.Reports.{no_path_line, changed_numbers, made_from_line, HasCaveats, HasWarnings, IsReport, IsTouchedBy}
+pub use Rattle.nj_ask.specs.Reports.{remade_files}
 pub use Rattle.nj_ask.specs.declared.status.Status.TheVariants.{Fault, Usage}
 pub use Rattle.nj_ask.specs.Endings.{Concludes, Reported, answered, memory_line, program_line, Ends, ReportsError}
 pub use Rattle.nj_ask.specs.Drawings.{stated_count, End, arrow_line, arrows_from, arrows_to, drawn_ends, edge_arrows, end_at, ends}
@@ -38,7 +39,7 @@ pub use Rattle.nj_build_log.specs.Logs.{build_log_of, BuildLogModel, LineModel, 
 pub use Rattle.nj_ask.specs.Chains.{is_discovered, kind_end, kind_word, place_text}
 pub use Rattle.nj_ask.specs.Inside.ChainTexts.{step_line, IsChainText}
 pub use Rattle.nj_ask.specs.Inside.Reached.{AreAt, AreFilesOf, AreFullPaths, numbers_of, IsReach, edge_numbers, AreFeeding, CanTellAll}
-pub use Rattle.nj_ask.specs.Inside.Reached.{warning_by, AreFilesAt, AreTables, AreAffected, AreTouched}
+pub use Rattle.nj_ask.specs.Inside.Reached.{AreAllTouched, AreEdgesOf, AreTouched, warning_by, AreFilesAt, AreTables, HaveAffected}
 pub use Rattle.nj_ask.specs.SameFiles.{full_path_of}
 pub use Rattle.nj_graph.specs.Edges.{is_among, first_output, edge_at, outputs_of, inputs_of, maker_of}
 pub use Rattle.nj_ask.specs.ChosenTests.{AnswersTests, WritesTests, no_path_remark, no_test_remark, remarks, roots_of, test_files}
@@ -51,7 +52,7 @@ pub use Rattle.nj_ask.specs.DeadAnswers.{AnswersDead, ListsDead, dead_line, unre
 pub use Rattle.nj_discovered.specs.Times.{DeclaredTimes}
 pub use Rattle.serde_json.specs.Written.{compact_text, comma_if}
 pub use Rattle.nj_times.specs.Dead.{dead_outputs}
-pub use Rattle.serde_json.specs.Data.{string, unsigned, array, boolean, number}
+pub use Rattle.serde_json.specs.Data.{string, array, boolean, number, unsigned}
 pub use Rattle.std.specs.Str.Lossy.{utf8_lossy}
 pub use Rattle.nj_graph.specs.Files.{path_at}
 pub use Rattle.nj_scope.specs.Sources.{outcome_bytes, SourceState}
@@ -65,12 +66,12 @@ pub use Rattle.nj_ask.specs.DiscoveredGraphs.{doubtful_edges, edge_discoveries, 
 pub use Rattle.nj_ask.specs.Joined.{Follows, HasDoubtfulEdges}
 pub use Rattle.nj_ask.specs.DrawingLaws.{EndsAreDrawn, NeededAreDrawn, NodesAreDistinct, NodesAreLimited}
 pub use Rattle.nj_audit.specs.Findings.{finding_model}
-pub use Rattle.nj_ask.specs.Given.{folder_misuse, given_paths, pattern_line, MisusesAffected}
-pub use Rattle.nj_ask.specs.Inside.AnswerParts.{SaysPattern, IsPageOf, SaysErr, base_misuse}
+pub use Rattle.nj_ask.specs.Given.{change_misuse, folder_misuse, since_misuse, given_paths, pattern_line, MisusesAffected, base_misuse}
+pub use Rattle.nj_ask.specs.Inside.AnswerParts.{SaysPattern, IsPageOf, SaysErr}
 pub use Rattle.nj_graph.specs.Loads.{Loads}
 pub use Rattle.nj_graph.specs.Undeclared.{input_of_edge}
-pub use Rattle.nj_ask.specs.Shape.{caveat_text, dyndep_files, dyndep_of, dyndep_text, line_if_changes, lines_of_changing, may_change}
-pub use Rattle.nj_ask.specs.Shape.{remade_text, shape_text, unjoined_files}
+pub use Rattle.nj_ask.specs.Shape.{caveat_text, shape_text, dyndep_files, dyndep_of, dyndep_text, line_if_changes, lines_of_changing}
+pub use Rattle.nj_ask.specs.Shape.{may_change, remade_text, unjoined_files}
 pub use Rattle.nj_ask.specs.Inside.JsonTexts.{AddsItem, AddsMember, AddsValue, BeginsMember, AddsInputs, AddsFiles, AddsKey, AddsTexts}
 pub use Rattle.nj_ask.specs.KeyObjects.{path_items, text_value, KeyInput, input_value, inputs_among, key_inputs, kind_name}
 pub use Rattle.nj_ask.specs.KeyObjects.{discovered_value, key_object, key_objects, bases_named, is_named_base, key_texts, names_base}
@@ -89,17 +90,20 @@ pub use Rattle.nj_ask.specs.Pages.{mark_line}
 pub use Rattle.nj_ask.specs.Inside.FileLines.{output_lines, path_lines}
 pub use Rattle.nj_ask.specs.MadeFrom.{TellMadeFrom}
 pub use Rattle.nj_ask.specs.Manifest.{makers_of_opened, makes_manifest, FeedsManifest, opened_paths, opened_files}
-pub use Rattle.nj_ask.specs.Inside.Flags.{AreFeeds, AreFlags, is_made_flag, AreMarks}
+pub use Rattle.nj_ask.specs.Inside.Flags.{AreFeeds, AreFlags, flagged_numbers, is_made_flag, AreMarks}
 pub use Rattle.nj_names.specs.Files.{AreFiles}
 pub use Rattle.nj_ask.specs.NeededFaults.{IsFirstFault}
+pub use Rattle.nj_reached.specs.GraphChanges.{outputs_at}
 pub use Rattle.std.specs.Fmt.{decimal}
 pub use Rattle.nj_ask.specs.Quotes.{quoted, escaped, escapes}
-pub use Rattle.nj_ask.specs.OptionFiles.{LacksAdditions, LacksContent, LacksNamedFiles, ReadsAdditionAt, ReadsAdditions, ReadsContents}
-pub use Rattle.nj_ask.specs.OptionFiles.{ReadsNamedFiles}
+pub use Rattle.nj_ask.specs.OptionFiles.{LacksAdditions, LacksContent, LacksNamedFiles, LacksNamedText, ReadsAdditionAt, ReadsAdditions}
+pub use Rattle.nj_ask.specs.OptionFiles.{ReadsContents, ReadsNamedFiles, ReadsText, since_path}
 pub use Rattle.nj_ask.specs.TestLists.{LacksText, LacksList, LacksLists, LacksMeson, LacksNamed, LacksTests, ReadsList, ReadsLists}
 pub use Rattle.nj_ask.specs.TestLists.{ReadsMeson, ReadsNamed, ReadsTests, faulty_path, info_path, is_of_targets, list_line, list_path}
 pub use Rattle.nj_graph.specs.Changes.{IsAffected}
 pub use Rattle.nj_ask.specs.Laws.{DoneMissesNothing, DoneMissesNoTest, ListedHaveReasons, WarningsAreUnique}
+pub use Rattle.nj_ask.specs.Since.{AreNewCommands, IsNewSince, IsWrongLine, LacksKeys, first_wrong, has_output, is_wrong, key_of, keys_in}
+pub use Rattle.nj_ask.specs.Since.{lines_in, new_edges, wrong_line}
 pub use Rattle.nj_audit.specs.declared.kinds.Kind.TheVariants.{MissingSource}
 pub use Rattle.nj_ask.specs.Stales.{AnswersBuild, AnswersStale, AreStaleFor, IsCurrent, WritesStale, files_asked, if_named, is_stale_maker}
 pub use Rattle.nj_ask.specs.Stales.{main_path, manifest_asked, manifest_targets, manifest_text, stale_misuse}

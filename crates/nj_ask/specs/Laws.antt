@@ -1,5 +1,5 @@
 -- What status 0 of `affected` and `tests` means, and that a report is determined.
-use Rattle.std.specs.Prelude.{◌≡◌, ◌≢◌, ◌⊎◌, ◌↔◌, ℕ, Bool, true, false, List, [], ◌∷◌, Contains, map}
+use Rattle.std.specs.Prelude.{◌≡◌, ◌≢◌, ◌⊎◌, ◌↔◌, ℕ, Bool, true, false, Option, List, [], ◌∷◌, Contains, map}
 use Rattle.nj_graph.specs.ReadingList.{ReadStatement}
 use Rattle.nj_graph.specs.Changes.{has_input_of, IsOrNeeds}
 use Rattle.nj_graph.specs.Dirty.{has_counted_input_of, has_output_of}
@@ -11,14 +11,16 @@ use Rattle.nj_questions.specs.Questions.{AffectedModel, TestsModel}
 use Rattle.nj_ask.specs.declared.discovered.DiscoveredGraph.{DiscoveredGraph}
 use Rattle.nj_ask.specs.declared.status.Status.TheVariants.{Done}
 use Rattle.nj_ask.specs.Affected.{Asked, ListsOutputs}
-use Rattle.nj_ask.specs.Answers.{AnswersAffected, change_asked, outputs_asked}
+use Rattle.nj_ask.specs.Answers.{AnswersAffected, change_asked, manifest_edges, outputs_asked}
 use Rattle.nj_ask.specs.ChosenTests.{AnswersTests, WritesTests, tests_change}
 use Rattle.nj_ask.specs.Endings.{Ends, Sinks}
 use Rattle.nj_ask.specs.Given.{given_paths, LeavesPaths}
 use Rattle.nj_ask.specs.Manifest.{makes_manifest, opened_files}
-use Rattle.nj_ask.specs.Reports.{ChangeModel, changed_numbers, changed_paths, files_meant, is_opened, is_test_file, HasWarnings, IsReport}
-use Rattle.nj_ask.specs.Reports.{IsTouchedBy, IsUnnamed}
+use Rattle.nj_ask.specs.Reports.{ChangeModel, changed_numbers, files_meant, is_opened, is_test_file}
+use Rattle.nj_ask.specs.Reports.{new_paths, remade_files, HasWarnings, IsReport}
+use Rattle.nj_ask.specs.Reports.{ChangesManifest, IsTouchedBy, IsUnnamed}
 use Rattle.nj_ask.specs.SameFiles.{path_of}
+use Rattle.nj_ask.specs.Since.{IsNewSince, NewModel}
 use Rattle.nj_ask.specs.Shape.{shape_text}
 
 -- A changed path denotes files of the graph that are not needed to make the manifest, and no file was opened at it.
@@ -35,25 +37,38 @@ pub record IsIgnored (g : GraphModel) (q : ChangeModel) (path : List ℕ) : Type
   pub unopened : is_opened g q path ≡ false
   pub ignores : q.ignores_unknown ≡ true
 
--- Changed paths do not change the manifest; each denotes a file, unless paths without a file are ignored; nothing is unclear about what
--- builds discovered; dyndep files and manifests cannot change; and standard output received exactly the requested outputs of the edges that
--- the change touches.
-pub record MissesNothing (known : DiscoveredGraph) (entries : List ReadStatement) (q : ChangeModel) (asked : Asked)
+-- A changed path from which a manifest is made that is up to date with the files that it is made from.
+pub record IsSettled (g : GraphModel) (entries : List ReadStatement) (q : ChangeModel) (path : List ℕ) : Type
+    0 where
+  pub changes : ChangesManifest g entries q path
+  pub settled : q.is_settled ≡ true
+
+-- Changed paths do not change the manifest, or it is up to date with them; each denotes a file, unless paths
+-- without a file are ignored;
+-- nothing is unclear about what builds discovered; dyndep files and manifests cannot change; and standard
+-- output received exactly the
+-- requested outputs of the edges that the change touches.
+pub record MissesNothing (known : DiscoveredGraph) (entries : List ReadStatement) (q : ChangeModel)
+    (asked : Asked)
     (old new : SinkState) : Type 0 where
   pub keeps : (path : List ℕ) → Contains q.paths path
       → KeepsManifest known.graph entries q path ⊎ IsIgnored known.graph q path
+      ⊎ IsSettled known.graph entries q path
   pub clear : known.caveats.items ≡ []
   pub outputs : List ℕ
   pub lists : ListsOutputs known.graph asked (IsTouchedBy known q) outputs
-  pub shape : shape_text known entries (opened_files known.graph q.working) (changed_numbers known.graph q) lists.edges ≡ []
+  pub shape : shape_text known entries (remade_files known.graph q) (changed_numbers known.graph q)
+      lists.edges ≡ []
   pub took : Takes old new outputs
 
 -- Where `affected` ends with status 0, nothing is missed of the paths that are not ignored.
 abbrev pub DoneMissesNothing : Type 0
 DoneMissesNothing = (known : DiscoveredGraph) (entries : List ReadStatement) (folder : List ℕ) (options : AffectedModel)
-    (input : List ℕ) (old new : Sinks) → Ends (AnswersAffected known entries folder options input) old new Done
+    (since : Option (List ℕ)) (input : List ℕ) (old new : Sinks)
+    → Ends (AnswersAffected known entries folder options since input) old new Done
     → (paths : List (List ℕ)) × LeavesPaths options (given_paths options input) paths
-    × MissesNothing known entries (change_asked options folder [] paths) (outputs_asked options) old.output new.output
+    × (more : NewModel) × IsNewSince known.graph (manifest_edges known) entries options.bases since more
+    × MissesNothing known entries (change_asked options folder [] paths more) (outputs_asked options) old.output new.output
 
 -- ---- tests
 
@@ -63,17 +78,21 @@ pub record IsOfTest (g : GraphModel) (q : ChangeModel) (path : List ℕ) : Type 
   pub unopened : is_opened g q path ≡ false
   pub is_named : is_test_file q path ≡ true
 
--- Changed paths do not change the manifest; each denotes a file that tests or edges name, unless paths without a file are ignored; nothing
--- is unclear about what builds discovered; dyndep files and manifests cannot change; and standard output received the tests that are
--- chosen, without any other.
-pub record MissesNoTest (known : DiscoveredGraph) (entries : List ReadStatement) (options : TestsModel) (tests : List TestModel)
+-- Changed paths do not change the manifest, or it is up to date with them; each denotes a file that tests or
+-- edges name, unless paths
+-- without a file are ignored; nothing is unclear about what builds discovered; dyndep files and manifests
+-- cannot change; and standard
+-- output received the tests that are chosen, without any other.
+pub record MissesNoTest (known : DiscoveredGraph) (entries : List ReadStatement) (options : TestsModel)
+    (tests : List TestModel)
     (q : ChangeModel) (old new : SinkState) : Type 0 where
   pub keeps : (path : List ℕ) → Contains q.paths path
       → IsOfTest known.graph q path ⊎ KeepsManifest known.graph entries q path ⊎ IsIgnored known.graph q path
+      ⊎ IsSettled known.graph entries q path
   pub clear : known.caveats.items ≡ []
   pub edges : List ℕ
   pub touched : (edge : ℕ) → Contains edges edge ↔ IsTouchedBy known q edge
-  pub shape : shape_text known entries (opened_files known.graph q.working) (changed_numbers known.graph q) edges ≡ []
+  pub shape : shape_text known entries (remade_files known.graph q) (changed_numbers known.graph q) edges ≡ []
   pub output : List ℕ
   pub writes : WritesTests known entries q edges options tests false output
   pub took : Takes old new output
@@ -81,10 +100,11 @@ pub record MissesNoTest (known : DiscoveredGraph) (entries : List ReadStatement)
 -- Where `tests` ends with status 0, nothing is missed of the paths that are not ignored.
 abbrev pub DoneMissesNoTest : Type 0
 DoneMissesNoTest = (known : DiscoveredGraph) (entries : List ReadStatement) (folder : List ℕ) (options : TestsModel)
-    (tests : List TestModel) (input : List ℕ) (old new : Sinks)
-    → Ends (AnswersTests known entries folder options tests input) old new Done
+    (tests : List TestModel) (since : Option (List ℕ)) (input : List ℕ) (old new : Sinks)
+    → Ends (AnswersTests known entries folder options tests since input) old new Done
     → (paths : List (List ℕ)) × LeavesPaths options.change (given_paths options.change input) paths
-    × MissesNoTest known entries options tests (tests_change known.has_discovered options tests folder paths) old.output new.output
+    × (more : NewModel) × IsNewSince known.graph (manifest_edges known) entries options.change.bases since more
+    × MissesNoTest known entries options tests (tests_change known.has_discovered options tests folder paths more) old.output new.output
 
 -- ---- one text
 
@@ -95,23 +115,29 @@ WarningsAreUnique = (g : GraphModel) (entries : List ReadStatement) (q : ChangeM
 
 -- ---- what is listed is closed
 
--- Why an edge is listed beside others: one of its inputs changed, or is an output of a listed edge. With discovered inputs, order-only
--- inputs are ignored, and it is also a reason that the discovered inputs of the edge are not known, or that one of its outputs changed.
-abbrev pub HasReason : (has_discovered : Bool) → List EdgePaths → (changed : List (List ℕ)) → (unknown listed : List ℕ) → (edge : ℕ)
+-- Why an edge is listed beside others: one of its inputs is new, or is an output of a listed edge. With
+-- discovered inputs, order-only
+-- inputs are ignored, and it is also a reason that the discovered inputs of the edge are not known, or that
+-- one of its outputs is new.
+abbrev pub HasReason : (has_discovered : Bool) → List EdgePaths → (changed : List (List ℕ))
+    → (unknown listed : List ℕ) → (edge : ℕ)
     → Type 0
 HasReason false edges changed unknown listed edge =
     (has_input_of changed (edge_at edges edge) ≡ true)
-    ⊎ ((other : ℕ) × Contains listed other × (has_input_of (outputs_of (edge_at edges other)) (edge_at edges edge) ≡ true))
+    ⊎ ((other : ℕ) × Contains listed other
+    × (has_input_of (outputs_of (edge_at edges other)) (edge_at edges edge) ≡ true))
 HasReason true edges changed unknown listed edge =
     Contains unknown edge
     ⊎ (has_output_of changed (edge_at edges edge) ≡ true)
     ⊎ (has_counted_input_of changed (edge_at edges edge) ≡ true)
-    ⊎ ((other : ℕ) × Contains listed other × (has_counted_input_of (outputs_of (edge_at edges other)) (edge_at edges edge) ≡ true))
+    ⊎ ((other : ℕ) × Contains listed other
+    × (has_counted_input_of (outputs_of (edge_at edges other)) (edge_at edges edge) ≡ true))
 
--- The edges whose outputs a report lists are exactly those with a reason.
+-- The edges whose outputs a report lists are exactly those with a new command or another reason.
 abbrev pub ListedHaveReasons : Type 0
 ListedHaveReasons = (known : DiscoveredGraph) (entries : List ReadStatement) (q : ChangeModel) (asked : Asked)
     (outputs warnings : List ℕ) (report : IsReport known entries q asked outputs warnings) (edge : ℕ)
     → Contains report.lists.edges edge
-    ↔ HasReason known.has_discovered (edges_of known.graph) (changed_paths known.graph q)
-    (map (λ edge. edge.0) known.unknown.items) report.lists.edges edge
+    ↔ (Contains q.commands edge ⊎ HasReason known.has_discovered (edges_of known.graph)
+    (new_paths known.graph q)
+    (map (λ edge. edge.0) known.unknown.items) report.lists.edges edge)

@@ -30,6 +30,7 @@ pub mod Quotes
 pub mod Reports
 pub mod SameFiles
 pub mod Shape
+pub mod Since
 pub mod StaleObjects
 pub mod Stales
 pub mod DeadAnswers

@@ -1,16 +1,17 @@
 -- The files that options name beside the graph: a list of tests, and files whose contents go into keys.
-use Rattle.std.specs.Prelude.{◌≡◌, ℕ, Some, List, [], ◌∷◌, ◌++◌}
+use Rattle.std.specs.Prelude.{◌≡◌, ℕ, Option, Some, None, List, [], ◌∷◌, ◌++◌}
 use Rattle.nj_scope.specs.Sources.{SourceState}
 use Rattle.nj_tests.specs.Tests.{TestModel}
 use Rattle.nj_keys.specs.Keys.{content_addition}
-use Rattle.nj_questions.specs.Questions.{SubjectModel, keys}
+use Rattle.nj_questions.specs.Questions.{SubjectModel, affected, keys, tests}
 use Rattle.nj_ask.specs.LogsRead.{ReadsBytes}
 use Rattle.nj_ask.specs.TestLists.{LacksTests, LacksText, ReadsTests}
 
--- what was read from them: the tests of a list, and the additions for the contents of files
+-- what was read from them: the tests of a list, the additions for the contents of files, and the text of `--since`
 pub record NamedFiles : Type 0 where
   pub tests : List TestModel
   pub additions : List (List ℕ)
+  pub since : Option (List ℕ)
 
 -- ---- contents that go into keys
 
@@ -43,16 +44,39 @@ abbrev pub LacksAdditions : SubjectModel → (before after : SourceState) → (l
 LacksAdditions (keys options) before after line = LacksContent options.files before after line
 LacksAdditions other before after line = ⊥
 
+-- ---- the keys of an older manifest
+
+-- the file of `--since`, if one is named
+abbrev pub since_path : SubjectModel → Option (List ℕ)
+since_path (affected options) = options.since
+since_path (tests options) = options.change.since
+since_path other = None
+
+-- its text was read
+abbrev pub ReadsText : (path : Option (List ℕ)) → (before after : SourceState) → (text : Option (List ℕ)) → Type 0
+ReadsText None before after text = (after ≡ before) × (text ≡ None)
+ReadsText (Some path) before after text = (read : List ℕ) × ReadsBytes before after path (Some read) × (text ≡ Some read)
+
+-- there is none
+abbrev pub LacksNamedText : (path : Option (List ℕ)) → (before after : SourceState) → (line : List ℕ) → Type 0
+LacksNamedText None before after line = ⊥
+LacksNamedText (Some path) before after line = LacksText path before after line
+
 -- ---- the files of a question
 
--- they were read: first the list of tests
+-- they were read: first the list of tests, and then the contents that go into keys
 pub record ReadsNamedFiles (subject : SubjectModel) (folder : List ℕ) (before after : SourceState) (named : NamedFiles) : Type 0 where
+  pub listed : SourceState
   pub between : SourceState
-  pub tests : ReadsTests subject folder before between named.tests
-  pub additions : ReadsAdditions subject between after named.additions
+  pub tests : ReadsTests subject folder before listed named.tests
+  pub additions : ReadsAdditions subject listed between named.additions
+  pub since : ReadsText (since_path subject) between after named.since
 
 -- one of them is lacking
 pub data LacksNamedFiles (subject : SubjectModel) (folder : List ℕ) (before after : SourceState) (line : List ℕ) : Type 0 where
   no_tests : LacksTests subject folder before after line → LacksNamedFiles subject folder before after line
   no_content : (between : SourceState) (tests : List TestModel) → ReadsTests subject folder before between tests
       → LacksAdditions subject between after line → LacksNamedFiles subject folder before after line
+  no_keys : (listed between : SourceState) (tests : List TestModel) (additions : List (List ℕ))
+      → ReadsTests subject folder before listed tests → ReadsAdditions subject listed between additions
+      → LacksNamedText (since_path subject) between after line → LacksNamedFiles subject folder before after line

@@ -1,7 +1,7 @@
 //! The answer to `tests`.
 
 ghost use Rattle.std.specs.Prelude.{◌≡◌, ◌++◌, codes, IfOk, OnOk, false, not, map, string_bytes};
-ghost use Rattle.nj_ask.specs.Cited.{AnswersTests, AreGlobsAsked, Gives, HasEdges, IsReach, OfStatements, SameNames, WritesTests, change_model, edge_numbers, is_empty, no_path_remark, no_test_remark, program_line, remarks, roots_of, test_files, test_model, tests_model, texts};
+ghost use Rattle.nj_ask.specs.Cited.{AnswersTests, AreGlobsAsked, Gives, HasEdges, IsReach, OfStatements, SameNames, WritesTests, change_model, named_files, edge_numbers, is_empty, no_path_remark, no_test_remark, program_line, remarks, roots_of, test_files, test_model, tests_model, texts};
 
 use crate::affected::{NO_PATH, change_of};
 use crate::answer::Answer;
@@ -9,7 +9,9 @@ use crate::discovered::DiscoveredGraph;
 use crate::failure::{Failure, in_words};
 use crate::given::given_paths;
 use crate::listing::push_line;
+use crate::option_files::OptionFiles;
 use crate::report::{Change, Reach, reach_of};
+use crate::since::new_since;
 use crate::status::Status;
 use crate::test_list::list_path;
 use crate::test_options::style_asked;
@@ -23,36 +25,42 @@ use nj_test_texts::tests_text;
 use nj_tests::Test;
 use std::alloc::{AllocError, Global};
 
-/// Those of some tests that a change of the files at the paths that a text lists reaches, without the
-/// paths that the globs match, in this working directory. Where others may be affected too, the
-/// answer has all tests.
+/// Those of the tests that were read that a change of the files at the paths that a text lists reaches,
+/// without the paths that the globs match, in this working directory. Where others may be affected
+/// too, the answer has all tests. `named` also has the keys of an older manifest, if these are
+/// compared.
 ///
 /// # Errors
 ///
-/// `Refused` if the working directory is not known, and `OutOfMemory` if an allocation failed.
+/// `Refused` if the working directory is not known, or a file that has no keys is named, and `OutOfMemory` if an allocation failed.
 pub(crate) fn answer_tests(
     alloc: Global,
     known: &DiscoveredGraph,
     folder: &[u8],
     options: &TestsOptions,
     globs: &mut [Glob],
-    tests: &[Test],
+    named: &OptionFiles,
     input: &[u8],
 ) -> Result<Answer, Failure>
     requires edges { HasEdges known.now }
     requires globs { AreGlobsAsked (tests_model options.now).change globs.now }
     ensures { OfStatements known.now.graph (λ entries.
         Gives (AnswersTests known.now entries folder.now (tests_model options.now)
-        (map test_model tests.now) input.now) result) }
+        (named_files named.now).tests (named_files named.now).since input.now) result) }
 {
     if folder.is_empty() {
         let text = b"the working directory is not known";
         return Err(Failure::in_words(alloc, b"", text, b"", Status::Fault));
     }
+    let since = match new_since(alloc, known, &options.change, named) {
+        Ok(since) => since,
+        Err(failure) => return Err(failure),
+    };
+    let tests = named.tests.as_slice();
     let given = given_paths(alloc, &options.change, input)?;
     let paths = without_ignored(alloc, globs, &given)?;
     let test_files = test_files(alloc, known, folder, options, tests, &paths)?;
-    let change = change_of(&options.change, folder, &paths, &test_files);
+    let change = change_of(&options.change, folder, &paths, &test_files, &since);
     let reach = reach_of(alloc, known, change)?;
     let remarks = remarks(alloc, options, &given, tests)?;
     Ok(written_answer(alloc, known, change, reach, remarks, options, tests)?)

@@ -2,9 +2,10 @@
 
 ghost use Rattle.std.specs.Prelude.{◌≡◌, ◌++◌, codes, None, Some, IfErr, IfOk, map, string_bytes};
 ghost use Rattle.nj_globs.specs.Faults.{fault_text};
-ghost use Rattle.nj_ask.specs.Cited.{affected_model, is_empty, list_any, AreGlobsAsked, folder_misuse, given_paths, pattern_line, FailsBy, MisusesAffected, SaysPattern, Usage};
+ghost use Rattle.nj_ask.specs.Cited.{affected_model, is_empty, list_any, AreGlobsAsked, change_misuse, folder_misuse, since_misuse, given_paths, pattern_line, FailsBy, MisusesAffected, SaysPattern, Usage};
 
 use crate::failure::Failure;
+use crate::keys::bases_of;
 use crate::status::Status;
 use nj_changes::{PatternFault, lines_of, read_globs, zero_ended};
 use nj_globs::{Glob, GlobFault};
@@ -26,15 +27,15 @@ pub(crate) fn given_paths<'i>(
     lines_of(alloc, input)
 }
 
-/// The globs of the paths to ignore. Refuses a directory without a name, and then a pattern that is
-/// not a glob.
+/// The globs of the paths to ignore. Refuses a mistake in the options of a change, and then a pattern
+/// that is not a glob.
 pub(crate) fn globs_asked(alloc: Global, options: &AffectedOptions) -> Result<Vec<Glob>, Failure>
     ensures asked { IfOk result (λ globs.
         AreGlobsAsked (affected_model options.now) globs.items) }
     ensures refused { IfErr result (FailsBy Usage
         (MisusesAffected (affected_model options.now))) }
 {
-    match check_folder(alloc, options) {
+    match check_options(alloc, options) {
         Ok(()) => {}
         Err(failure) => return Err(failure),
     }
@@ -42,6 +43,38 @@ pub(crate) fn globs_asked(alloc: Global, options: &AffectedOptions) -> Result<Ve
         Ok(globs) => Ok(globs),
         Err(fault) => Err(wrong_pattern(alloc, fault)),
     }
+}
+
+/// Refuses a directory without a name, then a base that is not absolute, and then bases where no keys
+/// are compared.
+fn check_options(alloc: Global, options: &AffectedOptions) -> Result<(), Failure>
+    ensures allowed { IfOk result (λ _. change_misuse (affected_model options.now) ≡ None) }
+    ensures refused { IfErr result (FailsBy Usage (λ line.
+        change_misuse (affected_model options.now) ≡ Some line)) }
+{
+    match check_folder(alloc, options) {
+        Ok(()) => {}
+        Err(failure) => return Err(failure),
+    }
+    match bases_of(alloc, &options.bases) {
+        Ok(_) => {}
+        Err(failure) => return Err(failure),
+    }
+    check_since(alloc, options)
+}
+
+/// Refuses bases where no keys are compared.
+fn check_since(alloc: Global, options: &AffectedOptions) -> Result<(), Failure>
+    ensures allowed { IfOk result (λ _. since_misuse (affected_model options.now).since
+        (affected_model options.now).bases ≡ None) }
+    ensures refused { IfErr result (FailsBy Usage (λ line. since_misuse
+        (affected_model options.now).since (affected_model options.now).bases ≡ Some line)) }
+{
+    if options.since.is_none() && !options.bases.as_slice().is_empty() {
+        let text = b"--base requires --since";
+        return Err(Failure::in_words(alloc, b"", text, b"", Status::Usage));
+    }
+    Ok(())
 }
 
 /// Refuses a directory without a name.

@@ -85,7 +85,7 @@ fn has_words(words: &[String]) -> bool
 }
 
 /// The directories at the given paths, which have to be absolute.
-fn bases_of(alloc: Global, paths: &[String]) -> Result<Bases, Failure>
+pub(crate) fn bases_of(alloc: Global, paths: &[String]) -> Result<Bases, Failure>
     ensures bases { IfOk result (λ bases.
         bases ≡ map clean_path_of (map string_bytes paths.now)) }
     ensures absolute { IfOk result (λ _. base_misuse (map string_bytes paths.now) ≡ None) }
@@ -311,7 +311,7 @@ fn bytes_of<'w>(alloc: Global, words: &'w [String]) -> Result<Vec<&'w [u8]>, All
 
 /// How many implicit inputs the manifest itself states for each edge, by number; empty if nothing was
 /// joined to its graph.
-fn stated_counts(alloc: Global, discoveries: &[EdgeDiscovery]) -> Result<Vec<usize>, AllocError>
+pub(crate) fn stated_counts(alloc: Global, discoveries: &[EdgeDiscovery]) -> Result<Vec<usize>, AllocError>
     ensures { IfOk result (λ counts.
         counts.items ≡ map (λ discovery. discovery.stated_inputs) discoveries.now) }
 {

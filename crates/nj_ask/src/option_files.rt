@@ -1,7 +1,7 @@
 //! The files that options name beside the graph.
 
-ghost use Rattle.std.specs.Prelude.{◌≡◌, IfErr, IfOk, map, string_bytes};
-ghost use Rattle.nj_ask.specs.Cited.{Fault, FailsBy, LacksAdditions, LacksContent, LacksNamedFiles, LacksText, ReadsAdditionAt, ReadsAdditions, ReadsContents, ReadsNamedFiles, named_files, subject_model};
+ghost use Rattle.std.specs.Prelude.{◌≡◌, IfErr, IfOk, map, option_map, string_bytes};
+ghost use Rattle.nj_ask.specs.Cited.{Fault, FailsBy, LacksAdditions, LacksContent, LacksNamedFiles, LacksNamedText, LacksText, ReadsAdditionAt, ReadsAdditions, ReadsContents, ReadsNamedFiles, ReadsText, named_files, since_path, subject_model};
 
 use crate::failure::Failure;
 use crate::test_list::{read_tests, text_at};
@@ -18,6 +18,8 @@ pub(crate) struct OptionFiles {
     pub(crate) tests: Vec<Test>,
     /// The additions for the contents of files.
     pub(crate) additions: Vec<Vec<u8>>,
+    /// The text of the file of `--since`.
+    pub(crate) since: Option<Vec<u8>>,
 }
 
 /// Reads the files that the options of a subcommand name beside its graph, in this working
@@ -37,8 +39,56 @@ pub(crate) fn read_option_files<S: FileSource>(
         Ok(tests) => tests,
         Err(failure) => return Err(failure),
     };
-    match read_additions(alloc, files, subject) {
-        Ok(additions) => Ok(OptionFiles { tests, additions }),
+    let additions = match read_additions(alloc, files, subject) {
+        Ok(additions) => additions,
+        Err(failure) => return Err(failure),
+    };
+    match read_since(alloc, files, subject) {
+        Ok(since) => Ok(OptionFiles {
+            tests,
+            additions,
+            since,
+        }),
+        Err(failure) => Err(failure),
+    }
+}
+
+/// Reads the text with the keys of an older manifest, if the options name its file.
+fn read_since<S: FileSource>(
+    alloc: Global,
+    files: &mut S,
+    subject: &Subject,
+) -> Result<Option<Vec<u8>>, Failure>
+    ensures read { IfOk result (λ text. ReadsText (since_path (subject_model subject.now))
+        (S.state files.old) (S.state files.new) (option_map (λ text. text.items) text)) }
+    ensures lacks { IfErr result (FailsBy Fault (LacksNamedText
+        (since_path (subject_model subject.now)) (S.state files.old) (S.state files.new))) }
+{
+    match subject {
+        Subject::Affected(options) => read_text(alloc, files, options.since.as_ref()),
+        Subject::Tests(options) => read_text(alloc, files, options.change.since.as_ref()),
+        _ => Ok(None),
+    }
+}
+
+/// Reads the text of the file at a path, if there is a path.
+fn read_text<S: FileSource>(
+    alloc: Global,
+    files: &mut S,
+    path: Option<&String>,
+) -> Result<Option<Vec<u8>>, Failure>
+    ensures read { IfOk result (λ text.
+        ReadsText (option_map (λ path. string_bytes path.now) path.entry)
+        (S.state files.old) (S.state files.new) (option_map (λ text. text.items) text)) }
+    ensures lacks { IfErr result (FailsBy Fault (LacksNamedText
+        (option_map (λ path. string_bytes path.now) path.entry) (S.state files.old)
+        (S.state files.new))) }
+{
+    let Some(path) = path else {
+        return Ok(None);
+    };
+    match text_at(alloc, files, path) {
+        Ok(text) => Ok(Some(text)),
         Err(failure) => Err(failure),
     }
 }

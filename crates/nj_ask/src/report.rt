@@ -1,13 +1,14 @@
 //! A report about a change of files.
 
-ghost use Rattle.std.specs.Prelude.{◌≡◌, ◌<◌, ◌++◌, All, IfOk, OnOk, false, length, map};
-ghost use Rattle.nj_ask.specs.Cited.{OfStatements, IsAffected, flat_map, path_at, edges_of, files_of, asked_of, changed_numbers, numbers_of, opened_files, opened_paths, warning_by, AreFilesAt, AreFilesOf, AreTables, SameNames, IsTouched, made_from_line, change_model, texts, DoneMissesNothing, DoneMissesNoTest, ListedHaveReasons, HasCaveats, HasWarnings, IsReport, IsTouchedBy, WarningsAreUnique, HasEdges, AreAffected, AreTouched, CanTellAll, IsReach, edge_numbers};
+ghost use Rattle.std.specs.Prelude.{◌≡◌, ◌<◌, ◌++◌, [], All, IfOk, OnOk, false, if◌then◌else◌, length, map};
+ghost use Rattle.nj_ask.specs.Cited.{OfStatements, IsAffected, flat_map, path_at, edges_of, files_of, asked_of, changed_numbers, numbers_of, opened_files, opened_paths, warning_by, AreFilesAt, AreFilesOf, AreTables, SameNames, IsTouched, made_from_line, change_model, texts, DoneMissesNothing, DoneMissesNoTest, ListedHaveReasons, HasCaveats, HasWarnings, IsReport, IsTouchedBy, WarningsAreUnique, HasEdges, AreEdgesOf, HaveAffected, AreTouched, remade_files, shape_text, CanTellAll, IsReach, edge_numbers};
 
 use crate::answer::Answer;
 use crate::changes::{FilesAt, files_at, full_paths};
 use crate::discovered::DiscoveredGraph;
 use crate::listing::{Listed, list_outputs, push_line};
 use crate::manifest::{Manifest, feeding_files};
+use crate::new_commands::{with_commands, with_outputs};
 use crate::opened::opened_paths;
 use crate::shape::shape_lines;
 use nj_changes::{all_sought, has_one, sought};
@@ -28,6 +29,10 @@ pub struct Change<'a> {
     pub ignores_unknown: bool,
     /// The full paths of files that tests name.
     pub test_files: &'a Names,
+    /// The edges with new commands.
+    pub commands: &'a [EdgeNo],
+    /// Whether the manifest is up to date with the files that it is made from.
+    pub is_settled: bool,
 }
 
 /// Tables of full paths, in which changed paths are looked up.
@@ -69,7 +74,8 @@ pub(crate) fn report_of(
     change: Change<'_>,
     listed: Listed<'_>,
 ) -> Result<Answer, AllocError>
-    requires { HasEdges known.now }
+    requires edges { HasEdges known.now }
+    requires commands { AreEdgesOf known.now.graph change.commands.now }
     ensures report { OfStatements known.now.graph (λ entries.
         IfOk result (λ answer. IsReport known.now entries (change_model change.entry)
         (asked_of listed.entry) answer.output.items answer.warnings.items)) }
@@ -94,7 +100,8 @@ pub(crate) fn reach_of(
     known: &DiscoveredGraph,
     change: Change<'_>,
 ) -> Result<Reach, AllocError>
-    requires { HasEdges known.now }
+    requires edges { HasEdges known.now }
+    requires commands { AreEdgesOf known.now.graph change.commands.now }
     ensures reach { IfOk result (IsReach known.now (change_model change.entry)) }
     ensures caveats { OfStatements known.now.graph (λ entries. IfOk result (λ reach.
         HasCaveats known.now entries (change_model change.entry)
@@ -129,6 +136,7 @@ fn reached_by(
     files: &FilesAt,
 ) -> Result<Touched, AllocError>
     requires edges { HasEdges known.now }
+    requires commands { AreEdgesOf known.now.graph change.commands.now }
     requires opened { SameNames opened.now
         (opened_paths known.now.graph (change_model change).working) }
     requires files { AreFilesAt known.now.graph (change_model change) files.now }
@@ -138,12 +146,45 @@ fn reached_by(
         HasCaveats known.now entries (change_model change.entry)
         (edge_numbers touched.edges.items) touched.caveats.items)) }
 {
-    let affected = known.graph.affected_by(alloc, &files.changed)?;
+    let new = with_outputs(alloc, &known.graph, &files.changed, change.commands)?;
+    let affected = known.graph.affected_by(alloc, &new)?;
     let about = warnings_of(alloc, known, change, opened, files, &affected)?;
-    let edges = touched_by(alloc, known, &files.changed, affected)?;
-    let shape = shape_lines(alloc, known, files, &edges)?;
-    let caveats = joined(alloc, &known.caveats, &about, &shape)?;
+    let edges = touched_by(alloc, known, &new, affected)?;
+    let edges = with_commands(alloc, known, &edges, change.commands)?;
+    let caveats = caveats_of(alloc, known, change, files, &about, &edges)?;
     Ok(Touched { edges, caveats })
+}
+
+/// Why more edges may be touched than the given ones, with these warnings about paths.
+fn caveats_of(
+    alloc: Global,
+    known: &DiscoveredGraph,
+    change: Change<'_>,
+    files: &FilesAt,
+    about: &[u8],
+    edges: &[EdgeNo],
+) -> Result<Vec<u8>, AllocError>
+    requires files { AreFilesAt known.now.graph (change_model change) files.now }
+    requires edges { All (λ edge. edge.0 < length (edges_of known.now.graph)) edges.now }
+    ensures { OfStatements known.now.graph (λ entries. IfOk result (λ text. text.items
+        ≡ known.now.caveats.items ++ about.now ++ shape_text known.now entries
+        (remade_files known.now.graph (change_model change.entry))
+        (changed_numbers known.now.graph (change_model change.entry))
+        (edge_numbers edges.now))) }
+{
+    let opened = files_unless(change.is_settled, &files.opened);
+    let shape = shape_lines(alloc, known, opened, &files.changed, edges)?;
+    joined(alloc, &known.caveats, about, &shape)
+}
+
+/// No files, or else the given ones.
+fn files_unless(is_settled: bool, files: &[FileNo]) -> &[FileNo]
+    ensures { result.now ≡ (if is_settled then [] else files.entry.now) }
+{
+    if is_settled {
+        return &[];
+    }
+    files
 }
 
 /// Three texts, one after the other.
@@ -180,8 +221,8 @@ pub fn touched_by(
 
 // ---- the warnings about changed paths
 
-/// The warnings about the changed paths, which denote the given files and affect exactly the given
-/// edges.
+/// The warnings about the changed paths, which denote the given files and affect the given edges,
+/// among which may be more.
 fn warnings_of(
     alloc: Global,
     known: &DiscoveredGraph,
@@ -194,7 +235,7 @@ fn warnings_of(
         (opened_paths known.now.graph (change_model change).working) }
     requires files { AreFilesAt known.now.graph (change_model change) files.now }
     requires edges { All (λ edge. edge.0 < length (edges_of known.now.graph)) affected.now }
-    requires affected { AreAffected known.now.graph (change_model change)
+    requires affected { HaveAffected known.now.graph (change_model change)
         (map (λ edge. edge.0) affected.now) }
     ensures { OfStatements known.now.graph (λ entries.
         IfOk result (λ text. HasWarnings known.now.graph entries (change_model change.entry)
@@ -260,7 +301,7 @@ fn push_warning(
 {
     let found = sought(alloc, change.working, change.folders, path)?;
     if has_one(opened, &found) || has_one(&tables.feeding, &found) {
-        return push_made_from(warnings, path);
+        return push_made_from(change.is_settled, path, warnings);
     }
     let is_known = has_one(&tables.changed, &found) || has_one(change.test_files, &found);
     if is_known || change.ignores_unknown {
@@ -269,10 +310,15 @@ fn push_warning(
     push_line(warnings, path)
 }
 
-/// Appends a path as a line that says that the manifest is made from it.
-fn push_made_from(lines: &mut Vec<u8>, path: &[u8]) -> Result<(), AllocError>
-    ensures { OnOk result (lines.new.items ≡ lines.old.items ++ made_from_line path.now) }
+/// Appends a path as a line that says that the manifest is made from it, unless the manifest is up to
+/// date.
+fn push_made_from(is_settled: bool, path: &[u8], lines: &mut Vec<u8>) -> Result<(), AllocError>
+    ensures { OnOk result (lines.new.items ≡ lines.old.items
+        ++ (if is_settled then [] else made_from_line path.now)) }
 {
+    if is_settled {
+        return Ok(());
+    }
     lines.extend_from_slice(path)?;
     lines.extend_from_slice(b": the manifest is made from it")?;
     lines.push(b'\n')?;

@@ -3,7 +3,6 @@
 ghost use Rattle.std.specs.Prelude.{◌≡◌, ◌++◌, ◌<◌, ℕ, List, [], All, IfOk, IfSome, OnOk, length, map, option_map};
 ghost use Rattle.nj_ask.specs.Cited.{AreFilesOf, numbers_of, OfEdge, edge_of, OfStatements, flat_map, range_with_len, edges_of, files_of, line, caveat_text, dyndep_files, dyndep_of, dyndep_text, line_if_changes, lines_of_changing, may_change, remade_text, shape_text, unjoined_files, is_made_flag, AreMarks};
 
-use crate::changes::FilesAt;
 use crate::discovered::DiscoveredGraph;
 use crate::listing::push_line;
 use crate::manifest::{edge_flags, file_flags, is_set};
@@ -53,24 +52,24 @@ pub fn caveat_lines_of(
 
 /// Why the graph may have another shape, a line each: dyndep files that changed, that a touched
 /// edge makes, or that were not joined; and, with discovered inputs, manifests that a touched edge
-/// makes. `files` has the opened and the changed files, and `touched` the edges that their change
-/// touches.
+/// makes. `opened` and `changed` are files, and `touched` are the edges that their change touches.
 pub fn shape_lines(
     alloc: Global,
     known: &DiscoveredGraph,
-    files: &FilesAt,
+    opened: &[FileNo],
+    changed: &[FileNo],
     touched: &[EdgeNo],
 ) -> Result<Vec<u8>, AllocError>
-    requires opened { AreFilesOf known.now.graph files.now.opened.items }
-    requires changed { AreFilesOf known.now.graph files.now.changed.items }
+    requires opened { AreFilesOf known.now.graph opened.now }
+    requires changed { AreFilesOf known.now.graph changed.now }
     requires touched { All (λ edge. edge.0 < length (edges_of known.now.graph)) touched.now }
     ensures { OfStatements known.now.graph (λ entries.
         IfOk result (λ lines. lines.items ≡ shape_text known.now entries
-        (numbers_of files.now.opened.items) (numbers_of files.now.changed.items)
+        (numbers_of opened.now) (numbers_of changed.now)
         (map (λ edge. edge.0) touched.now))) }
 {
-    let mut lines = dyndep_lines(alloc, &known.graph, &files.changed, touched)?;
-    lines.extend_from_slice(&remade_lines(alloc, known, &files.opened, touched)?)?;
+    let mut lines = dyndep_lines(alloc, &known.graph, changed, touched)?;
+    lines.extend_from_slice(&remade_lines(alloc, known, opened, touched)?)?;
     Ok(lines)
 }
 

@@ -11,18 +11,12 @@ use Rattle.nj_keys.specs.Pages.{leads, left_at, BeginsAfter}
 use Rattle.nj_keys.specs.declared.pages.KeyPage.{KeyPage}
 use Rattle.nj_changes.specs.declared.ignored.PatternFault.{PatternFault}
 use Rattle.nj_changes.specs.declared.ignored.PatternFault.TheVariants as pattern
-use Rattle.nj_ask.specs.Answers.{relative_base}
 use Rattle.nj_ask.specs.Endings.{fault_line, program_line}
 use Rattle.nj_ask.specs.Given.{pattern_line}
 
 -- the line of the fault in place of a value
 abbrev pub SaysErr : {A : Type 0} → Result A GraphFault → (line : List ℕ) → Type 0
 SaysErr expected line = (fault : GraphFault) × (expected ≡ Err fault) × (line ≡ fault_line fault)
-
--- the line about the first base that is not an absolute path
-abbrev pub base_misuse : (bases : List (List ℕ)) → Option (List ℕ)
-base_misuse bases =
-    option_map (λ base. program_line (codes "'" ++ base ++ codes "' of --base is not absolute")) (relative_base bases)
 
 -- the line about a pattern that is not a glob
 abbrev pub SaysPattern : PatternFault → (line : List ℕ) → Type 0

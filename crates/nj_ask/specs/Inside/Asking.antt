@@ -1,5 +1,5 @@
 -- How the code carries a question from its options to its report.
-use Rattle.std.specs.Prelude.{◌≡◌, ℕ, true, Some, None, Result, Err, List, map}
+use Rattle.std.specs.Prelude.{◌≡◌, ℕ, true, Some, None, option_map, Result, Err, List, map}
 use Rattle.std.specs.Global.{Vec}
 use Rattle.nj_text.specs.Paths.{clean_path_of}
 use Rattle.nj_build_log.specs.Logs.{BuildLogModel}
@@ -29,7 +29,7 @@ use Rattle.nj_ask.specs.Asks.{Answers, Knows, Lacks, TakesBuildLog, takes_build_
 use Rattle.nj_ask.specs.BuildLogs.{LacksBuildLog}
 use Rattle.nj_ask.specs.Audits.{audit_misuse, kinds_listed, selection_in}
 use Rattle.nj_ask.specs.ChosenTests.{word_misuse}
-use Rattle.nj_ask.specs.Given.{folder_misuse}
+use Rattle.nj_ask.specs.Given.{change_misuse}
 use Rattle.nj_ask.specs.Inside.Failures.{Returns}
 use Rattle.nj_ask.specs.KnownGraphs.{Sources}
 use Rattle.nj_ask.specs.OptionFiles.{NamedFiles}
@@ -40,7 +40,7 @@ use Rattle.nj_ask.specs.Times.{times_misuse}
 
 -- the globs of `--ignore` in accepted options
 pub record AreGlobsAsked (options : AffectedModel) (globs : List (List GlobPart)) : Type 0 where
-  pub allowed : folder_misuse options.source_dirs ≡ None
+  pub allowed : change_misuse options ≡ None
   pub are : AreGlobsOf options.ignored globs
 
 -- the bases and the mark of a page in accepted options
@@ -83,6 +83,7 @@ abbrev pub named_files : OptionFiles → NamedFiles
 named_files named = record {
   tests = map test_model named.tests.items;
   additions = map (λ addition. addition.items) named.additions.items;
+  since = option_map (λ text. text.items) named.since;
 }
 
 -- ---- what is answered

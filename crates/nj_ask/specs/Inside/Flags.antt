@@ -1,5 +1,7 @@
 -- Numbers as flags.
-use Rattle.std.specs.Prelude.{◌≡◌, ◌↔◌, ℕ, ◌<◌, Bool, true, false, List, length, slice_index_or, Option, Some, None, Contains}
+use Rattle.std.specs.Prelude.{◌≡◌, ◌↔◌, ℕ, ◌<◌, Bool, true, false, List, length, slice_index_or, Option, Some}
+use Rattle.std.specs.Prelude.{None, Contains}
+use Rattle.std.specs.List.{filter, range_with_len}
 use Rattle.nj_graph.specs.Changes.{IsOrNeeds}
 use Rattle.nj_graph.specs.Edges.{EdgePaths}
 use Rattle.nj_graph.specs.Graph.{GraphModel, edges_of, files_of}
@@ -10,6 +12,10 @@ use Rattle.nj_ask.specs.Manifest.{is_one_of}
 pub record AreFlags (count : ℕ) (numbers : List ℕ) (flags : List Bool) : Type 0 where
   pub count_is : length flags ≡ count
   pub are : (n : ℕ) → n < count → slice_index_or flags n false ≡ is_one_of numbers n
+
+-- the numbers with a flag, in rising order
+abbrev pub flagged_numbers : List Bool → List ℕ
+flagged_numbers flags = filter (λ n. slice_index_or flags n false) (range_with_len 0 (length flags))
 
 -- for each edge, whether one of the makers is it or needs it
 abbrev pub AreFeeds : List EdgePaths → (makers : List ℕ) → (flags : List Bool) → Type 0

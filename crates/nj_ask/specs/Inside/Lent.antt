@@ -4,7 +4,9 @@ use Rattle.std.specs.Borrow.{Bor}
 use Rattle.nj_ask.specs.declared.listing.Listed.{Listed}
 use Rattle.nj_ask.specs.declared.report.Change.{Change}
 use Rattle.nj_ask.specs.Affected.{Asked}
+use Rattle.nj_ask.specs.declared.since.Since.{Since}
 use Rattle.nj_ask.specs.Reports.{ChangeModel}
+use Rattle.nj_ask.specs.Since.{NewModel}
 
 -- words that are lent
 abbrev pub texts : List (Bor (List ℕ)) → List (List ℕ)
@@ -22,4 +24,10 @@ change_model change = record {
   paths = texts change.paths.now;
   ignores_unknown = change.ignores_unknown;
   test_files = change.test_files.now;
+  commands = map (λ edge. edge.0) change.commands.now;
+  is_settled = change.is_settled;
 }
+
+-- what is new since an older manifest
+abbrev pub new_model : Since → NewModel
+new_model since = record { commands = map (λ edge. edge.0) since.commands.items; is_settled = since.is_settled }

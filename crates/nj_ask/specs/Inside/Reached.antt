@@ -1,5 +1,6 @@
 -- What the code keeps of how the manifest is made, and its answers about changed files.
-use Rattle.std.specs.Prelude.{◌≡◌, ◌↔◌, ◌<◌, ◌||◌, ℕ, true, false, if◌then◌else◌, List, [], ◌∷◌, All, map, length, slice_index_or, Contains}
+use Rattle.std.specs.Prelude.{◌≡◌, ◌↔◌, ◌⊎◌, ◌<◌, ◌||◌, ℕ, true, false, if◌then◌else◌, List, [], ◌∷◌, All}
+use Rattle.std.specs.Prelude.{map, length, slice_index_or, Contains}
 use Rattle.std.specs.List.{filter}
 use Rattle.std.specs.List.Sorted.{IsStrictlyIncreasing}
 use Rattle.nj_changes.specs.FullPaths.{all_sought, has_one, sought}
@@ -16,9 +17,11 @@ use Rattle.nj_ask.specs.declared.discovered.DiscoveredGraph.{DiscoveredGraph}
 use Rattle.nj_ask.specs.declared.report.Reach.{Reach}
 use Rattle.nj_ask.specs.declared.report.Tables.{Tables}
 use Rattle.nj_ask.specs.Affected.{line}
+use Rattle.nj_ask.specs.DiscoveredGraphs.{IsTouched}
 use Rattle.nj_ask.specs.Inside.Flags.{AreFeeds, AreFlags}
 use Rattle.nj_ask.specs.Manifest.{is_one_of, makes_manifest, opened_files, opened_paths, FeedsManifest}
-use Rattle.nj_ask.specs.Reports.{changed_numbers, changed_paths, is_test_file, made_from_line, ChangeModel, IsTouchedBy}
+use Rattle.nj_ask.specs.Reports.{changed_numbers, changed_paths, is_test_file, made_from_line, ChangeModel}
+use Rattle.nj_ask.specs.Reports.{IsTouchedBy}
 use Rattle.nj_ask.specs.SameFiles.{full_path_of, numbers_at, path_of}
 
 -- numbers of files of a graph
@@ -36,6 +39,10 @@ sought_by q = all_sought q.working q.folders q.paths
 -- they are files of the graph
 abbrev pub AreFilesOf : GraphModel → List FileNo → Type 0
 AreFilesOf g files = All (λ file. file.0 < length (files_of g)) files
+
+-- they are edges of the graph
+abbrev pub AreEdgesOf : GraphModel → List EdgeNo → Type 0
+AreEdgesOf g edges = All (λ edge. edge.0 < length (edges_of g)) edges
 
 -- the files of a graph at the given full paths
 pub record AreAt (g : GraphModel) (working : List ℕ) (paths : List (List ℕ)) (files : List FileNo) : Type 0 where
@@ -68,9 +75,9 @@ abbrev pub AreFeeding : GraphModel → (opened : List ℕ) → List ReadStatemen
 AreFeeding g opened entries files feeding =
     (file : ℕ) → Contains feeding file ↔ (Contains files file × FeedsManifest g opened entries file)
 
--- exactly the edges that have, through any chain, one of the changed files as an input
-abbrev pub AreAffected : GraphModel → ChangeModel → (edges : List ℕ) → Type 0
-AreAffected g q edges = (edge : ℕ) → Contains edges edge ↔ IsAffected (edges_of g) (changed_paths g q) edge
+-- the edges that have, through any chain, one of the changed files as an input, and maybe more
+abbrev pub HaveAffected : GraphModel → ChangeModel → (edges : List ℕ) → Type 0
+HaveAffected g q edges = (edge : ℕ) → IsAffected (edges_of g) (changed_paths g q) edge → Contains edges edge
 
 -- a table of the full paths of the given files
 abbrev pub AreFullPaths : GraphModel → (working : List ℕ) → (files : List ℕ) → (names : List (List ℕ)) → Type 0
@@ -86,15 +93,23 @@ pub record AreTables (g : GraphModel) (entries : List ReadStatement) (q : Change
 -- the warning about a changed path, by tables of full paths
 abbrev pub warning_by : (opened : List (List ℕ)) → Tables → ChangeModel → (path : List ℕ) → List ℕ
 warning_by opened tables q path =
-    if has_one opened (sought q.working q.folders path) || has_one tables.feeding (sought q.working q.folders path)
-    then made_from_line path
-    else (if has_one tables.changed (sought q.working q.folders path) || is_test_file q path || q.ignores_unknown then [] else line path)
+    if has_one opened (sought q.working q.folders path)
+        || has_one tables.feeding (sought q.working q.folders path)
+    then (if q.is_settled then [] else made_from_line path)
+    else (if has_one tables.changed (sought q.working q.folders path) || is_test_file q path
+        || q.ignores_unknown then [] else line path)
 
 -- exactly the edges with a property, by number
 pub record AreTouched (known : DiscoveredGraph) (IsTouched : (edge : ℕ) → Type 0) (edges : List EdgeNo) : Type 0 where
   pub touched : (edge : ℕ) → Contains (map (λ e. e.0) edges) edge ↔ IsTouched edge
   pub rises : IsStrictlyIncreasing (map (λ e. e.0) edges)
   pub below : All (λ e. e.0 < length (edges_of known.graph)) edges
+
+-- exactly the edges with new commands, and those that the files at the given paths touch
+abbrev pub AreAllTouched : DiscoveredGraph → (paths : List (List ℕ)) → (commands : List EdgeNo) → List EdgeNo
+    → Type 0
+AreAllTouched known paths commands edges =
+    AreTouched known (λ edge. Contains (edge_numbers commands) edge ⊎ IsTouched known paths edge) edges
 
 -- what a change reaches, but for its caveats
 pub record IsReach (known : DiscoveredGraph) (q : ChangeModel) (reach : Reach) : Type 0 where

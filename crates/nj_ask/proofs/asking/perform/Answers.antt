@@ -6,7 +6,6 @@ use Rattle.nj_ask.specs.Audits.{AnswersAudit}
 use Rattle.nj_ask.specs.ChosenTests.{AnswersTests}
 use Rattle.nj_ask.specs.Inside.Asking.{IsTask, named_files}
 use Rattle.nj_ask.specs.Inside.Failures.{Returns}
-use Rattle.nj_tests.specs.Tests.{test_model}
 use Rattle.nj_ask.proofs.AskingLemmas.{affected-returns, audit-returns, draw-returns, keys-returns}
 use Rattle.nj_ask.proofs.AskingLemmas.{stale-returns, tests-returns, times-returns, why-returns}
 use Rattle.nj_ask.specs.Stales.{AnswersStale}
@@ -18,11 +17,12 @@ pub returns-in-Affected : goal.returns-in-Affected
 returns-in-Affected g c entries is subject asks =
     let known = c.args.known.now in
     let options = c.in-Affected.options in
-    affected-returns known entries _ _ _ _ c.args.input.now _ _ _ subject c.args.task options
+    let named = named_files c.args.named.now in
+    affected-returns known entries _ _ _ named c.args.input.now _ _ _ subject c.args.task options
     c.in-Affected.globs
     c.in-Affected.is asks
     (returns-delivered (AnswersAffected known entries c.args.folder.now (affected_model options.now)
-    c.args.input.now)
+    named.since c.args.input.now)
     c.answer_affected.result _ _ _ (c.answer_affected.ensures entries is) c.deliver.ensures)
 
 pub returns-in-Audit : goal.returns-in-Audit
@@ -90,11 +90,9 @@ pub returns-in-Tests : goal.returns-in-Tests
 returns-in-Tests g c entries is subject asks =
     let known = c.args.known.now in
     let options = c.in-Tests.options in
-    tests-returns known entries _ _ _ (named_files c.args.named.now) c.args.input.now _ _ _ subject
+    let named = named_files c.args.named.now in
+    tests-returns known entries _ _ _ named c.args.input.now _ _ _ subject
     c.args.task options c.in-Tests.globs c.in-Tests.is asks
-    (subst (λ tests. Returns (AnswersTests known entries c.args.folder.now (tests_model options.now)
-    (map test_model tests) c.args.input.now) (g.O.Sink.state c.args.out.now)
-    (g.O.Sink.state c.deliver-in-Tests.new.out) c.deliver-in-Tests.result) c.deref-in-Tests.ensures.value
-    (returns-delivered (AnswersTests known entries c.args.folder.now (tests_model options.now)
-    (map test_model c.deref-in-Tests.result.now) c.args.input.now)
-    c.answer_tests.result _ _ _ (c.answer_tests.ensures entries is) c.deliver-in-Tests.ensures))
+    (returns-delivered (AnswersTests known entries c.args.folder.now (tests_model options.now) named.tests
+    named.since c.args.input.now)
+    c.answer_tests.result _ _ _ (c.answer_tests.ensures entries is) c.deliver-in-Tests.ensures)

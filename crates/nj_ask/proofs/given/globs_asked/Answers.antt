@@ -1,12 +1,12 @@
 use Rattle.std.proofs.Common.{map, string_bytes, subst}
 use Rattle.nj_changes.specs.Ignored.{IsPatternFault}
 use Rattle.nj_questions.specs.Questions.{affected_model}
-use Rattle.nj_ask.proofs.AffectedLemmas.{fails-by-folder, fails-by-pattern}
+use Rattle.nj_ask.proofs.AffectedLemmas.{fails-by-word, fails-by-pattern}
 use Rattle.nj_ask.proofs.given.globs_asked.Goals as goal
 
 pub returns-in-Err-clause-refused : goal.returns-in-Err-clause-refused
 returns-in-Err-clause-refused c =
-    fails-by-folder (affected_model c.args.options.now) c.in-Err.failure c.in-Err.ensures.refused
+    fails-by-word (affected_model c.args.options.now) c.in-Err.failure c.in-Err.ensures.refused
 
 pub returns-in-Err-read_globs-clause-refused : goal.returns-in-Err-read_globs-clause-refused
 returns-in-Err-read_globs-clause-refused c =

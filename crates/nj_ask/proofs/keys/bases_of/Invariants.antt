@@ -1,7 +1,7 @@
 use Rattle.std.proofs.Common.{◌≡◌, drop, map, take}
 use Rattle.std.specs.Prelude.{string_bytes}
 use Rattle.nj_text.specs.Paths.{clean_path_of}
-use Rattle.nj_ask.specs.Inside.AnswerParts.{base_misuse}
+use Rattle.nj_ask.specs.Given.{base_misuse}
 use Rattle.nj_ask.proofs.keys.bases_of.Given as goal
 
 abbrev pub invariant-paths : goal.invariant-paths

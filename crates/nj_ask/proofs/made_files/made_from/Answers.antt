@@ -30,11 +30,11 @@ files-preserved c =
     (subst (λ ns. IsReached g ns stated (numbers edges) c.in_ok-manifest.manifest) opened
     (c.in_ok-manifest.ensures stated graph))
     (λ edge.
-    subst (λ paths. Contains (numbers edges) edge ↔ IsAffected (edges_of g) paths edge)
+    (subst (λ paths. Contains (numbers edges) edge ↔ IsAffected (edges_of g) paths edge)
     (same-paths g files)
     (subst (λ es. Contains (numbers es) edge
     ↔ IsAffected (edges_of g) (map (path_at (files_of g)) files) edge) (sym c.deref-3.ensures.value)
-    (rw c.deref.ensures at (c.in_ok-affected.ensures.affected edge))))
+    (rw c.deref.ensures at (c.in_ok-affected.ensures.affected edge)))).1)
     _ (c.requires i first c.files-test.true) (among-numbers files i first c.files-test.true)))
     c.in_ok-push.ensures.items
 
