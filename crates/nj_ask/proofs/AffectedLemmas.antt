@@ -1,5 +1,6 @@
 -- How the answer to `affected` is given.
-use Rattle.std.proofs.Common.{◌≡◌, ◌≢◌, ◌⊎◌, ℕ, true, false, Option, Some, None, List, [], ◌++◌, Ok, Err, sym, subst}
+use Rattle.std.proofs.Common.{◌≡◌, ◌≢◌, ◌⊎◌, ℕ, true, false, Option, Some, None, List, [], ◌++◌, Ok, Err, sym}
+use Rattle.std.proofs.Common.{subst}
 use Rattle.std.specs.Prelude.{codes}
 use Rattle.nj_graph.specs.ReadingList.{ReadStatement}
 use Rattle.nj_questions.specs.Questions.{AffectedModel}

@@ -1,5 +1,6 @@
 -- The meaning of no warning, and that paths have one text of warnings.
-use Rattle.std.proofs.Common.{◌≡◌, ◌<◌, ℕ, ◌⊎◌, inl, inr, true, false, Option, List, [], ◌∷◌, ◌++◌, length, get_or}
+use Rattle.std.proofs.Common.{◌≡◌, ◌<◌, ℕ, ◌⊎◌, inl, inr, true, false, Option, List, [], ◌∷◌, ◌++◌, length}
+use Rattle.std.proofs.Common.{get_or}
 use Rattle.std.proofs.Common.{zero}
 use Rattle.std.proofs.Common.{suc}
 use Rattle.std.proofs.Common.{refl, sym, ap, subst, ◌∙◌, arith}
@@ -178,8 +179,10 @@ module _ (known : DiscoveredGraph) (entries : List ReadStatement) (folder : List
       × MissesOf paths more
 
   -- tests name no file here
-  untested : (paths : List (List ℕ)) (more : NewModel) (path : List ℕ) → Harmless known.graph entries (change paths more) path
-      → KeepsManifest known.graph entries (change paths more) path ⊎ IsIgnored known.graph (change paths more) path
+  untested : (paths : List (List ℕ)) (more : NewModel) (path : List ℕ)
+      → Harmless known.graph entries (change paths more) path
+      → KeepsManifest known.graph entries (change paths more) path
+      ⊎ IsIgnored known.graph (change paths more) path
       ⊎ IsSettled known.graph entries (change paths more) path
   untested paths more path (inl of) = absurd (both_ways (is_test_file (change paths more) path)
       (none-has-one (sought folder options.source_dirs path)) of.is_named)
@@ -191,11 +194,12 @@ module _ (known : DiscoveredGraph) (entries : List ReadStatement) (folder : List
   without-warnings paths more outputs warnings empty report took =
       let texts = three-empty known.caveats.items report.caveats.about
       (shape_text known entries (remade_files known.graph (change paths more))
-          (changed_numbers known.graph (change paths more))
+      (changed_numbers known.graph (change paths more))
       report.lists.edges)
       (sym empty ∙ report.caveats.all) in
       record {
-        keeps = λ path has. untested paths more path (none-warned known.graph entries (change paths more) paths
+        keeps = λ path has. untested paths more path
+            (none-warned known.graph entries (change paths more) paths
             report.caveats.about texts.1 report.caveats.warns path has);
         clear = sym texts.0;
         outputs = outputs;
@@ -241,7 +245,8 @@ module _ (known : DiscoveredGraph) (entries : List ReadStatement) (folder : List
       × IsNewSince known.graph (manifest_edges known) entries options.change.bases since more
       × MissesNoTest known entries options tests (change_of paths more) old.output new.output
 
-  chosen-miss : (paths : List (List ℕ)) (more : NewModel) (edges caveats warnings output : List ℕ) → warnings ≡ []
+  chosen-miss : (paths : List (List ℕ)) (more : NewModel) (edges caveats warnings output : List ℕ)
+      → warnings ≡ []
       → Reaches known entries (change_of paths more) edges caveats
       → warnings ≡ remarks options (given_paths options.change input) tests ++ caveats
       → WritesTests known entries (change_of paths more) edges options tests (not (is_empty warnings)) output
@@ -281,7 +286,8 @@ module _ (known : DiscoveredGraph) (entries : List ReadStatement) (folder : List
         chosen-miss paths more edges caveats warnings output (no-warnings warnings told.1) reaches said writes
             took,
       )
-  tests-miss (chosen some is leaves reaches said writes) took (inr fails) = let is-failed = fails.1 in absurd cc
+  tests-miss (chosen some is leaves reaches said writes) took (inr fails) = let is-failed = fails.1
+      in absurd cc
 
   done-tests : (status : Status) → status ≡ Done
       → Ends (AnswersTests known entries folder options tests since input) old new status → MissesNone

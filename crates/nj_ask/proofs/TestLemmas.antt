@@ -53,7 +53,8 @@ module _ (known : DiscoveredGraph) (entries : List ReadStatement) (folder : List
   gives-no-folder failure none fails =
       gives-refused (AnswersTests known entries folder options tests since input) Fault
       (λ line. line ≡ program_line (codes "the working directory is not known"))
-      (λ line is. subst (λ l. AnswersTests known entries folder options tests since input [] (refused l Fault))
+      (λ line is. subst (λ l. AnswersTests known entries folder options tests since input []
+          (refused l Fault))
       (sym is) (no_folder none)) failure fails
 
   -- a file that has no keys
@@ -83,7 +84,8 @@ module _ (known : DiscoveredGraph) (entries : List ReadStatement) (folder : List
       → WritesTests known entries q (edge_numbers reach.touched.items) options tests
       (not (is_empty answer.warnings.items)) answer.output.items
       → answer.looks ≡ false → Gives (AnswersTests known entries folder options tests since input) (Ok answer)
-  gives-tests answer q files paths new reach said some is leaves same change reaches caveats about warnings writes
+  gives-tests answer q files paths new reach said some is leaves same change reaches caveats about warnings
+      writes
       quiet =
       let edges = edge_numbers reach.touched.items in
       let by = change_asked options.change folder files paths new in

@@ -101,7 +101,7 @@ pub use Rattle.nj_ask.specs.OptionFiles.{ReadsContents, ReadsNamedFiles, ReadsTe
 pub use Rattle.nj_ask.specs.TestLists.{LacksText, LacksList, LacksLists, LacksMeson, LacksNamed, LacksTests, ReadsList, ReadsLists}
 pub use Rattle.nj_ask.specs.TestLists.{ReadsMeson, ReadsNamed, ReadsTests, faulty_path, info_path, is_of_targets, list_line, list_path}
 pub use Rattle.nj_graph.specs.Changes.{IsAffected}
-pub use Rattle.nj_ask.specs.Laws.{DoneMissesNothing, DoneMissesNoTest, ListedHaveReasons, WarningsAreUnique}
+pub use Rattle.nj_ask.specs.Laws.{DoneMissesNothing, DoneMissesNoTest, ListedHaveReasons, WarningsAreUnique, OtherCommandsAreOld}
 pub use Rattle.nj_ask.specs.Since.{AreNewCommands, IsNewSince, IsWrongLine, LacksKeys, first_wrong, has_output, is_wrong, key_of, keys_in}
 pub use Rattle.nj_ask.specs.Since.{lines_in, new_edges, wrong_line}
 pub use Rattle.nj_audit.specs.declared.kinds.Kind.TheVariants.{MissingSource}

@@ -1,10 +1,12 @@
 -- What status 0 of `affected` and `tests` means, and that a report is determined.
-use Rattle.std.specs.Prelude.{◌≡◌, ◌≢◌, ◌⊎◌, ◌↔◌, ℕ, Bool, true, false, Option, List, [], ◌∷◌, Contains, map}
+use Rattle.std.specs.Prelude.{◌≡◌, ◌≢◌, ◌⊎◌, ◌↔◌, ℕ, Bool, true, false, Option, Some, List, [], ◌∷◌, Contains, map}
 use Rattle.nj_graph.specs.ReadingList.{ReadStatement}
 use Rattle.nj_graph.specs.Changes.{has_input_of, IsOrNeeds}
 use Rattle.nj_graph.specs.Dirty.{has_counted_input_of, has_output_of}
-use Rattle.nj_graph.specs.Edges.{EdgePaths, edge_at, outputs_of}
+use Rattle.nj_graph.specs.Edges.{EdgePaths, edge_at, is_among, outputs_of}
 use Rattle.nj_graph.specs.Graph.{GraphModel, edges_of}
+use Rattle.nj_text.specs.Paths.{clean_path_of}
+use Rattle.nj_keys.specs.Keys.{IsKey, commands_of}
 use Rattle.nj_tools.specs.Sinks.{SinkState, Takes}
 use Rattle.nj_tests.specs.Tests.{TestModel}
 use Rattle.nj_questions.specs.Questions.{AffectedModel, TestsModel}
@@ -20,7 +22,7 @@ use Rattle.nj_ask.specs.Reports.{ChangeModel, changed_numbers, files_meant, is_o
 use Rattle.nj_ask.specs.Reports.{new_paths, remade_files, HasWarnings, IsReport}
 use Rattle.nj_ask.specs.Reports.{ChangesManifest, IsTouchedBy, IsUnnamed}
 use Rattle.nj_ask.specs.SameFiles.{path_of}
-use Rattle.nj_ask.specs.Since.{IsNewSince, NewModel}
+use Rattle.nj_ask.specs.Since.{IsNewSince, NewModel, keys_in, lines_in}
 use Rattle.nj_ask.specs.Shape.{shape_text}
 
 -- A changed path denotes files of the graph that are not needed to make the manifest, and no file was opened at it.
@@ -105,6 +107,15 @@ DoneMissesNoTest = (known : DiscoveredGraph) (entries : List ReadStatement) (fol
     → (paths : List (List ℕ)) × LeavesPaths options.change (given_paths options.change input) paths
     × (more : NewModel) × IsNewSince known.graph (manifest_edges known) entries options.change.bases since more
     × MissesNoTest known entries options tests (tests_change known.has_discovered options tests folder paths more) old.output new.output
+
+-- ---- older keys
+
+-- A command that is not new since an older manifest has a key, with the given bases, that is among the keys of that manifest.
+abbrev pub OtherCommandsAreOld : Type 0
+OtherCommandsAreOld = (g : GraphModel) (edges : List EdgePaths) (entries : List ReadStatement) (bases : List (List ℕ)) (text : List ℕ)
+    (new : NewModel) → IsNewSince g edges entries bases (Some text) new → (edge : ℕ) → Contains (commands_of g) edge
+    → ¬ Contains new.commands edge
+    → (key : List ℕ) × IsKey (map clean_path_of bases) edges entries edge key × (is_among (keys_in (lines_in text)) key ≡ true)
 
 -- ---- one text
 

@@ -311,7 +311,10 @@ fn bytes_of<'w>(alloc: Global, words: &'w [String]) -> Result<Vec<&'w [u8]>, All
 
 /// How many implicit inputs the manifest itself states for each edge, by number; empty if nothing was
 /// joined to its graph.
-pub(crate) fn stated_counts(alloc: Global, discoveries: &[EdgeDiscovery]) -> Result<Vec<usize>, AllocError>
+pub(crate) fn stated_counts(
+    alloc: Global,
+    discoveries: &[EdgeDiscovery],
+) -> Result<Vec<usize>, AllocError>
     ensures { IfOk result (λ counts.
         counts.items ≡ map (λ discovery. discovery.stated_inputs) discoveries.now) }
 {

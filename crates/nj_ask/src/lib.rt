@@ -69,6 +69,7 @@ pub use drawing_laws::drawing_law;
 pub use made_files::made_from;
 pub use manifest::is_set;
 pub use report::report_law;
+pub use since::since_law;
 pub use status::Status;
 pub use system_errors::{refuse_folder, refuse_input};
 pub use words::{ask_read_words, ask_words};

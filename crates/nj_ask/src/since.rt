@@ -1,7 +1,7 @@
 //! What is new in a manifest since an older one, of which a file has the keys.
 
 ghost use Rattle.std.specs.Prelude.{◌≡◌, ◌++◌, [], None, IfErr, IfOk, codes, map, string_bytes, unwrap_or};
-ghost use Rattle.nj_ask.specs.Cited.{AreEdgesOf, AreNewCommands, Fault, FailsBy, IsNewSince, IsWrongLine, LacksKeys, OfStatements, affected_model, change_misuse, clean_path_of, decimal, named_files, new_model, SameNames, edge_numbers, first_wrong, has_output, is_wrong, key_of, keys_in, lines_in, manifest_edges, new_edges, texts, wrong_line};
+ghost use Rattle.nj_ask.specs.Cited.{AreEdgesOf, AreNewCommands, Fault, FailsBy, IsNewSince, IsWrongLine, LacksKeys, OfStatements, OtherCommandsAreOld, affected_model, change_misuse, clean_path_of, decimal, named_files, new_model, SameNames, edge_numbers, first_wrong, has_output, is_wrong, key_of, keys_in, lines_in, manifest_edges, new_edges, texts, wrong_line};
 
 use crate::discovered::DiscoveredGraph;
 use crate::failure::Failure;
@@ -236,3 +236,10 @@ fn unknown_among(alloc: Global, keys: &[EdgeKey], old: &Names) -> Result<Vec<Edg
     }
     Ok(edges)
 }
+
+// ---- its meaning
+
+/// A command that is not new since an older manifest has a key that is in the file of `--since`.
+pub fn since_law()
+    ensures { OtherCommandsAreOld }
+{}

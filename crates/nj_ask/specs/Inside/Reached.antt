@@ -94,10 +94,10 @@ pub record AreTables (g : GraphModel) (entries : List ReadStatement) (q : Change
 abbrev pub warning_by : (opened : List (List ℕ)) → Tables → ChangeModel → (path : List ℕ) → List ℕ
 warning_by opened tables q path =
     if has_one opened (sought q.working q.folders path)
-        || has_one tables.feeding (sought q.working q.folders path)
+    || has_one tables.feeding (sought q.working q.folders path)
     then (if q.is_settled then [] else made_from_line path)
     else (if has_one tables.changed (sought q.working q.folders path) || is_test_file q path
-        || q.ignores_unknown then [] else line path)
+    || q.ignores_unknown then [] else line path)
 
 -- exactly the edges with a property, by number
 pub record AreTouched (known : DiscoveredGraph) (IsTouched : (edge : ℕ) → Type 0) (edges : List EdgeNo) : Type 0 where

@@ -23,7 +23,7 @@ returns c entries graph =
     let edges = edge_numbers c.args.edges.now in
     let about = c.args.about.now in
     let opened = ap numbers_of (c.files_unless-opened.ensures
-        ∙ ap (cond q.is_settled []) c.deref.ensures.value)
+    ∙ ap (cond q.is_settled []) c.deref.ensures.value)
     ∙ numbers-unless q.is_settled c.args.files.now.opened.items
     ∙ ap (cond q.is_settled []) c.requires.files.opened.numbers in
     let changed = ap numbers_of c.deref-2.ensures.value ∙ c.requires.files.changed.numbers in

@@ -28,7 +28,7 @@ returns-clause-new c entries graph =
     let counts = c.deref-2.ensures.value ∙ c.in_ok-counts.ensures
     ∙ ap (map (λ (discovery : EdgeDiscovery). discovery.stated_inputs)) c.deref.ensures.value in
     IfOk-weaker c.unknown_among.result _ (λ commands. AreNewCommands g (manifest_edges known) entries bases
-        old
+    old
     (edge_numbers commands.items)) (λ edges is. record {
       keys = keys;
       have = subst (λ ns. HaveKeys [] bases (edges_stated ns (edges_of g)) entries (all_commands g) keys)

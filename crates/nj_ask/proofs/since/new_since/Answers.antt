@@ -1,4 +1,5 @@
-use Rattle.std.proofs.Common.{List, ℕ, Option, false, [], None, Some, map, option_map, refl, string_bytes, subst, sym, ap, ◌∙◌}
+use Rattle.std.proofs.Common.{List, ℕ, Option, false, [], None, Some, map, option_map, refl, string_bytes}
+use Rattle.std.proofs.Common.{subst, sym, ap, ◌∙◌}
 use Rattle.std.specs.Global.{Vec}
 use Rattle.nj_graph.specs.declared.EdgeNo.{EdgeNo}
 use Rattle.nj_questions.specs.Questions.{affected_model}
