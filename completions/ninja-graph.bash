@@ -19,7 +19,7 @@ _ninja_graph_limited() {
 # The options of a subcommand, without those that every subcommand takes.
 _ninja_graph_options() {
     case $1 in
-        affected) echo '--source-dir -z --ignore --rule --prefix --no-phony --ignore-unknown --allow-empty' ;;
+        affected) echo '--source-dir -z --ignore --rule --prefix --no-phony --ignore-unknown --allow-empty --since --base' ;;
         draw) echo '--affected --fold --limit --inputs' ;;
         why) echo '--validations --no-order-only' ;;
         audit) echo '--all --only --except --json --list' ;;
@@ -27,7 +27,7 @@ _ninja_graph_options() {
         stale) echo '--why --json --no-manifest' ;;
         times) echo '--top --by-rule --dead --json' ;;
         tests)
-            echo '--ctest --meson --source-dir -z --ignore --ignore-unknown --allow-empty --format --why --json --unnamed'
+            echo '--ctest --meson --source-dir -z --ignore --ignore-unknown --allow-empty --format --why --json --unnamed --since --base'
             ;;
     esac
 }
@@ -68,7 +68,7 @@ _ninja_graph_words() {
         case $option in
             --) ended=yes ;;
             -C | -f | --deps-log-file | --source-dir | --ignore | --rule | --prefix | --only | --except | \
-                --base | --with | --with-file | --take | --resume | --limit | --inputs | --ctest | --meson | \
+                --base | --since | --with | --with-file | --take | --resume | --limit | --inputs | --ctest | --meson | \
                 --format | --unnamed | --top)
                 [[ ${COMP_WORDS[index + 1]} == '=' ]] && ((index++))
                 if ((++index >= COMP_CWORD)); then
@@ -100,7 +100,7 @@ _ninja_graph_offer_value() {
     [[ $current == '=' ]] && current=''
     case $wanted in
         -C | --source-dir | --base | --meson) offer=(-d) ;;
-        -f | --deps-log-file | --ctest | --with-file) offer=(-f) ;;
+        -f | --deps-log-file | --ctest | --since | --with-file) offer=(-f) ;;
         --rule) _ninja_graph_offer_lines < <(_ninja_graph_rules) ;;
         --only | --except) offer=(-W "$(_ninja_graph_kinds)") ;;
         --format) offer=(-W 'lines ctest meson') ;;

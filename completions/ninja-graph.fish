@@ -104,6 +104,9 @@ complete -c ninja-graph -n '__ninja_graph_is affected' -l no-phony -d 'No output
 complete -c ninja-graph -n '__ninja_graph_is affected' -l ignore-unknown \
     -d 'Do not report paths that no edge names'
 complete -c ninja-graph -n '__ninja_graph_is affected' -l allow-empty -d 'Accept an input without a changed path'
+complete -c ninja-graph -n '__ninja_graph_is affected' -l since -r -F -d 'Take commands as changed whose keys are not here'
+complete -c ninja-graph -n '__ninja_graph_is affected' -l base -x -d 'With --since, a directory that keys do not name' \
+    -a '(__fish_complete_directories)'
 
 complete -c ninja-graph -n '__ninja_graph_is draw keys stale times why' -a '(__ninja_graph_targets)'
 complete -c ninja-graph -n '__ninja_graph_is draw' -l affected -d 'Draw the edges that a change of the files affects'
@@ -151,6 +154,9 @@ complete -c ninja-graph -n '__ninja_graph_is tests' -l ignore -x -d 'Ignore path
 complete -c ninja-graph -n '__ninja_graph_is tests' -l ignore-unknown \
     -d 'Do not report paths that no edge names'
 complete -c ninja-graph -n '__ninja_graph_is tests' -l allow-empty -d 'Accept an input without a changed path'
+complete -c ninja-graph -n '__ninja_graph_is tests' -l since -r -F -d 'Take commands as changed whose keys are not here'
+complete -c ninja-graph -n '__ninja_graph_is tests' -l base -x -d 'With --since, a directory that keys do not name' \
+    -a '(__fish_complete_directories)'
 complete -c ninja-graph -n '__ninja_graph_is tests' -l format -x -d 'How the tests are written' -a 'lines ctest meson'
 complete -c ninja-graph -n '__ninja_graph_is tests' -l why -d 'Write why each test is chosen, too'
 complete -c ninja-graph -n '__ninja_graph_is tests' -l json -d 'An object of JSON for each test'
