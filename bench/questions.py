@@ -11,6 +11,7 @@ greatest memory. All write to a file. The aims are twice the CPU time of `rules`
 
 import argparse
 import os
+import subprocess
 import tempfile
 
 from manifest import dense_object, object_file, source
@@ -19,7 +20,9 @@ from runs import MB, Run, middle
 from tools import make
 
 ROUNDS, EDGES = 5, 100_000
-AIM, AIM_OF_KEYS = 2, 3
+AIM = 2
+OTHER_AIMS = {"keys": 3.5, "keys --json": 3.5, "affected --since": 6}
+KEYS = "old.keys"
 DONE, LOOK = 0, 3
 
 
@@ -36,10 +39,12 @@ def questions(shape, count):
     made, changed = files_of(shape, count)
     return {
         "affected": (["affected"], DONE, f"{changed}\n"),
+        "affected --since": (["affected", "--since", KEYS], DONE, f"{changed}\n"),
         "why": (["why", made, changed], DONE, ""),
         "draw": (["draw", "--limit", "40"], DONE, ""),
         "json": (["json"], DONE, ""),
         "keys": (["keys"], DONE, ""),
+        "keys --json": (["keys", "--json"], DONE, ""),
         "audit, every kind": (["audit", "--all"], LOOK, ""),
         "audit": (["audit"], None, ""),
     }
@@ -62,6 +67,8 @@ def compare(words, shape):
     missed = []
     with tempfile.TemporaryDirectory() as room:
         folder = make(room, shape, words.edges)
+        with open(os.path.join(folder, KEYS), "w") as file:
+            subprocess.run([words.graph, "keys", "--all"], cwd=folder, stdout=file, check=True)
         programs = {"rules": ([words.explain, "-t", "rules"], DONE, "")}
         for name, (arguments, status, text) in questions(shape, words.edges).items():
             programs[name] = [words.graph, *arguments], status, text
@@ -69,7 +76,7 @@ def compare(words, shape):
     _, rules, memory_of_rules = figures["rules"]
     print(f"{shape}: rules take {rules:.3f} s and {memory_of_rules / MB:.0f} MB")
     for name, (_, seconds, memory) in figures.items():
-        ratio, aim = seconds / rules, AIM_OF_KEYS if name == "keys" else AIM
+        ratio, aim = seconds / rules, OTHER_AIMS.get(name, AIM)
         print(f"  {name:<32} {ratio:5.2f} of its time ({seconds:.3f} s) {memory / memory_of_rules:5.2f} of its memory")
         if ratio > aim:
             missed.append(f"{shape}, {name}: {ratio:.2f} of the time of rules, aim {aim}")
