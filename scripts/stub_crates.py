@@ -45,7 +45,8 @@ def body_after(plain, place):
     place = end_of(plain, plain.index("(", place))
     while plain[place] not in ";{":
         clause = CLAUSE.match(plain, place)
-        place = end_of(plain, clause.end()) if clause else place + 1
+        opens = clause.end() if clause else place
+        place = end_of(plain, opens) if clause or plain[place] in "([" else place + 1
     end = end_of(plain, place) if plain[place] == "{" else place
     return (place if plain[place] == "{" else None), end
 
