@@ -29,6 +29,7 @@ mod PartLemmas
 mod WhyLemmas
 mod KeysLemmas
 mod JsonTextLemmas
+mod LedLaws
 mod LedLemmas
 mod ClosureLaw
 mod DrawnLemmas

@@ -41,7 +41,7 @@ there-among paths path has =
     list_any_at (bytes_eq path) paths has.0 path has.1
     (ap (bytes_eq path) has.2 ∙ (bytes_eq-Decides path path).1 refl)
 
-among-there : (paths : List (List ℕ)) (path : List ℕ) → is_among paths path ≡ true → Contains paths path
+pub among-there : (paths : List (List ℕ)) (path : List ℕ) → is_among paths path ≡ true → Contains paths path
 among-there paths path is = Contains-from_any same-bytes path paths is
 
 -- a mapped value is the value of one of the numbers

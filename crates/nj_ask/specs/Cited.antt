@@ -81,7 +81,7 @@ pub use Rattle.nj_ask.specs.Inside.StaleParts.{IsJudgedBuild, IsJudgedGraph, Lac
 pub use Rattle.nj_names.specs.NameTables.{name_at, with_name}
 pub use Rattle.nj_ask.specs.Inside.FilesFound.{paths_found}
 pub use Rattle.nj_ask.specs.MissingSources.{stated_edge, IsStop, missing_line, required_files, stated_edges}
-pub use Rattle.nj_ask.specs.LookedThrough.{with_led, behind, phony_inputs}
+pub use Rattle.nj_ask.specs.LookedThrough.{with_led, behind, phony_inputs, WalkFindsAllThatIsLedTo}
 pub use Rattle.nj_keys.specs.Keys.{content_of, edges_stated}
 pub use Rattle.nj_text.specs.Paths.{clean_path_of, is_absolute}
 pub use Rattle.nj_needs.specs.MarkTexts.{given_mark}

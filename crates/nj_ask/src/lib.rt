@@ -66,6 +66,7 @@ pub use audit::audit_law;
 pub use discovered::{Discovered, DiscoveredGraph, with_discovered};
 pub use doubts::{Doubts, EdgeFault};
 pub use drawing_laws::drawing_law;
+pub use looked_through::looked_through_law;
 pub use made_files::made_from;
 pub use manifest::is_set;
 pub use report::report_law;

@@ -1,7 +1,7 @@
 //! The files that the inputs of an edge stand for.
 
 ghost use Rattle.std.specs.Prelude.{◌≡◌, ◌<◌, [], All, OnOk, is_some, length, map, unwrap_or};
-ghost use Rattle.nj_ask.specs.Cited.{behind, fold, phony_inputs, paths_found, path_at, with_led, with_name};
+ghost use Rattle.nj_ask.specs.Cited.{behind, fold, phony_inputs, paths_found, path_at, with_led, with_name, WalkFindsAllThatIsLedTo};
 
 use nj_graph::{EdgeGraph, EdgeNo, FileNo};
 use nj_names::RoundSet;
@@ -87,3 +87,9 @@ pub(crate) fn is_phony_made(graph: &EdgeGraph, file: FileNo) -> bool
         None => false,
     }
 }
+
+/// The walk finds exactly the files that were found before it, and those to which the new files lead
+/// through phony edges.
+pub fn looked_through_law()
+    ensures { WalkFindsAllThatIsLedTo }
+{}
