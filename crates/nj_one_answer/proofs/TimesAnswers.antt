@@ -24,7 +24,7 @@ use Rattle.nj_ask.specs.DeadAnswers.{ListsDead, dead_line, unread_line}
 use Rattle.nj_ask.specs.DeadAnswers.ListsDead.{none, last}
 use Rattle.nj_ask.specs.Times.{AnswersTimes, AnswersTimings, IsReportBy, edge_rules, timed_files}
 use Rattle.nj_ask.specs.Times.AnswersTimes.{no_target, no_depfile, reported}
-use Rattle.nj_one_answer.specs.Answers.{OneTimesAnswer}
+use Rattle.nj_one_answer.specs.Answers.{OneTimesAnswer, TellIf}
 use Rattle.nj_one_answer.proofs.NeededFaults.{clear-or-fault, fault-lines-agree}
 use Rattle.nj_one_answer.proofs.WhyAnswers.{ok-or-err, same-err, same-ok}
 use Rattle.nj_agreement.specs.Sources.{TellAll}
@@ -172,15 +172,15 @@ module _ (times : DeclaredTimes) (all : TellAll times) (is_json : Bool) where
 
 pub one-times-answer : OnePathIsCritical → OneListIsSlowest → OneTimesAnswer
 one-times-answer one-path one-list known entries log times options all output other ending end is also =
-    by options.dead is also
+    by options.dead all is also
   where
-    by : (dead : Bool) → AnswersTimings dead known entries log times options output ending
+    by : (dead : Bool) → TellIf dead times → AnswersTimings dead known entries log times options output ending
         → AnswersTimings dead known entries log times options other end → Same output other ending end
-    by false is also =
+    by false asked is also =
         answers-agree one-path one-list known entries log options output other ending end is also
-    by true is also =
+    by true asked is also =
         let outputs = dead_outputs (edges_of known.graph) log.lines in
-        let both = lists-agree times all options.json outputs outputs output is.warnings other also.warnings
+        let both = lists-agree times asked options.json outputs outputs output is.warnings other also.warnings
             refl
         is.lists also.lists in (
           both.0,

@@ -1,5 +1,5 @@
 -- When two answers to one question about a graph are the same.
-use Rattle.std.specs.Prelude.{◌≡◌, ℕ, true, false, Ok, List, map}
+use Rattle.std.specs.Prelude.{◌≡◌, ℕ, Bool, true, false, Ok, List, map}
 use Rattle.nj_scope.specs.ReadingList.{ReadStatement}
 use Rattle.nj_build_log.specs.Logs.{BuildLogModel}
 use Rattle.nj_discovered.specs.Times.{DeclaredTimes}
@@ -7,7 +7,7 @@ use Rattle.nj_graph.specs.Graph.{IsGraphOf}
 use Rattle.nj_graph.specs.Handles.{GraphEdge, files_in}
 use Rattle.nj_tests.specs.Tests.{TestModel}
 use Rattle.nj_questions.specs.Questions.{AffectedModel, AuditModel, DrawModel, KeysModel, StaleModel, TestsModel, TimesModel}
-use Rattle.nj_questions.specs.Questions.{WhyModel, SubjectModel, audit, draw, stale}
+use Rattle.nj_questions.specs.Questions.{WhyModel, SubjectModel, audit, draw, stale, timings}
 use Rattle.nj_ask.specs.declared.discovered.DiscoveredGraph.{DiscoveredGraph}
 use Rattle.nj_ask.specs.Answers.{AnswersAffected, AnswersDraw, AnswersJson, AnswersKeys, AnswersWhy, asked_targets}
 use Rattle.nj_ask.specs.Asks.{Answers, IsTaken, Misuses}
@@ -58,10 +58,15 @@ abbrev pub OneTestsAnswer : Type 0
 OneTestsAnswer = (known : DiscoveredGraph) (entries : List ReadStatement) (folder : List ℕ) (options : TestsModel)
     (tests : List TestModel) (input : List ℕ) → HasOneAnswer (AnswersTests known entries folder options tests input)
 
+-- the times are declared for all paths, if they are asked for
+abbrev pub TellIf : (asked : Bool) → DeclaredTimes → Type 0
+TellIf true times = TellAll times
+TellIf false times = Unit {0}
+
 -- `times`
 abbrev pub OneTimesAnswer : Type 0
 OneTimesAnswer = (known : DiscoveredGraph) (entries : List ReadStatement) (log : BuildLogModel) (times : DeclaredTimes)
-    (options : TimesModel) → TellAll times → HasOneAnswer (AnswersTimings options.dead known entries log times options)
+    (options : TimesModel) → TellIf options.dead times → HasOneAnswer (AnswersTimings options.dead known entries log times options)
 
 -- `why`
 abbrev pub OneWhyAnswer : Type 0
@@ -123,10 +128,11 @@ abbrev pub SameOutput : DiscoveredGraph → SubjectModel → (one other : List �
 SameOutput known (draw options) one other = SameDrawing known options one other
 SameOutput known subject one other = one ≡ other
 
--- `audit` looks sources up, and `stale` all files, so their times are declared
+-- `audit` looks sources up, `stale` all files, and `times --dead` outputs of the log, so their times are declared
 abbrev pub TellTimes : SubjectModel → DeclaredTimes → Type 0
 TellTimes (audit options) times = TellAll times
 TellTimes (stale options) times = TellAll times
+TellTimes (timings options) times = TellIf options.dead times
 TellTimes subject times = Unit {0}
 
 -- One graph, its statements, a build log, the files that options name and the options leave one output, but for a drawing's edges that
