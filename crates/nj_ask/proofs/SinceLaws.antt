@@ -10,7 +10,7 @@ use Rattle.nj_text.specs.Paths.{clean_path_of}
 use Rattle.nj_graph.specs.ReadingList.{ReadStatement}
 use Rattle.nj_graph.specs.Edges.{EdgePaths, is_among}
 use Rattle.nj_graph.specs.Graph.{GraphModel}
-use Rattle.nj_keys.specs.Keys.{HaveKeys, IsKey, commands_of}
+use Rattle.nj_keys.specs.Keys.{HaveKeys, IsKey, all_commands}
 use Rattle.nj_keys.specs.Keys.HaveKeys.{last, none}
 use Rattle.nj_keys.specs.declared.pages.EdgeKey.{EdgeKey}
 use Rattle.nj_ask.specs.Laws.{OtherCommandsAreOld}
@@ -79,7 +79,7 @@ module _ (old : List (List ℕ)) where
 pub other-commands : OtherCommandsAreOld
 other-commands g edges entries bases text new (some right are unsettled) edge has not-new =
     let folders = map clean_path_of bases in
-    let (next, there, same, is) = key-there folders edges entries edge (commands_of g) are.keys are.have has
+    let (next, there, same, is) = key-there folders edges entries edge (all_commands g) are.keys are.have has
         in
     (next.key, is, by next there same (is_among (keys-of text) next.key) refl)
   where

@@ -6,7 +6,7 @@ use Rattle.nj_graph.specs.Dirty.{has_counted_input_of, has_output_of}
 use Rattle.nj_graph.specs.Edges.{EdgePaths, edge_at, is_among, outputs_of}
 use Rattle.nj_graph.specs.Graph.{GraphModel, edges_of}
 use Rattle.nj_text.specs.Paths.{clean_path_of}
-use Rattle.nj_keys.specs.Keys.{IsKey, commands_of}
+use Rattle.nj_keys.specs.Keys.{IsKey, all_commands}
 use Rattle.nj_tools.specs.Sinks.{SinkState, Takes}
 use Rattle.nj_tests.specs.Tests.{TestModel}
 use Rattle.nj_questions.specs.Questions.{AffectedModel, TestsModel}
@@ -113,7 +113,7 @@ DoneMissesNoTest = (known : DiscoveredGraph) (entries : List ReadStatement) (fol
 -- A command that is not new since an older manifest has a key, with the given bases, that is among the keys of that manifest.
 abbrev pub OtherCommandsAreOld : Type 0
 OtherCommandsAreOld = (g : GraphModel) (edges : List EdgePaths) (entries : List ReadStatement) (bases : List (List ℕ)) (text : List ℕ)
-    (new : NewModel) → IsNewSince g edges entries bases (Some text) new → (edge : ℕ) → Contains (commands_of g) edge
+    (new : NewModel) → IsNewSince g edges entries bases (Some text) new → (edge : ℕ) → Contains (all_commands g) edge
     → ¬ Contains new.commands edge
     → (key : List ℕ) × IsKey (map clean_path_of bases) edges entries edge key × (is_among (keys_in (lines_in text)) key ≡ true)
 
