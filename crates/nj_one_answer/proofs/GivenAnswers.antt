@@ -18,8 +18,8 @@ use Rattle.nj_questions.specs.Questions.{AffectedModel, TestsModel, affected, au
 use Rattle.nj_questions.specs.Questions.{tests, timings, why}
 use Rattle.nj_ask.specs.Answers.{keys_misuse}
 use Rattle.nj_ask.specs.Audits.{audit_misuse}
-use Rattle.nj_ask.specs.Given.{folder_misuse, pattern_line, LeavesPaths, MisusesAffected, TakesAffected}
-use Rattle.nj_ask.specs.Given.MisusesAffected.{no_folder, no_glob}
+use Rattle.nj_ask.specs.Given.{change_misuse, pattern_line, LeavesPaths, MisusesAffected, TakesAffected}
+use Rattle.nj_ask.specs.Given.MisusesAffected.{by_word as misused_word, no_glob}
 use Rattle.nj_ask.specs.Stales.{stale_misuse}
 use Rattle.nj_ask.specs.Times.{times_misuse}
 use Rattle.nj_ask.specs.ChosenTests.{MisusesTests, TakesTests, word_misuse}
@@ -109,20 +109,20 @@ module _ (good : GoodPatternsAreRead) where
 
   affected-misuse : OneFault → (options : AffectedModel) (line other : List ℕ) → MisusesAffected options line
       → MisusesAffected options other → line ≡ other
-  affected-misuse fault options _ _ (no_folder {line = a} is) (no_folder {line = b} also) =
+  affected-misuse fault options _ _ (misused_word {line = a} is) (misused_word {line = b} also) =
       same_Some a b (sym is ∙ also)
-  affected-misuse fault options _ _ (no_folder {line = a} is) (no_glob named wrong) =
-      absurd (some-or-none a (folder_misuse options.source_dirs) is named)
-  affected-misuse fault options _ _ (no_glob named wrong) (no_folder {line = a} is) =
-      absurd (some-or-none a (folder_misuse options.source_dirs) is named)
+  affected-misuse fault options _ _ (misused_word {line = a} is) (no_glob named wrong) =
+      absurd (some-or-none a (change_misuse options) is named)
+  affected-misuse fault options _ _ (no_glob named wrong) (misused_word {line = a} is) =
+      absurd (some-or-none a (change_misuse options) is named)
   affected-misuse fault options _ _ (no_glob {pattern = p} {fault = f} named wrong)
       (no_glob {pattern = q} {fault = g} also more) =
       first-agree fault options.ignored p q f g wrong more
 
   affected-apart : (options : AffectedModel) (line : List ℕ) → MisusesAffected options line
       → TakesAffected options → ⊥
-  affected-apart options _ (no_folder {line = a} is) taken =
-      absurd (some-or-none a (folder_misuse options.source_dirs) is taken.folder)
+  affected-apart options _ (misused_word {line = a} is) taken =
+      absurd (some-or-none a (change_misuse options) is taken.words)
   affected-apart options _ (no_glob {pattern = p} {fault = f} named wrong) taken =
       not-all options.ignored options.ignored p f wrong
       (slice_get_within options.ignored wrong.index p wrong.at)

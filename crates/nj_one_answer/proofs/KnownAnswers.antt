@@ -37,9 +37,11 @@ use Rattle.nj_ask.specs.declared.status.Status.TheVariants.{Fault}
 use Rattle.nj_ask.specs.Affected.{Asked}
 use Rattle.nj_ask.specs.Answers.{AnswersAffected, AnswersAllKeys, AnswersDraw, AnswersJson, AnswersKeys}
 use Rattle.nj_ask.specs.Answers.{AnswersTargetKeys, AnswersWhy, HasDepfileFault, HaveKeysAsked, IsClear}
-use Rattle.nj_ask.specs.Answers.{asked_mark, files_at, key_lines, kinds_asked}
+use Rattle.nj_ask.specs.Answers.{asked_mark, files_at, key_lines, keys_text, kinds_asked}
+use Rattle.nj_ask.specs.Answers.{manifest_edges, single_base}
+use Rattle.nj_ask.specs.KeyObjects.{key_objects}
 use Rattle.nj_ask.specs.Answers.AnswersAllKeys.{bad_depfile, every}
-use Rattle.nj_ask.specs.Answers.AnswersAffected.{no_path, no_rule, reported}
+use Rattle.nj_ask.specs.Answers.AnswersAffected.{no_keys, no_path, no_rule, reported}
 use Rattle.nj_ask.specs.Answers.AnswersDraw.{no_target as undrawn_target, no_depfile as undrawn_depfile}
 use Rattle.nj_ask.specs.Answers.AnswersDraw.{drawing}
 use Rattle.nj_ask.specs.Answers.AnswersJson.{all, not_text}
@@ -52,15 +54,17 @@ use Rattle.nj_ask.specs.Asks.{Answers}
 use Rattle.nj_ask.specs.Audits.{AnswersAudit, lookup_lines}
 use Rattle.nj_ask.specs.Chains.{HasChain}
 use Rattle.nj_ask.specs.ChosenTests.{AnswersTests, Reaches, WritesTests}
-use Rattle.nj_ask.specs.ChosenTests.AnswersTests.{chosen, no_folder}
+use Rattle.nj_ask.specs.ChosenTests.AnswersTests.{chosen, no_folder, no_keys as no_test_keys}
 use Rattle.nj_ask.specs.DiscoveredGraphs.{IsTouched, TouchedBy}
 use Rattle.nj_ask.specs.Drawings.{IsDrawing, ListsEdges, drawing_text}
 use Rattle.nj_ask.specs.Drawings.ListsEdges.{needed, touched}
 use Rattle.nj_ask.specs.DrawnNodes.{drawn_nodes}
 use Rattle.nj_ask.specs.Endings.{Ending, answered, fault_line, program_line, refused}
-use Rattle.nj_ask.specs.Manifest.{is_one_of, opened_files}
+use Rattle.nj_ask.specs.Manifest.{is_one_of}
 use Rattle.nj_ask.specs.Pages.{mark_line}
-use Rattle.nj_ask.specs.Reports.{HasCaveats, ChangeModel, IsReport, changed_numbers, changed_paths}
+use Rattle.nj_ask.specs.Reports.{HasCaveats, ChangeModel, IsReport, IsTouchedBy, changed_numbers}
+use Rattle.nj_ask.specs.Reports.{new_paths, remade_files}
+use Rattle.nj_ask.specs.Since.{IsNewSince, NewModel}
 use Rattle.nj_ask.specs.Shape.{caveat_text, dyndep_text, shape_text}
 use Rattle.nj_ask.specs.MissingSources.{IsStop, required_files, stated_edges}
 use Rattle.nj_ask.specs.Stales.{AnswersBuild, AnswersStale, AreStaleFor, IsCurrent, WritesStale, files_asked}
@@ -172,6 +176,14 @@ module _ (one other : DiscoveredGraph) (same : SameKnown one other) where
   touches-back : (files : List (List ℕ)) (edge : ℕ) → IsTouched mid files edge → IsTouched one files edge
   touches-back files edge = subst (by_unknown files edge) (sym same.unknown)
 
+  touches-by : (q : ChangeModel) (edge : ℕ) → IsTouchedBy one q edge → IsTouchedBy mid q edge
+  touches-by q edge (inl new) = inl new
+  touches-by q edge (inr it) = inr (touches (new_paths one.graph q) edge it)
+
+  touches-by-back : (q : ChangeModel) (edge : ℕ) → IsTouchedBy mid q edge → IsTouchedBy one q edge
+  touches-by-back q edge (inl new) = inl new
+  touches-by-back q edge (inr it) = inr (touches-back (new_paths one.graph q) edge it)
+
   faulty : (files : List (List ℕ)) (line : List ℕ) → HasDepfileFault one files line
       → HasDepfileFault mid files line
   faulty files line has =
@@ -198,7 +210,7 @@ module _ (one other : DiscoveredGraph) (same : SameKnown one other) where
     about = is.about;
     warns = is.warns;
     all = is.all ∙ ap (λ (c : List ℕ). c ++ is.about
-        ++ shape_text one entries (opened_files one.graph q.working) (changed_numbers one.graph q)
+        ++ shape_text one entries (remade_files one.graph q) (changed_numbers one.graph q)
         edges) same.caveats;
   }
 
@@ -206,8 +218,8 @@ module _ (one other : DiscoveredGraph) (same : SameKnown one other) where
       → Reaches one entries q edges text → Reaches mid entries q edges text
   reach-moves entries q edges text is = record {
     touched = λ e. (
-      (λ has. touches (changed_paths one.graph q) e ((is.touched e).0 has)),
-      (λ it. (is.touched e).1 (touches-back (changed_paths one.graph q) e it)),
+      (λ has. touches-by q e ((is.touched e).0 has)),
+      (λ it. (is.touched e).1 (touches-by-back q e it)),
     );
     rises = is.rises;
     are_caveats = caveats-move entries q edges text is.are_caveats;
@@ -219,8 +231,8 @@ module _ (one other : DiscoveredGraph) (same : SameKnown one other) where
     lists = record {
       edges = is.lists.edges;
       touched = λ e. (
-        (λ has. touches (changed_paths one.graph q) e ((is.lists.touched e).0 has)),
-        (λ it. (is.lists.touched e).1 (touches-back (changed_paths one.graph q) e it)),
+        (λ has. touches-by q e ((is.lists.touched e).0 has)),
+        (λ it. (is.lists.touched e).1 (touches-by-back q e it)),
       );
       rises = is.lists.rises;
       lines = is.lists.lines;
@@ -228,15 +240,26 @@ module _ (one other : DiscoveredGraph) (same : SameKnown one other) where
     caveats = caveats-move entries q is.lists.edges warnings is.caveats;
   }
 
+  new-moves : (entries : List ReadStatement) (bases : List (List ℕ)) (since : Option (List ℕ))
+      (new : NewModel)
+      → IsNewSince one.graph (manifest_edges one) entries bases since new
+      → IsNewSince mid.graph (manifest_edges mid) entries bases since new
+  new-moves entries bases since new =
+      subst (λ (ds : List EdgeDiscovery). IsNewSince one.graph
+      (edges_stated (map (λ (d : EdgeDiscovery). d.stated_inputs) ds) (edges_of one.graph)) entries bases
+      since
+      new) same.discoveries
+
   affected-moves : (entries : List ReadStatement) (folder : List ℕ) (options : AffectedModel)
-      (input output : List ℕ) (ending : Ending)
-      → AnswersAffected one entries folder options input output ending
-      → AnswersAffected mid entries folder options input output ending
-  affected-moves entries folder options input _ _ (no_rule is) = no_rule is
-  affected-moves entries folder options input _ _ (no_path none empty asks) = no_path none empty asks
-  affected-moves entries folder options input _ _
-      (reported {outputs = o} {warnings = w} none some leaves is) =
-      reported none some leaves (report entries _ _ o w is)
+      (since : Option (List ℕ)) (input output : List ℕ) (ending : Ending)
+      → AnswersAffected one entries folder options since input output ending
+      → AnswersAffected mid entries folder options since input output ending
+  affected-moves entries folder options since input _ _ (no_rule is) = no_rule is
+  affected-moves entries folder options since input _ _ (no_path none empty asks) = no_path none empty asks
+  affected-moves entries folder options since input _ _ (no_keys none some lacks) = no_keys none some lacks
+  affected-moves entries folder options since input _ _
+      (reported {new = n} {outputs = o} {warnings = w} none some new leaves is) =
+      reported none some (new-moves entries options.bases since n new) leaves (report entries _ _ o w is)
 
   writes-move : (entries : List ReadStatement) (q : ChangeModel) (edges : List ℕ) (options : TestsModel)
       (list : List TestModel) (whole : Bool) (text : List ℕ)
@@ -253,14 +276,15 @@ module _ (one other : DiscoveredGraph) (same : SameKnown one other) where
   }
 
   tests-move : (entries : List ReadStatement) (folder : List ℕ) (options : TestsModel)
-      (list : List TestModel) (input output : List ℕ) (ending : Ending)
-      → AnswersTests one entries folder options list input output ending
-      → AnswersTests mid entries folder options list input output ending
-  tests-move entries folder options list input _ _ (no_folder is) = no_folder is
-  tests-move entries folder options list input _ _
-      (chosen {edges = es} {caveats = c} {output = o} some leaves reaches said writes) =
-      chosen some leaves (reach-moves entries _ es c reaches) said
-      (writes-move entries _ es options list _ o writes)
+      (list : List TestModel) (since : Option (List ℕ)) (input output : List ℕ) (ending : Ending)
+      → AnswersTests one entries folder options list since input output ending
+      → AnswersTests mid entries folder options list since input output ending
+  tests-move entries folder options list since input _ _ (no_folder is) = no_folder is
+  tests-move entries folder options list since input _ _ (no_test_keys some lacks) = no_test_keys some lacks
+  tests-move entries folder options list since input _ _
+      (chosen {new = n} {edges = es} {caveats = c} {output = o} some new leaves reaches said writes) =
+      chosen some (new-moves entries options.change.bases since n new) leaves
+      (reach-moves entries _ es c reaches) said (writes-move entries _ es options list _ o writes)
 
   why-moves : (entries : List ReadStatement) (options : WhyModel) (output : List ℕ) (ending : Ending)
       → AnswersWhy one entries options output ending → AnswersWhy mid entries options output ending
@@ -286,6 +310,13 @@ module _ (one other : DiscoveredGraph) (same : SameKnown one other) where
       (edges_stated (map (λ (d : EdgeDiscovery). d.stated_inputs) ds) (edges_of one.graph)) entries
       numbers ks) same.discoveries has
 
+  text-moves : (entries : List ReadStatement) (options : KeysModel) (ks : List EdgeKey)
+      → keys_text one entries options ks ≡ keys_text mid entries options ks
+  text-moves entries options ks =
+      ap (λ (ds : List EdgeDiscovery). cond options.json
+      (key_objects one.graph entries ds (map single_base options.bases) ks) (key_lines one.graph ks))
+      same.discoveries
+
   target-keys-moves : (entries : List ReadStatement) (options : KeysModel) (contents : List (List ℕ))
       (mark output : List ℕ) (ending : Ending)
       → AnswersTargetKeys one entries options contents mark output ending
@@ -298,11 +329,13 @@ module _ (one other : DiscoveredGraph) (same : SameKnown one other) where
       out_of_range at (clear ps fine) bad
   target-keys-moves entries options contents mark _ _
       (page {paths = ps} {keys = ks} rest at fine valid has begins stops) =
-      subst (λ (c : List ℕ). AnswersTargetKeys mid entries options contents mark (key_lines one.graph ks)
-      (answered false (mark_line rest ++ c)))
-      (caveats entries) (page rest at (clear ps fine) valid
+      subst (λ (c : List ℕ). AnswersTargetKeys mid entries options contents mark
+      (keys_text one entries options ks) (answered false (mark_line rest ++ c)))
+      (caveats entries) (subst (λ (t : List ℕ). AnswersTargetKeys mid entries options contents mark t
+      (answered false (mark_line rest ++ caveat_text mid entries))) (sym (text-moves entries options ks))
+      (page rest at (clear ps fine) valid
       (keys-move entries options contents (written options.take (left_at (files_at one.graph ps) mark)) ks
-      has) begins stops)
+      has) begins stops))
 
   all-keys-moves : (entries : List ReadStatement) (options : KeysModel) (contents : List (List ℕ))
       (output : List ℕ) (ending : Ending)
@@ -313,10 +346,12 @@ module _ (one other : DiscoveredGraph) (same : SameKnown one other) where
       subst (λ (t : List ℕ). AnswersAllKeys mid entries options contents [] (refused (program_line t) Fault))
       (sym m.2) (bad_depfile m.1)
   all-keys-moves entries options contents _ _ (every {keys = ks} none has) =
-      subst (λ (c : List ℕ). AnswersAllKeys mid entries options contents (key_lines one.graph ks)
+      subst (λ (c : List ℕ). AnswersAllKeys mid entries options contents (keys_text one entries options ks)
       (answered false c)) (caveats entries)
+      (subst (λ (t : List ℕ). AnswersAllKeys mid entries options contents t
+      (answered false (caveat_text mid entries))) (sym (text-moves entries options ks))
       (every (none-left other.faults.items (sym (ap (map number_of) none) ∙ same.faulty))
-      (keys-move entries options contents (all_commands one.graph) ks has))
+      (keys-move entries options contents (all_commands one.graph) ks has)))
 
   keys-moves : (entries : List ReadStatement) (options : KeysModel) (contents : List (List ℕ))
       (mark output : List ℕ) (ending : Ending)
@@ -507,7 +542,7 @@ module _ (one other : DiscoveredGraph) (same : SameKnown one other) where
       → Answers one entries log times folder subject named input output ending
       → Answers mid entries log times folder subject named input output ending
   moves entries log times folder (affected options) named input output ending is =
-      affected-moves entries folder options input output ending is
+      affected-moves entries folder options named.since input output ending is
   moves entries log times folder (audit options) named input output ending is =
       audit-moves entries times folder options output ending is
   moves entries log times folder (draw options) named input output ending is =
@@ -518,7 +553,7 @@ module _ (one other : DiscoveredGraph) (same : SameKnown one other) where
   moves entries log times folder (stale options) named input output ending is =
       stale-moves entries log times options output ending is
   moves entries log times folder (tests options) named input output ending is =
-      tests-move entries folder options named.tests input output ending is
+      tests-move entries folder options named.tests named.since input output ending is
   moves entries log times folder (timings options) named input output ending is =
       timings-move options.dead entries log times options output ending is
   moves entries log times folder (why options) named input output ending is =

@@ -14,6 +14,7 @@ mod QuestionAnswers
 mod ReportAnswers
 mod RunAnswers
 mod RunRows
+mod SinceAnswers
 mod StaleAnswers
 mod TestAnswers
 mod TimesAnswers

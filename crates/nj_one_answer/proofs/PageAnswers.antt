@@ -17,7 +17,7 @@ use Rattle.nj_ask.specs.declared.status.Status.TheVariants.{Fault}
 use Rattle.nj_ask.specs.declared.doubts.EdgeFault.{EdgeFault}
 use Rattle.nj_ask.specs.Answers.{AnswersAllKeys, AnswersKeys, AnswersTargetKeys, HasDepfileFault}
 use Rattle.nj_ask.specs.Answers.{HaveKeysAsked}
-use Rattle.nj_ask.specs.Answers.{IsClear, asked_targets, files_at, key_lines, manifest_edges}
+use Rattle.nj_ask.specs.Answers.{IsClear, asked_targets, files_at, keys_text, manifest_edges}
 use Rattle.nj_ask.specs.Answers.AnswersAllKeys.{bad_depfile, every}
 use Rattle.nj_ask.specs.Answers.AnswersKeys.{of_all, of_targets}
 use Rattle.nj_ask.specs.Answers.AnswersTargetKeys.{no_target, no_depfile, out_of_range, page}
@@ -45,7 +45,7 @@ module _ (unique : ListsOfKeysAreUnique) (known : DiscoveredGraph) (entries : Li
         → HaveKeysAsked known entries options contents numbers other → one ≡ other
     keys-agree numbers one other has also =
         unique (options.additions ++ contents) (map clean_path_of options.bases) (manifest_edges known)
-            entries
+        entries
         numbers one other has also
 
     -- the targets are the same files
@@ -128,7 +128,7 @@ module _ (unique : ListsOfKeysAreUnique) (known : DiscoveredGraph) (entries : Li
         (page {paths = a2} {keys = t2} {walk = w2} rest2 at2 clear2 valid2 lists2 begins2 stops2) =
         let files = files_at known.graph a2 in
         let paths : a1 ≡ a2 = same a1 a2 at1 at2 in (
-          ap (key_lines known.graph)
+          ap (keys_text known entries options)
               (keys-agree (written options.take (left_at files mark)) t1 t2
               (subst (λ ps. Lists ps t1) paths lists1) lists2),
           ap (λ rest. answered false (mark_line rest ++ caveat_text known entries))
@@ -149,9 +149,9 @@ module _ (unique : ListsOfKeysAreUnique) (known : DiscoveredGraph) (entries : Li
         absurd (let no : None ≡ Some e1 = sym (ap (λ (fs : List EdgeFault). slice_get fs 0) none) ∙ is in cc)
     all-answers-agree _ _ _ _ (every {keys = k1} none has) (bad_depfile {fault = e2} also) =
         absurd (let no : None ≡ Some e2 = sym (ap (λ (fs : List EdgeFault). slice_get fs 0) none) ∙ also
-            in cc)
+        in cc)
     all-answers-agree _ _ _ _ (every {keys = k1} none has) (every {keys = k2} none2 has2) =
-        (ap (key_lines known.graph) (keys-agree (all_commands known.graph) k1 k2 has has2), refl)
+        (ap (keys_text known entries options) (keys-agree (all_commands known.graph) k1 k2 has has2), refl)
 
     pub answers-agree : (output other : List ℕ) (ending end : Ending)
         → AnswersKeys known entries options contents mark output ending

@@ -1,5 +1,6 @@
 -- Two answers of `tests`.
-use Rattle.std.proofs.Common.{◌≡◌, ◌+◌, ℕ, Bool, true, false, cond, ◌&&◌, ◌||◌, List, [], ◌∷◌, ◌++◌}
+use Rattle.std.proofs.Common.{◌≡◌, ◌+◌, ℕ, Bool, true, false, cond, ◌&&◌, ◌||◌, Option, List, [], ◌∷◌}
+use Rattle.std.proofs.Common.{◌++◌}
 use Rattle.std.proofs.Common.{map, refl, sym, ap, subst, ◌∙◌}
 use Rattle.std.proofs.Math.Path.{fun_ext}
 use Rattle.std.specs.Prelude.{◌↔◌, Contains, None, bytes_eq, nat_eq, not, is_some, slice_index_or}
@@ -29,8 +30,12 @@ use Rattle.nj_questions.specs.Questions.{TestsModel}
 use Rattle.nj_ask.specs.declared.discovered.DiscoveredGraph.{DiscoveredGraph}
 use Rattle.nj_ask.specs.ChosenTests.{AnswersTests, Reaches, WritesTests, graph_change, remarks, style_asked}
 use Rattle.nj_ask.specs.ChosenTests.{tests_change}
-use Rattle.nj_ask.specs.ChosenTests.AnswersTests.{chosen, no_folder}
-use Rattle.nj_ask.specs.Endings.{Ending, answered}
+use Rattle.nj_ask.specs.ChosenTests.AnswersTests.{chosen, no_folder, no_keys}
+use Rattle.nj_ask.specs.Endings.{Ending, answered, refused}
+use Rattle.nj_ask.specs.declared.status.Status.TheVariants.{Fault}
+use Rattle.nj_ask.specs.Answers.{manifest_edges}
+use Rattle.nj_ask.specs.Since.{NewModel}
+use Rattle.nj_keys.specs.Keys.{ListsOfKeysAreUnique}
 use Rattle.nj_ask.specs.Given.{given_paths}
 use Rattle.nj_ask.specs.Laws.{WarningsAreUnique}
 use Rattle.nj_ask.specs.Reports.{ChangeModel, HasCaveats, IsTouchedBy, changed_paths}
@@ -39,6 +44,7 @@ use Rattle.nj_one_answer.specs.Answers.{OneTestsAnswer}
 use Rattle.nj_agreement.proofs.ReachedAnswers.{rising-agree}
 use Rattle.nj_one_answer.proofs.GivenAnswers.{leaves-agree}
 use Rattle.nj_one_answer.proofs.ReportAnswers.{caveats-agree}
+use Rattle.nj_one_answer.proofs.SinceAnswers.{lacking-agree, new-agree, new-or-lacking}
 
 -- ---- lists with the same members
 
@@ -255,42 +261,65 @@ module _ (known : DiscoveredGraph) (entries : List ReadStatement) (q : ChangeMod
 
 -- ---- one answer
 
-module _ (reading : OneReading) (unique : WarningsAreUnique) (known : DiscoveredGraph)
+module _ (reading : OneReading) (unique : WarningsAreUnique) (keys : ListsOfKeysAreUnique)
+    (known : DiscoveredGraph)
     (entries : List ReadStatement) where
-  pub one-choice : (folder : List ℕ) (options : TestsModel) (tests : List TestModel) (input : List ℕ)
-      (output other : List ℕ) (ending end : Ending)
-      → AnswersTests known entries folder options tests input output ending
-      → AnswersTests known entries folder options tests input other end → (output ≡ other) × (ending ≡ end)
-  one-choice folder options tests input _ _ _ _ (no_folder is) (no_folder also) = (refl, refl)
-  one-choice folder options tests input _ _ _ _ (no_folder is) (chosen some leaves reaches said writes) =
+  pub one-choice : (folder : List ℕ) (options : TestsModel) (tests : List TestModel)
+      (since : Option (List ℕ)) (input : List ℕ) (output other : List ℕ) (ending end : Ending)
+      → AnswersTests known entries folder options tests since input output ending
+      → AnswersTests known entries folder options tests since input other end
+      → (output ≡ other) × (ending ≡ end)
+  one-choice folder options tests since input _ _ _ _ (no_folder is) (no_folder also) = (refl, refl)
+  one-choice folder options tests since input _ _ _ _ (no_folder is) (no_keys some lacks) = absurd (some is)
+  one-choice folder options tests since input _ _ _ _ (no_folder is)
+      (chosen some new leaves reaches said writes) =
       absurd (some is)
-  one-choice folder options tests input _ _ _ _ (chosen some leaves reaches said writes) (no_folder is) =
+  one-choice folder options tests since input _ _ _ _ (no_keys some lacks) (no_folder is) = absurd (some is)
+  one-choice folder options tests since input _ _ _ _ (no_keys {line = l} some lacks)
+      (no_keys {line = m} some2 lacks2) =
+      (refl, ap (λ line. refused line Fault) (lacking-agree options.change.since since l m lacks lacks2))
+  one-choice folder options tests since input _ _ _ _ (no_keys {line = l} some lacks)
+      (chosen {new = n} some2 new leaves reaches said writes) =
+      absurd (new-or-lacking known.graph (manifest_edges known) entries options.change.bases
+      options.change.since since n l new lacks)
+  one-choice folder options tests since input _ _ _ _ (chosen some new leaves reaches said writes)
+      (no_folder is) =
       absurd (some is)
-  one-choice folder options tests input _ _ _ _
-      (chosen {paths = ps} {edges = es} {caveats = c} {warnings = w} {output = o} some leaves reaches said
-      writes)
-      (chosen {paths = qs} {edges = fs} {caveats = d} {warnings = v} {output = p} some2 leaves2 reaches2 said2
-      writes2) =
+  one-choice folder options tests since input _ _ _ _ (chosen {new = n} some new leaves reaches said writes)
+      (no_keys {line = l} some2 lacks) =
+      absurd (new-or-lacking known.graph (manifest_edges known) entries options.change.bases
+      options.change.since since n l new lacks)
+  one-choice folder options tests since input _ _ _ _
+      (chosen {paths = ps} {new = m} {edges = es} {caveats = c} {warnings = w} {output = o} some new leaves
+      reaches said writes)
+      (chosen {paths = qs} {new = n} {edges = fs} {caveats = d} {warnings = v} {output = p} some2 new2 leaves2
+      reaches2 said2 writes2) =
       let same = leaves-agree reading options.change (given_paths options.change input) ps qs leaves leaves2
       in
+      let one = new-agree keys known.graph (manifest_edges known) entries options.change.bases since m n new
+      new2 in
       let change = tests_change known.has_discovered options tests folder in
-      let reach = subst (λ paths. Reaches known entries (change paths) es c) same reaches in
-      let edges = rising-agree (IsTouchedBy known (change qs)) es fs reach.touched reach.rises
+      let reach = subst (λ (more : NewModel). Reaches known entries (change qs more) es c) one
+      (subst (λ paths. Reaches known entries (change paths m) es c) same reaches) in
+      let edges = rising-agree (IsTouchedBy known (change qs n)) es fs reach.touched reach.rises
       reaches2.touched reaches2.rises in
-      let caveats = caveats-agree reading unique known entries (change qs) fs c d
-      (subst (λ ns. HasCaveats known entries (change qs) ns c) edges reach.are_caveats)
+      let caveats = caveats-agree reading unique known entries (change qs n) fs c d
+      (subst (λ ns. HasCaveats known entries (change qs n) ns c) edges reach.are_caveats)
       reaches2.are_caveats in
       let warnings = said ∙ ap (λ t. remarks options (given_paths options.change input) tests ++ t) caveats
       ∙ sym said2 in
-      let written = subst (λ t. WritesTests known entries (change qs) fs options tests (not (is_empty t)) o)
+      let written = subst
+      (λ t. WritesTests known entries (change qs n) fs options tests (not (is_empty t)) o)
       warnings
-      (subst (λ ns. WritesTests known entries (change qs) ns options tests (not (is_empty w)) o) edges
-      (subst (λ paths. WritesTests known entries (change paths) es options tests (not (is_empty w)) o) same
-      writes)) in (
-        writes-agree known entries (change qs) fs options tests (not (is_empty v)) o p written writes2,
+      (subst (λ ns. WritesTests known entries (change qs n) ns options tests (not (is_empty w)) o) edges
+      (subst (λ (more : NewModel). WritesTests known entries (change qs more) es options tests
+      (not (is_empty w)) o) one
+      (subst (λ paths. WritesTests known entries (change paths m) es options tests (not (is_empty w)) o) same
+      writes))) in (
+        writes-agree known entries (change qs n) fs options tests (not (is_empty v)) o p written writes2,
         ap (answered false) warnings,
       )
 
-pub one-tests-answer : OneReading → WarningsAreUnique → OneTestsAnswer
-one-tests-answer reading unique known entries folder options tests input =
-    one-choice reading unique known entries folder options tests input
+pub one-tests-answer : OneReading → WarningsAreUnique → ListsOfKeysAreUnique → OneTestsAnswer
+one-tests-answer reading unique keys known entries folder options tests since input =
+    one-choice reading unique keys known entries folder options tests since input

@@ -107,7 +107,7 @@ module _ (one-path : OnePathIsCritical) (one-list : OneListIsSlowest) (known : D
       options.json output other is also
   texts-agree false files output other is also =
       reports-agree one-path one-list (edges_of known.graph) log.lines files options.top options.json output
-          other
+      other
       is also
 
   answers-agree : (output other : List ℕ) (ending end : Ending)
@@ -163,7 +163,7 @@ module _ (times : DeclaredTimes) (all : TellAll times) (is_json : Bool) where
       let front = lists-agree ps qs ts ws us vs both.0 are also in
       let found : a ≡ b =
       answer-is times all q a (subst (λ path. IsTimeOf times path a) both.1 is)
-          ∙ sym (answer-is times all q b it) in (
+      ∙ sym (answer-is times all q b it) in (
         ap₂ (λ (t : List ℕ) (o : List ℕ). t ++ dead_line is_json o a) front.0 both.1
             ∙ ap (λ f. us ++ dead_line is_json q f) found,
         ap₂ (λ (t : List ℕ) (o : List ℕ). t ++ unread_line o a) front.1 both.1
@@ -181,7 +181,7 @@ one-times-answer one-path one-list known entries log times options all output ot
     by true asked is also =
         let outputs = dead_outputs (edges_of known.graph) log.lines in
         let both = lists-agree times asked options.json outputs outputs output is.warnings other also.warnings
-            refl
+        refl
         is.lists also.lists in (
           both.0,
           is.ending_is ∙ ap (λ (w : List ℕ). answered false (w ++ caveat_text known entries)) both.1

@@ -1,5 +1,5 @@
 -- When two answers to one question about a graph are the same.
-use Rattle.std.specs.Prelude.{◌≡◌, ℕ, Bool, true, false, Ok, List, map}
+use Rattle.std.specs.Prelude.{◌≡◌, ℕ, Bool, true, false, Option, Ok, List, map}
 use Rattle.nj_scope.specs.ReadingList.{ReadStatement}
 use Rattle.nj_build_log.specs.Logs.{BuildLogModel}
 use Rattle.nj_discovered.specs.Times.{DeclaredTimes}
@@ -28,10 +28,10 @@ HasOneAnswer Is = (output other : List ℕ) (ending end : Ending) → Is output 
 
 -- ---- by subcommand, about one graph and its statements
 
--- `affected`
+-- `affected`, with the text of `--since`
 abbrev pub OneAffectedAnswer : Type 0
 OneAffectedAnswer = (known : DiscoveredGraph) (entries : List ReadStatement) (folder : List ℕ) (options : AffectedModel)
-    (input : List ℕ) → HasOneAnswer (AnswersAffected known entries folder options input)
+    (since : Option (List ℕ)) (input : List ℕ) → HasOneAnswer (AnswersAffected known entries folder options since input)
 
 -- `audit`, by times that are declared for all paths
 abbrev pub OneAuditAnswer : Type 0
@@ -53,10 +53,11 @@ OneStaleAnswer = (known : DiscoveredGraph) (entries : List ReadStatement) (log :
     (options : StaleModel) → IsGraphOf known.graph entries → TellAll times
     → HasOneAnswer (AnswersStale known entries log times options)
 
--- `tests`, about one list of tests
+-- `tests`, about one list of tests, with the text of `--since`
 abbrev pub OneTestsAnswer : Type 0
 OneTestsAnswer = (known : DiscoveredGraph) (entries : List ReadStatement) (folder : List ℕ) (options : TestsModel)
-    (tests : List TestModel) (input : List ℕ) → HasOneAnswer (AnswersTests known entries folder options tests input)
+    (tests : List TestModel) (since : Option (List ℕ)) (input : List ℕ)
+    → HasOneAnswer (AnswersTests known entries folder options tests since input)
 
 -- the times are declared for all paths, if they are asked for
 abbrev pub TellIf : (asked : Bool) → DeclaredTimes → Type 0

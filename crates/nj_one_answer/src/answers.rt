@@ -2,12 +2,14 @@
 
 ghost use Rattle.nj_one_answer.specs.Cited.{MisusedIsNotTaken, OneAffectedAnswer, OneAffectedDrawing, OneAnswer, OneAuditAnswer, OneDrawAnswer, OneJsonAnswer, OneKeysAnswer, OneMisuse, OneStaleAnswer, OneTestsAnswer, OneTimesAnswer, OneWhyAnswer, SameKnownHaveSameAnswers};
 
-/// A graph, its statements, the options and the changed paths have one report.
+/// A graph, its statements, the options, the keys of an older manifest and the changed paths have one
+/// report.
 pub fn affected_answer_law()
     ensures { OneAffectedAnswer }
 {
     nj_ask::report_law();
     nj_globs::one_reading();
+    nj_keys::lines_law();
 }
 
 /// Options are refused with one line, or accepted.
@@ -58,6 +60,7 @@ pub fn tests_answer_law()
 {
     nj_ask::report_law();
     nj_globs::one_reading();
+    nj_keys::lines_law();
 }
 
 /// A graph, its statements, a build log and the options have one report of where the time went, and
