@@ -1,6 +1,6 @@
 -- Graphs that are read are graphs of statements, and are the graphs that questions are about.
 use Rattle.std.proofs.Common.{◌≡◌, ◌<◌, ◌+◌, ℕ, zero, suc, Bool, true, false, nat_lt, Option, Some, Result}
-use Rattle.std.proofs.Common.{Ok, Err, IfErr, IfOk, List, [], ◌∷◌, ◌++◌, length, map}
+use Rattle.std.proofs.Common.{Ok, Err, IfErr, List, [], ◌∷◌, ◌++◌, length, map}
 use Rattle.std.proofs.Common.{refl, sym, ap, subst, ◌∙◌, arith}
 use Rattle.std.specs.Global.{Vec}
 use Rattle.std.specs.List.{cons_option}
@@ -41,7 +41,7 @@ use Rattle.nj_ask.specs.Inside.GraphSteps.{AreInputsIn, KnowsByLog, LacksByLog, 
 use Rattle.nj_ask.specs.Inside.GraphSteps.LacksByLog.{no_graph, no_log}
 use Rattle.nj_ask.specs.KnownGraphs.{sources_of}
 use Rattle.nj_ask.specs.Inside.GraphSteps.{HasStatements}
-use Rattle.nj_ask.proofs.FailureLemmas.{err-as, fails-as, ok-as}
+use Rattle.nj_ask.proofs.FailureLemmas.{err-as, fails-as}
 
 -- ---- statements
 

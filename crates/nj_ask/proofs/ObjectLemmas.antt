@@ -1,11 +1,11 @@
 -- Stale edges as objects: their times, and the texts that are appended.
 use Rattle.std.proofs.Common.{◌≡◌, ◌<◌, ◌++◌, ◌∷◌, ◌==◌, ℕ, zero, suc, true, false, Bool, true≢false}
 use Rattle.std.proofs.Common.{Option, Some, None}
-use Rattle.std.proofs.Common.{List, [], length, map, option_map, slice_get, unwrap_or, bytes_eq, codes, cond}
+use Rattle.std.proofs.Common.{List, [], length, option_map, slice_get, unwrap_or, bytes_eq, codes}
 use Rattle.std.proofs.Common.{append_assoc, arith, refl, sym, ap, subst, ◌∙◌}
-use Rattle.std.specs.Prelude.{IfSome, if◌then◌else◌, ℤ, pos, negsuc, slice_index, decimal}
+use Rattle.std.specs.Prelude.{IfSome, if◌then◌else◌, ℤ, pos, negsuc, slice_index}
 use Rattle.std.specs.Fmt.{signed_decimal}
-use Rattle.std.specs.List.{AllByRecursion, IsDistinct, flat_map}
+use Rattle.std.specs.List.{AllByRecursion, IsDistinct}
 use Rattle.std.specs.Str.Lossy.{utf8_lossy}
 use Rattle.std.proofs.lemmas.Slice.Eq.{bytes_eq-Decides}
 use Rattle.serde_json.specs.Data.{number, string}
@@ -20,7 +20,7 @@ use Rattle.nj_graph.specs.declared.EdgeNo.{EdgeNo}
 use Rattle.nj_graph.specs.declared.FileNo.{FileNo}
 use Rattle.nj_stale.specs.Inside.Held.{time_by}
 use Rattle.nj_stale.specs.Numbered.{AreLentBy, evidence_of, time_of}
-use Rattle.nj_stale.specs.States.{Evidence, State, IsStateOf, lent_time}
+use Rattle.nj_stale.specs.States.{Evidence, State, IsStateOf}
 use Rattle.nj_stale.specs.declared.evidence.EdgeFacts.{EdgeFacts}
 use Rattle.nj_state.specs.declared.commands.StaleEdge.{StaleEdge}
 use Rattle.nj_ask.specs.Affected.{line}

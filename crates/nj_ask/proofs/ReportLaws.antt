@@ -1,5 +1,5 @@
 -- The meaning of no warning, and that paths have one text of warnings.
-use Rattle.std.proofs.Common.{◌≡◌, ◌<◌, ℕ, ◌⊎◌, inl, inr, true, false, Option, List, [], ◌∷◌, ◌++◌, length}
+use Rattle.std.proofs.Common.{◌≡◌, ◌<◌, ℕ, ◌⊎◌, inl, inr, false, Option, List, [], ◌∷◌, ◌++◌, length}
 use Rattle.std.proofs.Common.{get_or}
 use Rattle.std.proofs.Common.{zero}
 use Rattle.std.proofs.Common.{suc}

@@ -1,7 +1,7 @@
 -- A command that is not new has an older key.
-use Rattle.std.proofs.Common.{◌≡◌, ◌<◌, ◌⊎◌, inl, inr, ℕ, zero, suc, Bool, true, false, cond, Some, List, []}
+use Rattle.std.proofs.Common.{◌≡◌, ◌<◌, ◌⊎◌, inl, inr, ℕ, zero, suc, Bool, true, false, cond, List, []}
 use Rattle.std.proofs.Common.{◌∷◌, ◌++◌}
-use Rattle.std.proofs.Common.{Option, length, map, get_or, refl, sym, ap, subst, ◌∙◌, arith}
+use Rattle.std.proofs.Common.{length, map, get_or, refl, sym, ap, subst, ◌∙◌, arith}
 use Rattle.std.specs.Prelude.{Contains, not}
 use Rattle.std.specs.List.{filter}
 use Rattle.std.proofs.lemmas.List.Elements.{Contains-append_cases, Contains-append_left}
@@ -9,7 +9,6 @@ use Rattle.std.proofs.lemmas.List.Elements.{Contains-append_right}
 use Rattle.nj_text.specs.Paths.{clean_path_of}
 use Rattle.nj_graph.specs.ReadingList.{ReadStatement}
 use Rattle.nj_graph.specs.Edges.{EdgePaths, is_among}
-use Rattle.nj_graph.specs.Graph.{GraphModel}
 use Rattle.nj_keys.specs.Keys.{HaveKeys, IsKey, all_commands}
 use Rattle.nj_keys.specs.Keys.HaveKeys.{last, none}
 use Rattle.nj_keys.specs.declared.pages.EdgeKey.{EdgeKey}
@@ -80,7 +79,7 @@ pub other-commands : OtherCommandsAreOld
 other-commands g edges entries bases text new (some right are unsettled) edge has not-new =
     let folders = map clean_path_of bases in
     let (next, there, same, is) = key-there folders edges entries edge (all_commands g) are.keys are.have has
-        in
+    in
     (next.key, is, by next there same (is_among (keys-of text) next.key) refl)
   where
     keys-of : List ℕ → List (List ℕ)

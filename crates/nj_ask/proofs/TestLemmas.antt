@@ -54,7 +54,7 @@ module _ (known : DiscoveredGraph) (entries : List ReadStatement) (folder : List
       gives-refused (AnswersTests known entries folder options tests since input) Fault
       (λ line. line ≡ program_line (codes "the working directory is not known"))
       (λ line is. subst (λ l. AnswersTests known entries folder options tests since input []
-          (refused l Fault))
+      (refused l Fault))
       (sym is) (no_folder none)) failure fails
 
   -- a file that has no keys

@@ -1,6 +1,6 @@
 -- The files that `times` is about, and its answers.
 use Rattle.std.specs.Prelude.{◌≡◌, ℕ, Ok, List, [], map}
-use Rattle.std.proofs.Common.{ap, subst, sym, ◌∙◌}
+use Rattle.std.proofs.Common.{subst, sym}
 use Rattle.nj_names.specs.Files.{AreFiles, path_at}
 use Rattle.nj_edges.specs.EdgeGraphs.{EdgeGraph}
 use Rattle.nj_build_log.specs.Logs.{BuildLogModel}

@@ -16,4 +16,4 @@ pub use laws::{
     additions_law, bases_law, discoveries_law, edges_law, fields_law, keys_law, lines_law,
     pages_law,
 };
-pub use pages::{EdgeKey, KeyPage, Page, keys_from, key_lines, page_from};
+pub use pages::{EdgeKey, KeyPage, Page, key_lines, keys_from, page_from};

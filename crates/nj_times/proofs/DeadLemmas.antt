@@ -30,13 +30,13 @@ none_from test number (e ∷ edges) = by (test e) refl (none_from test (number +
     by true is rest =
         let one : (length (edges_from number test (e ∷ edges)) == 0) ≡ false =
         ap (λ b. length (cond b (number ∷ edges_from (number + 1) test edges)
-            (edges_from (number + 1) test edges))
+        (edges_from (number + 1) test edges))
         == 0) is ∙ ne_eqb (length (number ∷ edges_from (number + 1) test edges)) 0
-            (λ none. absurd (omega (arith, none))) in
+        (λ none. absurd (omega (arith, none))) in
         one ∙ sym (ap (λ b. not (b || list_any test edges)) is)
     by false is rest =
         ap (λ b. length (cond b (number ∷ edges_from (number + 1) test edges)
-            (edges_from (number + 1) test edges))
+        (edges_from (number + 1) test edges))
         == 0) is
         ∙ rest ∙ sym (ap (λ b. not (b || list_any test edges)) is)
 
@@ -85,14 +85,14 @@ pub unnamed_dead : (edges : List EdgePaths) (path : List ℕ) → is_named edges
 unnamed_dead edges path none =
     let unmade : maker_of edges path ≡ None =
     first_none (λ e. is_among (outputs_of e) path) edges
-        (no_test (λ e. is_among (outputs_of e) path) path edges
+    (no_test (λ e. is_among (outputs_of e) path) path edges
     (λ e is. left_false (is_among (outputs_of e) path) (is_among (inputs_of e) path)
-        (is_among e.validations path) is) none)
+    (is_among e.validations path) is) none)
     in
     let unused : is_used edges path ≡ false =
     no_test (λ e. is_among (inputs_of e) path) path edges
     (λ e is. middle_false (is_among (outputs_of e) path) (is_among (inputs_of e) path)
-        (is_among e.validations path) is) none
+    (is_among e.validations path) is) none
     in
     ap₂ (λ (o : Option ℕ) b. is_none o && not b) unmade unused
 

@@ -1,5 +1,5 @@
 -- Parts of answers, and why there are none.
-use Rattle.std.specs.Prelude.{◌≡◌, ℕ, true, Option, option_map, Result, Err, List, ◌++◌, codes}
+use Rattle.std.specs.Prelude.{◌≡◌, ℕ, true, Option, Result, Err, List}
 use Rattle.nj_graph.specs.ReadingList.{ReadStatement}
 use Rattle.nj_graph.specs.declared.GraphFault.{GraphFault}
 use Rattle.nj_graph.specs.Edges.{EdgePaths}
@@ -11,7 +11,7 @@ use Rattle.nj_keys.specs.Pages.{leads, left_at, BeginsAfter}
 use Rattle.nj_keys.specs.declared.pages.KeyPage.{KeyPage}
 use Rattle.nj_changes.specs.declared.ignored.PatternFault.{PatternFault}
 use Rattle.nj_changes.specs.declared.ignored.PatternFault.TheVariants as pattern
-use Rattle.nj_ask.specs.Endings.{fault_line, program_line}
+use Rattle.nj_ask.specs.Endings.{fault_line}
 use Rattle.nj_ask.specs.Given.{pattern_line}
 
 -- the line of the fault in place of a value

@@ -1,7 +1,7 @@
 use Rattle.std.proofs.Common.{◌≡◌, ◌∙◌, ◌+◌, [], ◌∷◌, ◌++◌, ℕ, List, Bor, ap, map, subst, sym, take}
 use Rattle.std.specs.Prelude.{slice_index_or}
 use Rattle.std.proofs.lemmas.List.{map-append, take_more}
-use Rattle.nj_ask.specs.DeadAnswers.{ListsDead, dead_line, unread_line}
+use Rattle.nj_ask.specs.DeadAnswers.{ListsDead, dead_line}
 use Rattle.nj_ask.specs.DeadAnswers.ListsDead.{last, none}
 use Rattle.nj_ask.proofs.dead.listed_of.Goals as goal
 

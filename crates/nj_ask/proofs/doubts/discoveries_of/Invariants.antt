@@ -1,7 +1,6 @@
-use Rattle.std.proofs.Common.{◌≡◌, ◌++◌, length, map}
-use Rattle.std.specs.List.{AllByRecursion, range_with_len}
+use Rattle.std.proofs.Common.{◌≡◌, ◌++◌, map}
+use Rattle.std.specs.List.{AllByRecursion}
 use Rattle.nj_graph.specs.Graph.{edges_of}
-use Rattle.nj_graph.specs.Edges.{edge_at}
 use Rattle.nj_graph.specs.Handles.{paths_of}
 use Rattle.nj_discovered.specs.Discoveries.{found_at}
 use Rattle.nj_ask.specs.DiscoveredGraphs.{edge_discoveries, edge_discovery}

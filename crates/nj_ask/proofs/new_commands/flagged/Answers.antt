@@ -1,4 +1,4 @@
-use Rattle.std.proofs.Common.{ℕ, false, ◌≡◌, length, arith, refl, ap, ◌∙◌, sym}
+use Rattle.std.proofs.Common.{ℕ, false, ◌≡◌, length, arith, refl, ap, ◌∙◌}
 use Rattle.std.specs.Prelude.{slice_index_or}
 use Rattle.std.specs.List.{filter, range_with_len}
 use Rattle.nj_ask.specs.Inside.Reached.{edge_numbers}

@@ -1,9 +1,8 @@
-use Rattle.std.proofs.Common.{List, [], ◌++◌, cond, map, sym, ap, subst, ◌∙◌}
+use Rattle.std.proofs.Common.{[], ◌++◌, cond, sym, ap, subst, ◌∙◌}
 use Rattle.std.proofs.lemmas.Result.{IfOk-weaker}
 use Rattle.nj_ask.specs.Inside.Lent.{change_model}
 use Rattle.nj_ask.specs.Inside.Reached.{edge_numbers, numbers_of, AreFilesOf}
-use Rattle.nj_ask.specs.Manifest.{opened_files}
-use Rattle.nj_ask.specs.Reports.{changed_numbers, remade_files}
+use Rattle.nj_ask.specs.Reports.{remade_files}
 use Rattle.nj_ask.specs.Shape.{shape_text}
 use Rattle.nj_ask.proofs.NewCommandLemmas.{files-unless, numbers-unless}
 use Rattle.nj_ask.proofs.report.caveats_of.Goals as goal

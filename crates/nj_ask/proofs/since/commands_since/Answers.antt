@@ -1,11 +1,10 @@
-use Rattle.std.proofs.Common.{List, String, Global, map, string_bytes, subst, sym, ap, ◌∙◌}
-use Rattle.std.specs.Prelude.{unwrap_or}
+use Rattle.std.proofs.Common.{List, String, Global, map, string_bytes, subst, ap, ◌∙◌}
 use Rattle.nj_text.specs.Paths.{clean_path_of}
 use Rattle.nj_questions.specs.Questions.{affected_model}
 use Rattle.nj_ask.specs.Answers.{manifest_edges}
 use Rattle.nj_ask.specs.Given.{base_misuse, folder_misuse, since_misuse}
 use Rattle.nj_ask.specs.Inside.Reached.{edge_numbers}
-use Rattle.nj_ask.specs.Since.{keys_in, lines_in, AreNewCommands, IsWrongLine}
+use Rattle.nj_ask.specs.Since.{keys_in, lines_in, AreNewCommands}
 use Rattle.nj_ask.proofs.SinceLemmas.{bases-taken, new-as, not-refused}
 use Rattle.nj_ask.proofs.since.commands_since.Goals as goal
 

@@ -1,5 +1,5 @@
-use Rattle.std.proofs.Common.{List, ℕ, Option, false, [], None, Some, map, option_map, refl, string_bytes}
-use Rattle.std.proofs.Common.{subst, sym, ap, ◌∙◌}
+use Rattle.std.proofs.Common.{List, ℕ, Option, false, None, Some, map, option_map, refl}
+use Rattle.std.proofs.Common.{subst, sym}
 use Rattle.std.specs.Global.{Vec}
 use Rattle.nj_graph.specs.declared.EdgeNo.{EdgeNo}
 use Rattle.nj_questions.specs.Questions.{affected_model}
@@ -7,7 +7,7 @@ use Rattle.nj_ask.specs.declared.status.Status.TheVariants.{Fault}
 use Rattle.nj_ask.specs.Answers.{manifest_edges}
 use Rattle.nj_ask.specs.Inside.Failures.{FailsBy}
 use Rattle.nj_ask.specs.Inside.Lent.{new_model}
-use Rattle.nj_ask.specs.Since.{keys_in, lines_in, nothing_new, AreNewCommands, IsNewSince, LacksKeys}
+use Rattle.nj_ask.specs.Since.{IsNewSince, LacksKeys}
 use Rattle.nj_ask.specs.Since.IsNewSince.{none, some}
 use Rattle.nj_ask.proofs.SinceLemmas.{lacks-keys}
 use Rattle.nj_ask.proofs.since.new_since.Goals as goal

@@ -1,4 +1,4 @@
-use Rattle.std.proofs.Common.{◌≡◌, ◌==◌, ◌++◌, ℕ, [], None, length, map, option_map, true≢false, sym, ap, ap₂}
+use Rattle.std.proofs.Common.{◌==◌, ◌++◌, ℕ, [], None, length, map, true≢false, sym, ap, ap₂}
 use Rattle.std.proofs.Common.{subst}
 use Rattle.std.proofs.Common.{◌∙◌}
 use Rattle.std.specs.Global.{Vec}

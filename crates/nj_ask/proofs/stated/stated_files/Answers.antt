@@ -1,4 +1,4 @@
-use Rattle.std.proofs.Common.{◌++◌, sym, ap, ◌∙◌}
+use Rattle.std.proofs.Common.{◌++◌, ap, ◌∙◌}
 use Rattle.nj_ask.specs.MissingSources.{stated_edge}
 use Rattle.nj_ask.specs.Inside.StaleParts.{named_paths}
 use Rattle.nj_ask.proofs.StatedLemmas.{edges-more}

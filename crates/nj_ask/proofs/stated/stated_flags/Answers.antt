@@ -1,4 +1,4 @@
-use Rattle.std.proofs.Common.{map, subst, ap, sym, ◌∙◌}
+use Rattle.std.proofs.Common.{map, subst}
 use Rattle.std.proofs.lemmas.Result.{IfOk-weaker}
 use Rattle.nj_graph.specs.declared.FileNo.{FileNo}
 use Rattle.nj_ask.specs.MissingSources.{stated_edges}

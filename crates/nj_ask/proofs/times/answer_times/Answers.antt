@@ -1,11 +1,10 @@
 use Rattle.std.proofs.Common.{◌≡◌, ℕ, false, List, Ok, map, string_bytes, sym, ap, subst, ◌∙◌}
-use Rattle.nj_edges.specs.EdgeGraphs.{EdgeGraph}
 use Rattle.nj_graph.specs.Files.{path_at}
-use Rattle.nj_graph.specs.Graph.{GraphModel, edges_of, files_of}
+use Rattle.nj_graph.specs.Graph.{GraphModel, files_of}
 use Rattle.nj_questions.specs.Questions.{times_model}
 use Rattle.nj_ask.specs.Answers.{HasDepfileFault, IsClear, asked_targets}
 use Rattle.nj_ask.specs.Endings.{answered}
-use Rattle.nj_ask.specs.Times.{AnswersTimes, IsReportBy, timed_files}
+use Rattle.nj_ask.specs.Times.{AnswersTimes, IsReportBy}
 use Rattle.nj_ask.specs.Times.AnswersTimes.{reported}
 use Rattle.nj_ask.specs.Inside.AnswerParts.{SaysErr}
 use Rattle.nj_ask.specs.declared.status.Status.TheVariants.{Fault}

@@ -1,7 +1,7 @@
-use Rattle.std.proofs.Common.{◌≡◌, length, map}
+use Rattle.std.proofs.Common.{◌≡◌, map}
 use Rattle.std.specs.List.{range_with_len}
 use Rattle.nj_graph.specs.Built.{detail_at}
-use Rattle.nj_graph.specs.Graph.{edges_of, rule_name}
+use Rattle.nj_graph.specs.Graph.{rule_name}
 use Rattle.nj_ask.proofs.times.edge_rules.Given as goal
 
 abbrev pub invariant-edges : goal.invariant-edges

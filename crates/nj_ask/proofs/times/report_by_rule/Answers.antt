@@ -1,4 +1,4 @@
-use Rattle.std.proofs.Common.{◌∙◌, ℕ, List, ap, length, map, sym}
+use Rattle.std.proofs.Common.{◌∙◌, ℕ, List, ap, length, sym}
 use Rattle.std.proofs.lemmas.List.{length-map}
 use Rattle.std.proofs.lemmas.List.FromFn.{length-map-range_with_len}
 use Rattle.nj_edges.specs.EdgeGraphs.{EdgeGraph}
