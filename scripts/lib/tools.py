@@ -450,6 +450,7 @@ GRAPH_RUNS = {
         "tests --ctest tests.json --source-dir src --ignore src/* -z < a.c",
         "tests --ctest tests.json --allow-empty --deps",
         "tests --ctest tests.json",
+        "tests --ctest tests.json --since nothing --base /w < a.c",
         "tests --ctest none.json < a.c",
         "tests --ctest nothing < a.c",
         "tests --ctest tests.json --format nothing",

@@ -33,7 +33,7 @@ abbrev pub inputs_among : List EdgePaths → Kind → (paths : List (List ℕ)) 
 inputs_among edges kind paths =
     map (λ path. record { kind = kind; path = path }) (filter (λ path. is_none (behind edges path)) paths)
 
--- The files for which the inputs of an edge stand, each once: first those for which an explicit input does, then, of the others, those for
+-- The files for which the inputs of an edge stand, without duplicates: first those for which an explicit input does, then, of the others, those for
 -- which an implicit input does, and then those of order-only inputs. There are as many turns as files.
 abbrev pub key_inputs : List EdgePaths → (turns : ℕ) → EdgePaths → List KeyInput
 key_inputs edges turns e =
@@ -86,6 +86,7 @@ pub record KeyTexts : Type 0 where
   pub pool : List ℕ
   pub generator : Bool
 
+-- the texts of an edge, by its statements
 abbrev pub key_texts : List ReadStatement → (edge : ℕ) → KeyTexts
 key_texts entries edge = record {
   command = late_text_of entries edge (codes "command");

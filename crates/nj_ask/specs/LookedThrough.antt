@@ -27,13 +27,13 @@ pub data LeadsTo (edges : List EdgePaths) : (path other : List ℕ) → Type 0 w
 abbrev pub behind_at : List EdgePaths → (found : List (List ℕ)) → (place : ℕ) → List (List ℕ)
 behind_at edges found place = unwrap_or (option_and_then (behind edges) (slice_get found place)) []
 
--- files, and after them all to which they lead from a place on, each once: first the files behind the file at the place, and so on, until no
+-- files, and after them all to which they lead from a place on, without duplicates: first the files behind the file at the place, and so on, until no
 -- place is left. There are as many turns as files.
 abbrev pub walked : List EdgePaths → (turns place : ℕ) → (found : List (List ℕ)) → List (List ℕ)
 walked edges zero place found = found
 walked edges (suc turns) place found = walked edges turns (place + 1) (fold with_name found (behind_at edges found place))
 
--- files that were found, and after them the files to which more files lead, each once
+-- files that were found, and after them the files to which more files lead, without duplicates
 abbrev pub with_led : List EdgePaths → (turns : ℕ) → (found more : List (List ℕ)) → List (List ℕ)
 with_led edges turns found more = walked edges turns (length found) (fold with_name found more)
 

@@ -59,7 +59,7 @@ OneTestsAnswer = (known : DiscoveredGraph) (entries : List ReadStatement) (folde
     (tests : List TestModel) (since : Option (List ℕ)) (input : List ℕ)
     → HasOneAnswer (AnswersTests known entries folder options tests since input)
 
--- the times are declared for all paths, if they are asked for
+-- the times are declared for all paths, if they are needed
 abbrev pub TellIf : (asked : Bool) → DeclaredTimes → Type 0
 TellIf true times = TellAll times
 TellIf false times = Unit {0}

@@ -122,14 +122,16 @@ stale_json_row : question_of (codes "stale" ∷ codes "--json" ∷ []) ≡ judge
 unfolding question_of command clap_on_literals
 stale_json_row = refl
 
-times_row : question_of (codes "times" ∷ []) ≡ timed (record { targets = []; top = None; by_rule = false; dead = false; json = false })
+times_row : question_of (codes "times" ∷ [])
+    ≡ timed (record { targets = []; top = None; by_rule = false; dead = false; json = false })
 unfolding question_of command clap_on_literals
 times_row = refl
 
 times_options_row : question_of (codes "times" ∷ codes "app" ∷ codes "--json" ∷ codes "--top" ∷ codes "9" ∷
     codes
     "lib" ∷ [])
-    ≡ timed (record { targets = codes "app" ∷ codes "lib" ∷ []; top = Some 9; by_rule = false; dead = false; json = true })
+    ≡ timed (record { targets = codes "app" ∷ codes "lib" ∷ []; top = Some 9; by_rule = false; dead = false;
+    json = true })
 unfolding question_of command clap_on_literals
 times_options_row = refl
 

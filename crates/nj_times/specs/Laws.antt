@@ -37,6 +37,7 @@ pub record IsSlowestOf (durations : List (Option ℕ)) (edges : List ℕ) (slowe
   pub member : Contains edges slowest
   pub most : (edge : ℕ) → Contains edges edge → time_at durations edge ≤ time_at durations slowest
 
+-- no edge of a list took longer than its slowest edge
 abbrev pub NoneIsSlower : Type 0
 NoneIsSlower = (durations : List (Option ℕ)) (first : ℕ) (edges : List ℕ)
     → IsSlowestOf durations (first ∷ edges) (slowest_in durations (first ∷ edges))

@@ -6,17 +6,17 @@ use Rattle.serde_json.specs.Written.{compact_text, items_text, members_text}
 use Rattle.nj_graph.specs.Edges.{EdgePaths}
 use Rattle.nj_ask.specs.KeyObjects.{KeyInput, KeyTexts, file_members, input_items, text_members}
 
--- a text has one member more, whatever members follow
+-- a text has one more member, whatever members follow
 abbrev pub AddsMember : (later : Bool) → (name : List ℕ) → Data → (old new : List ℕ) → Type 0
 AddsMember later name value old new =
     (rest : Members) → new ++ members_text true rest ≡ old ++ members_text later (member name value rest)
 
--- a text has the name of one member more, whatever its value is
+-- a text has the name of one more member, whatever its value is
 abbrev pub BeginsMember : (later : Bool) → (name : List ℕ) → (old new : List ℕ) → Type 0
 BeginsMember later name old new = (value : Data) (rest : Members)
     → new ++ (compact_text value ++ members_text true rest) ≡ old ++ members_text later (member name value rest)
 
--- a text has one item more, whatever items follow
+-- a text has one more item, whatever items follow
 abbrev pub AddsItem : (later : Bool) → Data → (old new : List ℕ) → Type 0
 AddsItem later value old new = (rest : Items) → new ++ items_text true rest ≡ old ++ items_text later (item value rest)
 
