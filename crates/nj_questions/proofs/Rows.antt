@@ -130,8 +130,13 @@ times_row = refl
 times_options_row : question_of (codes "times" ∷ codes "app" ∷ codes "--json" ∷ codes "--top" ∷ codes "9" ∷
     codes
     "lib" ∷ [])
-    ≡ timed (record { targets = codes "app" ∷ codes "lib" ∷ []; top = Some 9; by_rule = false; dead = false;
-    json = true })
+    ≡ timed (record {
+      targets = codes "app" ∷ codes "lib" ∷ [];
+      top = Some 9;
+      by_rule = false;
+      dead = false;
+      json = true;
+    })
 unfolding question_of command clap_on_literals
 times_options_row = refl
 
