@@ -83,7 +83,9 @@ pub fn load<S: FileSource>(alloc: Global, source: &mut S, main: &str) -> Result<
 }
 
 impl Reader {
-    // The files that were read, and the graph of their statements.
+    // The files that were read, and the graph of their statements. What it needs on the stack is not
+    // there while files are read, which is recursive.
+    #[inline(never)]
     fn finish(self, alloc: Global) -> Result<Loaded, GraphFault>
         requires outermost { parent_at self.declarations.scopes 0 ≡ None }
         requires read { (main : List ℕ) × (entries : List ReadStatement)
