@@ -38,6 +38,7 @@ fn run(rt: HostRuntime) -> Status {
 }
 
 /// The program's arguments, without its name. Fails if an argument is not UTF-8.
+#[inline(never)]
 fn words(rt: HostRuntime) -> io::Result<Vec<String>> {
     Ok(env::args(&rt)?.skip(1).collect(rt.alloc())?)
 }
