@@ -3,6 +3,7 @@ use Rattle.std.proofs.Common.{◌≡◌, ◌≢◌, ◌⊎◌, ℕ, true, false,
 use Rattle.std.proofs.Common.{subst}
 use Rattle.std.specs.Prelude.{codes}
 use Rattle.nj_graph.specs.ReadingList.{ReadStatement}
+use Rattle.nj_discovered.specs.Times.{DeclaredTimes}
 use Rattle.nj_questions.specs.Questions.{AffectedModel}
 use Rattle.nj_ask.specs.declared.answer.Answer.{Answer}
 use Rattle.nj_ask.specs.declared.discovered.DiscoveredGraph.{DiscoveredGraph}
@@ -25,16 +26,18 @@ use Rattle.nj_ask.specs.Reports.{ChangeModel, IsReport, no_path_line}
 use Rattle.nj_ask.proofs.EndingLemmas.{gives-refused}
 use Rattle.nj_ask.proofs.FailureLemmas.{fails-as}
 
-module _ (known : DiscoveredGraph) (entries : List ReadStatement) (folder : List ℕ) (options : AffectedModel)
+module _ (known : DiscoveredGraph) (entries : List ReadStatement) (times : DeclaredTimes) (folder : List ℕ)
+    (options : AffectedModel)
     (since : Option (List ℕ)) (input : List ℕ) where
   -- a name that no rule has is refused
   pub gives-no-rule : (name : List ℕ) (failure : Failure) → unknown_rule known.graph options.rules ≡ Some name
       → FailsBy Fault (λ line. line ≡ program_line (codes "unknown rule '" ++ name ++ codes "'")) failure
-      → Gives (AnswersAffected known entries folder options since input) (Err failure)
+      → Gives (AnswersAffected known entries times folder options since input) (Err failure)
   gives-no-rule name failure unknown fails =
-      gives-refused (AnswersAffected known entries folder options since input) Fault
+      gives-refused (AnswersAffected known entries times folder options since input) Fault
       (λ line. line ≡ program_line (codes "unknown rule '" ++ name ++ codes "'"))
-      (λ line is. subst (λ l. AnswersAffected known entries folder options since input [] (refused l Fault))
+      (λ line is. subst (λ l. AnswersAffected known entries times folder options since input []
+      (refused l Fault))
       (sym is)
       (no_rule unknown)) failure fails
 
@@ -42,9 +45,9 @@ module _ (known : DiscoveredGraph) (entries : List ReadStatement) (folder : List
   pub gives-no-keys : (failure : Failure) → unknown_rule known.graph options.rules ≡ None
       → (given_paths options input ≢ []) ⊎ (options.allow_empty ≡ true)
       → FailsBy Fault (LacksKeys options.since since) failure
-      → Gives (AnswersAffected known entries folder options since input) (Err failure)
+      → Gives (AnswersAffected known entries times folder options since input) (Err failure)
   gives-no-keys failure all some fails =
-      gives-refused (AnswersAffected known entries folder options since input) Fault
+      gives-refused (AnswersAffected known entries times folder options since input) Fault
       (LacksKeys options.since since) (λ line lacks. no_keys all some lacks) failure fails
 
   module _ (answer : Answer) (all : unknown_rule known.graph options.rules ≡ None)
@@ -52,16 +55,16 @@ module _ (known : DiscoveredGraph) (entries : List ReadStatement) (folder : List
     pub gives-no-path : given_paths options input ≡ [] → options.allow_empty ≡ false
         → answer.output.items ≡ []
         → answer.warnings.items ≡ no_path_line
-        → Gives (AnswersAffected known entries folder options since input) (Ok answer)
+        → Gives (AnswersAffected known entries times folder options since input) (Ok answer)
     gives-no-path none asks output warnings = rw (output, warnings, quiet) (no_path all none asks)
 
     pub gives-report : (q : ChangeModel) (asked : Asked) (paths : List (List ℕ)) (new : NewModel)
         → (given_paths options input ≢ []) ⊎ (options.allow_empty ≡ true)
-        → IsNewSince known.graph (manifest_edges known) entries options.bases since new
+        → IsNewSince known (manifest_edges known) entries times folder options.bases since new
         → LeavesPaths options (given_paths options input) paths
         → q ≡ change_asked options folder [] paths new → asked ≡ outputs_asked options
         → IsReport known entries q asked answer.output.items answer.warnings.items
-        → Gives (AnswersAffected known entries folder options since input) (Ok answer)
+        → Gives (AnswersAffected known entries times folder options since input) (Ok answer)
     gives-report q asked paths new some is leaves change listed report = rw quiet (reported all some is leaves
         (subst (λ x. IsReport known entries x (outputs_asked options) answer.output.items
         answer.warnings.items)

@@ -144,7 +144,8 @@ module _ (known : DiscoveredGraph) (entries : List ReadStatement) (log : BuildLo
   pub affected-returns : (options : Bor AffectedOptions) (globs : Vec (List GlobPart))
       → asked ≡ task.Affected options globs
       → IsTask subject asked
-      → Returns (AnswersAffected known entries folder (affected_model options.now) named.since input) old new
+      → Returns (AnswersAffected known entries times folder (affected_model options.now) named.since input)
+      old new
       reported
       → Returns (Answers known entries log times folder subject named input) old new reported
   affected-returns options globs same is returns = rw (subst (IsTask subject) same is).0 returns
@@ -193,7 +194,8 @@ module _ (known : DiscoveredGraph) (entries : List ReadStatement) (log : BuildLo
   pub tests-returns : (options : Bor TestsOptions) (globs : Vec (List GlobPart))
       → asked ≡ task.Tests options globs
       → IsTask subject asked
-      → Returns (AnswersTests known entries folder (tests_model options.now) named.tests named.since input)
+      → Returns (AnswersTests known entries times folder (tests_model options.now) named.tests named.since
+      input)
       old new
       reported
       → Returns (Answers known entries log times folder subject named input) old new reported

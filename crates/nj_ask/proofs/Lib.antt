@@ -18,6 +18,7 @@ mod MadeLemmas
 mod MeantLemmas
 mod NewCommandLemmas
 mod SinceLemmas
+mod SettledLemmas
 mod SinceLaws
 mod ReportLaws
 mod FailureLemmas

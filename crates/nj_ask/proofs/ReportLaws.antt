@@ -11,6 +11,7 @@ use Rattle.nj_text.specs.Calls.{is_empty}
 use Rattle.nj_tests.specs.Tests.{TestModel}
 use Rattle.nj_changes.specs.FullPaths.{has_one, sought}
 use Rattle.nj_graph.specs.ReadingList.{ReadStatement}
+use Rattle.nj_discovered.specs.Times.{DeclaredTimes}
 use Rattle.nj_graph.specs.Graph.{GraphModel}
 use Rattle.nj_ask.specs.declared.discovered.DiscoveredGraph.{DiscoveredGraph}
 use Rattle.nj_ask.specs.Affected.{line}
@@ -164,7 +165,8 @@ no-warnings : (warnings : List ℕ) → Done ≡ answered_status false warnings 
 no-warnings [] is = refl
 no-warnings (b ∷ warnings) is = absurd cc
 
-module _ (known : DiscoveredGraph) (entries : List ReadStatement) (folder : List ℕ) (options : AffectedModel)
+module _ (known : DiscoveredGraph) (entries : List ReadStatement) (times : DeclaredTimes) (folder : List ℕ)
+    (options : AffectedModel)
     (since : Option (List ℕ)) (input : List ℕ) (old new : Sinks) where
   abbrev change : (paths : List (List ℕ)) → NewModel → ChangeModel
   change paths more = change_asked options folder [] paths more
@@ -175,7 +177,8 @@ module _ (known : DiscoveredGraph) (entries : List ReadStatement) (folder : List
 
   abbrev Misses : Type 0
   Misses = (paths : List (List ℕ)) × LeavesPaths options (given_paths options input) paths
-      × (more : NewModel) × IsNewSince known.graph (manifest_edges known) entries options.bases since more
+      × (more : NewModel) × IsNewSince known (manifest_edges known) entries times folder options.bases since
+      more
       × MissesOf paths more
 
   -- tests name no file here
@@ -209,7 +212,7 @@ module _ (known : DiscoveredGraph) (entries : List ReadStatement) (folder : List
       }
 
   answer-misses : {output : List ℕ} {ending : Ending}
-      → AnswersAffected known entries folder options since input output ending
+      → AnswersAffected known entries times folder options since input output ending
       → Takes old.output new.output output → Concludes ending old.error new.error Done → Misses
   answer-misses (no_rule is) took concludes = let is-fault = concludes.1 in absurd cc
   answer-misses (no_path known_rules empty asks) took (inl told) = let looks = told.1 in absurd cc
@@ -228,13 +231,14 @@ module _ (known : DiscoveredGraph) (entries : List ReadStatement) (folder : List
       in absurd cc
 
   done-misses : (status : Status) → status ≡ Done
-      → Ends (AnswersAffected known entries folder options since input) old new status → Misses
+      → Ends (AnswersAffected known entries times folder options since input) old new status → Misses
   done-misses _ is (ended {output = output} {ending = ending} answers took concludes) =
       answer-misses answers took (subst (Concludes ending old.error new.error) is concludes)
   done-misses _ is (output_fails answers fails same) = absurd cc
   done-misses _ is (memory_fails front took told) = absurd cc
 
-module _ (known : DiscoveredGraph) (entries : List ReadStatement) (folder : List ℕ) (options : TestsModel)
+module _ (known : DiscoveredGraph) (entries : List ReadStatement) (times : DeclaredTimes) (folder : List ℕ)
+    (options : TestsModel)
     (tests : List TestModel) (since : Option (List ℕ)) (input : List ℕ) (old new : Sinks) where
   abbrev change_of : (paths : List (List ℕ)) → NewModel → ChangeModel
   change_of paths more = tests_change known.has_discovered options tests folder paths more
@@ -242,7 +246,7 @@ module _ (known : DiscoveredGraph) (entries : List ReadStatement) (folder : List
   abbrev MissesNone : Type 0
   MissesNone = (paths : List (List ℕ)) × LeavesPaths options.change (given_paths options.change input) paths
       × (more : NewModel)
-      × IsNewSince known.graph (manifest_edges known) entries options.change.bases since more
+      × IsNewSince known (manifest_edges known) entries times folder options.change.bases since more
       × MissesNoTest known entries options tests (change_of paths more) old.output new.output
 
   chosen-miss : (paths : List (List ℕ)) (more : NewModel) (edges caveats warnings output : List ℕ)
@@ -273,7 +277,7 @@ module _ (known : DiscoveredGraph) (entries : List ReadStatement) (folder : List
       }
 
   tests-miss : {output : List ℕ} {ending : Ending}
-      → AnswersTests known entries folder options tests since input output ending
+      → AnswersTests known entries times folder options tests since input output ending
       → Takes old.output new.output output → Concludes ending old.error new.error Done → MissesNone
   tests-miss (no_folder is) took concludes = let is-fault = concludes.1 in absurd cc
   tests-miss (no_test_keys some lacks) took concludes = let is-fault = concludes.1 in absurd cc
@@ -290,19 +294,19 @@ module _ (known : DiscoveredGraph) (entries : List ReadStatement) (folder : List
       in absurd cc
 
   done-tests : (status : Status) → status ≡ Done
-      → Ends (AnswersTests known entries folder options tests since input) old new status → MissesNone
+      → Ends (AnswersTests known entries times folder options tests since input) old new status → MissesNone
   done-tests _ is (ended {output = output} {ending = ending} answers took concludes) =
       tests-miss answers took (subst (Concludes ending old.error new.error) is concludes)
   done-tests _ is (output_fails answers fails same) = absurd cc
   done-tests _ is (memory_fails front took told) = absurd cc
 
 pub complete-tests : DoneMissesNoTest
-complete-tests known entries folder options tests since input old new ends =
-    done-tests known entries folder options tests since input old new Done refl ends
+complete-tests known entries times folder options tests since input old new ends =
+    done-tests known entries times folder options tests since input old new Done refl ends
 
 pub complete : DoneMissesNothing
-complete known entries folder options since input old new ends =
-    done-misses known entries folder options since input old new Done refl ends
+complete known entries times folder options since input old new ends =
+    done-misses known entries times folder options since input old new Done refl ends
 
 pub unique : WarningsAreUnique
 unique g entries q paths text other are also = one-text g entries q paths paths text other refl are also

@@ -76,9 +76,10 @@ module _ (old : List (List ℕ)) where
       by true has = has
 
 pub other-commands : OtherCommandsAreOld
-other-commands g edges entries bases text new (some right are unsettled) edge has not-new =
+other-commands known edges entries times folder bases text new (some right are settles) edge has not-new =
     let folders = map clean_path_of bases in
-    let (next, there, same, is) = key-there folders edges entries edge (all_commands g) are.keys are.have has
+    let (next, there, same, is) = key-there folders edges entries edge (all_commands known.graph) are.keys
+    are.have has
     in
     (next.key, is, by next there same (is_among (keys-of text) next.key) refl)
   where

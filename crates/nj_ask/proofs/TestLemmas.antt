@@ -12,6 +12,7 @@ use Rattle.nj_changes.specs.FullPaths.{all_sought}
 use Rattle.nj_changes.specs.Tables.{SameNames}
 use Rattle.nj_chosen.specs.TestPaths.{named_by_tests, names_of_test}
 use Rattle.nj_graph.specs.ReadingList.{ReadStatement}
+use Rattle.nj_discovered.specs.Times.{DeclaredTimes}
 use Rattle.nj_graph.specs.Graph.{GraphModel}
 use Rattle.nj_tests.specs.Tests.{TestModel}
 use Rattle.nj_chosen.specs.Reasons.{BuildChange}
@@ -44,25 +45,26 @@ pub some-bytes : (text : List ℕ) → (length text == 0) ≡ false → text ≢
 some-bytes [] some is = true≢false some
 some-bytes (byte ∷ text) some is = absurd cc
 
-module _ (known : DiscoveredGraph) (entries : List ReadStatement) (folder : List ℕ) (options : TestsModel)
+module _ (known : DiscoveredGraph) (entries : List ReadStatement) (times : DeclaredTimes) (folder : List ℕ)
+    (options : TestsModel)
     (tests : List TestModel) (since : Option (List ℕ)) (input : List ℕ) where
   -- a working directory that is not known
   pub gives-no-folder : (failure : Failure) → folder ≡ []
       → FailsBy Fault (λ line. line ≡ program_line (codes "the working directory is not known")) failure
-      → Gives (AnswersTests known entries folder options tests since input) (Err failure)
+      → Gives (AnswersTests known entries times folder options tests since input) (Err failure)
   gives-no-folder failure none fails =
-      gives-refused (AnswersTests known entries folder options tests since input) Fault
+      gives-refused (AnswersTests known entries times folder options tests since input) Fault
       (λ line. line ≡ program_line (codes "the working directory is not known"))
-      (λ line is. subst (λ l. AnswersTests known entries folder options tests since input []
+      (λ line is. subst (λ l. AnswersTests known entries times folder options tests since input []
       (refused l Fault))
       (sym is) (no_folder none)) failure fails
 
   -- a file that has no keys
   pub gives-no-keys : (failure : Failure) → folder ≢ []
       → FailsBy Fault (LacksKeys options.change.since since) failure
-      → Gives (AnswersTests known entries folder options tests since input) (Err failure)
+      → Gives (AnswersTests known entries times folder options tests since input) (Err failure)
   gives-no-keys failure some fails =
-      gives-refused (AnswersTests known entries folder options tests since input) Fault
+      gives-refused (AnswersTests known entries times folder options tests since input) Fault
       (LacksKeys options.change.since since) (λ line lacks. no_keys some lacks) failure fails
 
   abbrev Touches : Reach → (edge : ℕ) → ChangeModel → Type 0
@@ -74,7 +76,7 @@ module _ (known : DiscoveredGraph) (entries : List ReadStatement) (folder : List
   -- the tests that a change reaches
   pub gives-tests : (answer : Answer) (q : ChangeModel) (files paths : List (List ℕ)) (new : NewModel)
       (reach : Reach) (said : List ℕ) → folder ≢ []
-      → IsNewSince known.graph (manifest_edges known) entries options.change.bases since new
+      → IsNewSince known (manifest_edges known) entries times folder options.change.bases since new
       → LeavesPaths options.change (given_paths options.change input) paths
       → SameNames files (files_at paths)
       → q ≡ change_asked options.change folder files paths new → IsReach known q reach
@@ -83,7 +85,8 @@ module _ (known : DiscoveredGraph) (entries : List ReadStatement) (folder : List
       → answer.warnings.items ≡ said ++ reach.caveats.items
       → WritesTests known entries q (edge_numbers reach.touched.items) options tests
       (not (is_empty answer.warnings.items)) answer.output.items
-      → answer.looks ≡ false → Gives (AnswersTests known entries folder options tests since input) (Ok answer)
+      → answer.looks ≡ false → Gives (AnswersTests known entries times folder options tests since input)
+      (Ok answer)
   gives-tests answer q files paths new reach said some is leaves same change reaches caveats about warnings
       writes
       quiet =

@@ -6,6 +6,7 @@ use Rattle.std.specs.Option.{option_or}
 use Rattle.nj_text.specs.Calls.{is_empty}
 use Rattle.nj_text.specs.Paths.{clean_path_of, is_absolute}
 use Rattle.nj_graph.specs.ReadingList.{ReadStatement}
+use Rattle.nj_discovered.specs.Times.{DeclaredTimes}
 use Rattle.nj_graph.specs.declared.ChainKinds.{ChainKinds}
 use Rattle.nj_graph.specs.declared.GraphFault.{GraphFault}
 use Rattle.nj_graph.specs.Edges.{EdgePaths}
@@ -79,22 +80,23 @@ outputs_asked options = record { rules = options.rules; prefix = options.prefix;
 -- `affected`: a rule's name that no rule has would list nothing, as if nothing were affected, so it is refused; so it is something to
 -- look at that no path is given, unless none need be. The report is about the paths that are not ignored, and about the commands with
 -- keys that the text `since` does not have, if there is one. `folder` is the working directory.
-pub data AnswersAffected (known : DiscoveredGraph) (entries : List ReadStatement) (folder : List ℕ) (options : AffectedModel)
+pub data AnswersAffected (known : DiscoveredGraph) (entries : List ReadStatement) (times : DeclaredTimes) (folder : List ℕ)
+    (options : AffectedModel)
     (since : Option (List ℕ)) (input : List ℕ) : (output : List ℕ) → Ending → Type 0 where
   no_rule : {name : List ℕ} → unknown_rule known.graph options.rules ≡ Some name
-      → AnswersAffected known entries folder options since input []
+      → AnswersAffected known entries times folder options since input []
       (refused (program_line (codes "unknown rule '" ++ name ++ codes "'")) Fault)
   no_path : unknown_rule known.graph options.rules ≡ None → given_paths options input ≡ [] → options.allow_empty ≡ false
-      → AnswersAffected known entries folder options since input [] (answered false no_path_line)
+      → AnswersAffected known entries times folder options since input [] (answered false no_path_line)
   no_keys : {line : List ℕ} → unknown_rule known.graph options.rules ≡ None
       → (given_paths options input ≢ []) ⊎ (options.allow_empty ≡ true) → LacksKeys options.since since line
-      → AnswersAffected known entries folder options since input [] (refused line Fault)
+      → AnswersAffected known entries times folder options since input [] (refused line Fault)
   reported : {paths : List (List ℕ)} {new : NewModel} {outputs warnings : List ℕ} → unknown_rule known.graph options.rules ≡ None
       → (given_paths options input ≢ []) ⊎ (options.allow_empty ≡ true)
-      → IsNewSince known.graph (manifest_edges known) entries options.bases since new
+      → IsNewSince known (manifest_edges known) entries times folder options.bases since new
       → LeavesPaths options (given_paths options input) paths
       → IsReport known entries (change_asked options folder [] paths new) (outputs_asked options) outputs warnings
-      → AnswersAffected known entries folder options since input outputs (answered false warnings)
+      → AnswersAffected known entries times folder options since input outputs (answered false warnings)
 
 -- ---- `why`
 

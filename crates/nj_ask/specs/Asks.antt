@@ -30,7 +30,7 @@ use Rattle.nj_ask.specs.Times.{AnswersTimings, times_misuse}
 abbrev pub Answers : DiscoveredGraph → List ReadStatement → (log : BuildLogModel) → DeclaredTimes → (folder : List ℕ) → SubjectModel
     → (named : NamedFiles) → (input : List ℕ) → (output : List ℕ) → Ending → Type 0
 Answers known entries log times folder (affected options) named input output ending =
-    AnswersAffected known entries folder options named.since input output ending
+    AnswersAffected known entries times folder options named.since input output ending
 Answers known entries log times folder (audit options) named input output ending =
     AnswersAudit known entries times folder options output ending
 Answers known entries log times folder (draw options) named input output ending = AnswersDraw known entries options output ending
@@ -40,7 +40,7 @@ Answers known entries log times folder (keys options) named input output ending 
 Answers known entries log times folder (stale options) named input output ending =
     AnswersStale known entries log times options output ending
 Answers known entries log times folder (tests options) named input output ending =
-    AnswersTests known entries folder options named.tests named.since input output ending
+    AnswersTests known entries times folder options named.tests named.since input output ending
 Answers known entries log times folder (timings options) named input output ending =
     AnswersTimings options.dead known entries log times options output ending
 Answers known entries log times folder (why options) named input output ending = AnswersWhy known entries options output ending

@@ -6,6 +6,7 @@ use Rattle.nj_text.specs.Calls.{is_empty}
 use Rattle.nj_changes.specs.FullPaths.{all_sought, full_path}
 use Rattle.nj_changes.specs.Tables.{SameNames}
 use Rattle.nj_graph.specs.ReadingList.{ReadStatement}
+use Rattle.nj_discovered.specs.Times.{DeclaredTimes}
 use Rattle.nj_tests.specs.Tests.{TestModel}
 use Rattle.nj_chosen.specs.Choices.{AreChosen, ChosenModel}
 use Rattle.nj_chosen.specs.Reasons.{BuildChange}
@@ -156,17 +157,18 @@ remarks options paths tests = no_path_remark options paths ++ no_test_remark opt
 
 -- `tests`: those that the change of the files at the paths that are not ignored reaches. Where something is said of the change or of
 -- what is given, others may be affected too, and all tests are written. `folder` is the working directory, below which tests name files.
-pub data AnswersTests (known : DiscoveredGraph) (entries : List ReadStatement) (folder : List ℕ) (options : TestsModel)
+pub data AnswersTests (known : DiscoveredGraph) (entries : List ReadStatement) (times : DeclaredTimes) (folder : List ℕ)
+    (options : TestsModel)
     (tests : List TestModel) (since : Option (List ℕ)) (input : List ℕ) : (output : List ℕ) → Ending → Type 0 where
-  no_folder : folder ≡ [] → AnswersTests known entries folder options tests since input []
+  no_folder : folder ≡ [] → AnswersTests known entries times folder options tests since input []
       (refused (program_line (codes "the working directory is not known")) Fault)
   no_keys : {line : List ℕ} → folder ≢ [] → LacksKeys options.change.since since line
-      → AnswersTests known entries folder options tests since input [] (refused line Fault)
+      → AnswersTests known entries times folder options tests since input [] (refused line Fault)
   chosen : {paths : List (List ℕ)} {new : NewModel} {edges : List ℕ} {caveats warnings output : List ℕ} → folder ≢ []
-      → IsNewSince known.graph (manifest_edges known) entries options.change.bases since new
+      → IsNewSince known (manifest_edges known) entries times folder options.change.bases since new
       → LeavesPaths options.change (given_paths options.change input) paths
       → Reaches known entries (tests_change known.has_discovered options tests folder paths new) edges caveats
       → warnings ≡ remarks options (given_paths options.change input) tests ++ caveats
       → WritesTests known entries (tests_change known.has_discovered options tests folder paths new) edges options tests
       (not (is_empty warnings)) output
-      → AnswersTests known entries folder options tests since input output (answered false warnings)
+      → AnswersTests known entries times folder options tests since input output (answered false warnings)

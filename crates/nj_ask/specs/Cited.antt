@@ -89,7 +89,7 @@ pub use Rattle.nj_keys.specs.Pages.{leads}
 pub use Rattle.nj_ask.specs.Pages.{mark_line}
 pub use Rattle.nj_ask.specs.Inside.FileLines.{output_lines, path_lines}
 pub use Rattle.nj_ask.specs.MadeFrom.{TellMadeFrom}
-pub use Rattle.nj_ask.specs.Manifest.{makers_of_opened, makes_manifest, FeedsManifest, opened_paths, opened_files}
+pub use Rattle.nj_ask.specs.Manifest.{makers_of_opened, makes_manifest, FeedsManifest, opened_paths, opened_files, is_one_of}
 pub use Rattle.nj_ask.specs.Inside.Flags.{AreFeeds, AreFlags, flagged_numbers, is_made_flag, AreMarks}
 pub use Rattle.nj_names.specs.Files.{AreFiles}
 pub use Rattle.nj_ask.specs.NeededFaults.{IsFirstFault}
@@ -102,6 +102,10 @@ pub use Rattle.nj_ask.specs.TestLists.{LacksText, LacksList, LacksLists, LacksMe
 pub use Rattle.nj_ask.specs.TestLists.{ReadsMeson, ReadsNamed, ReadsTests, faulty_path, info_path, is_of_targets, list_line, list_path}
 pub use Rattle.nj_graph.specs.Changes.{IsAffected}
 pub use Rattle.nj_ask.specs.Laws.{DoneMissesNothing, DoneMissesNoTest, ListedHaveReasons, WarningsAreUnique, OtherCommandsAreOld}
+pub use Rattle.nj_ask.specs.Settled.{AreSettled, HasCurrentOutputs, IsSettledEdge, Settles, are_current, hides_inputs, later}
+pub use Rattle.nj_ask.specs.Settled.{runs_anew}
+pub use Rattle.nj_ask.specs.Inside.TimesAt.{AreTimesAt, are_current_if}
+pub use Rattle.nj_edges.specs.Edges.{counted_inputs_of, is_named}
 pub use Rattle.nj_ask.specs.Since.{AreNewCommands, IsNewSince, IsWrongLine, LacksKeys, first_wrong, has_output, is_wrong, key_of, keys_in}
 pub use Rattle.nj_ask.specs.Since.{lines_in, new_edges, wrong_line}
 pub use Rattle.nj_audit.specs.declared.kinds.Kind.TheVariants.{MissingSource}
@@ -115,7 +119,6 @@ pub use Rattle.nj_ask.specs.StaleObjects.{input_word, integer, newer_time, newes
 pub use Rattle.nj_ask.specs.StaleObjects.{reason_word, stale_object, stale_objects}
 pub use Rattle.nj_stale.specs.Inside.Held.{time_by}
 pub use Rattle.nj_stale.specs.Missing.{AreStated}
-pub use Rattle.nj_edges.specs.Edges.{is_named}
 pub use Rattle.nj_ask.specs.Statuses.{exit_code}
 pub use Rattle.std.specs.IoError.{error_kind}
 pub use Rattle.nj_ask.specs.Times.{AnswersTimes, AnswersTimings, IsReportBy, edge_rules, times_misuse}

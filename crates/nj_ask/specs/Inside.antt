@@ -16,3 +16,4 @@ pub mod LogSteps
 pub mod NodeLists
 pub mod Reached
 pub mod StaleParts
+pub mod TimesAt

@@ -1,6 +1,7 @@
 -- What status 0 of `affected` and `tests` means, and that a report is determined.
 use Rattle.std.specs.Prelude.{◌≡◌, ◌≢◌, ◌⊎◌, ◌↔◌, ℕ, Bool, true, false, Option, Some, List, [], ◌∷◌, Contains, map}
 use Rattle.nj_graph.specs.ReadingList.{ReadStatement}
+use Rattle.nj_discovered.specs.Times.{DeclaredTimes}
 use Rattle.nj_graph.specs.Changes.{has_input_of, IsOrNeeds}
 use Rattle.nj_graph.specs.Dirty.{has_counted_input_of, has_output_of}
 use Rattle.nj_graph.specs.Edges.{EdgePaths, edge_at, is_among, outputs_of}
@@ -65,11 +66,12 @@ pub record MissesNothing (known : DiscoveredGraph) (entries : List ReadStatement
 
 -- Where `affected` ends with status 0, nothing is missed of the paths that are not ignored.
 abbrev pub DoneMissesNothing : Type 0
-DoneMissesNothing = (known : DiscoveredGraph) (entries : List ReadStatement) (folder : List ℕ) (options : AffectedModel)
+DoneMissesNothing = (known : DiscoveredGraph) (entries : List ReadStatement) (times : DeclaredTimes) (folder : List ℕ)
+    (options : AffectedModel)
     (since : Option (List ℕ)) (input : List ℕ) (old new : Sinks)
-    → Ends (AnswersAffected known entries folder options since input) old new Done
+    → Ends (AnswersAffected known entries times folder options since input) old new Done
     → (paths : List (List ℕ)) × LeavesPaths options (given_paths options input) paths
-    × (more : NewModel) × IsNewSince known.graph (manifest_edges known) entries options.bases since more
+    × (more : NewModel) × IsNewSince known (manifest_edges known) entries times folder options.bases since more
     × MissesNothing known entries (change_asked options folder [] paths more) (outputs_asked options) old.output new.output
 
 -- ---- tests
@@ -101,19 +103,21 @@ pub record MissesNoTest (known : DiscoveredGraph) (entries : List ReadStatement)
 
 -- Where `tests` ends with status 0, nothing is missed of the paths that are not ignored.
 abbrev pub DoneMissesNoTest : Type 0
-DoneMissesNoTest = (known : DiscoveredGraph) (entries : List ReadStatement) (folder : List ℕ) (options : TestsModel)
+DoneMissesNoTest = (known : DiscoveredGraph) (entries : List ReadStatement) (times : DeclaredTimes) (folder : List ℕ)
+    (options : TestsModel)
     (tests : List TestModel) (since : Option (List ℕ)) (input : List ℕ) (old new : Sinks)
-    → Ends (AnswersTests known entries folder options tests since input) old new Done
+    → Ends (AnswersTests known entries times folder options tests since input) old new Done
     → (paths : List (List ℕ)) × LeavesPaths options.change (given_paths options.change input) paths
-    × (more : NewModel) × IsNewSince known.graph (manifest_edges known) entries options.change.bases since more
+    × (more : NewModel) × IsNewSince known (manifest_edges known) entries times folder options.change.bases since more
     × MissesNoTest known entries options tests (tests_change known.has_discovered options tests folder paths more) old.output new.output
 
 -- ---- older keys
 
 -- A command that is not new since an older manifest has a key, with the given bases, that is among the keys of that manifest.
 abbrev pub OtherCommandsAreOld : Type 0
-OtherCommandsAreOld = (g : GraphModel) (edges : List EdgePaths) (entries : List ReadStatement) (bases : List (List ℕ)) (text : List ℕ)
-    (new : NewModel) → IsNewSince g edges entries bases (Some text) new → (edge : ℕ) → Contains (all_commands g) edge
+OtherCommandsAreOld = (known : DiscoveredGraph) (edges : List EdgePaths) (entries : List ReadStatement) (times : DeclaredTimes)
+    (folder : List ℕ) (bases : List (List ℕ)) (text : List ℕ) (new : NewModel)
+    → IsNewSince known edges entries times folder bases (Some text) new → (edge : ℕ) → Contains (all_commands known.graph) edge
     → ¬ Contains new.commands edge
     → (key : List ℕ) × IsKey (map clean_path_of bases) edges entries edge key × (is_among (keys_in (lines_in text)) key ≡ true)
 

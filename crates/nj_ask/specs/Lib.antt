@@ -29,6 +29,7 @@ pub mod Pages
 pub mod Quotes
 pub mod Reports
 pub mod SameFiles
+pub mod Settled
 pub mod Shape
 pub mod Since
 pub mod StaleObjects

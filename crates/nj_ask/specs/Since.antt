@@ -13,7 +13,11 @@ use Rattle.nj_graph.specs.Edges.{EdgePaths, is_among}
 use Rattle.nj_graph.specs.Graph.{GraphModel}
 use Rattle.nj_keys.specs.Keys.{HaveKeys, all_commands}
 use Rattle.nj_keys.specs.declared.pages.EdgeKey.{EdgeKey}
+use Rattle.nj_discovered.specs.Times.{DeclaredTimes}
+use Rattle.nj_ask.specs.declared.discovered.DiscoveredGraph.{DiscoveredGraph}
 use Rattle.nj_ask.specs.Endings.{program_line}
+use Rattle.nj_ask.specs.Manifest.{opened_files}
+use Rattle.nj_ask.specs.Settled.{Settles}
 
 -- ---- the older keys
 
@@ -86,13 +90,16 @@ pub record NewModel : Type 0 where
 abbrev pub nothing_new : NewModel
 nothing_new = record { commands = []; is_settled = false }
 
--- What is new since the manifest of which a text has the keys: the commands that it does not have. Without a text nothing is compared.
-pub data IsNewSince (g : GraphModel) (edges : List EdgePaths) (entries : List ReadStatement) (bases : List (List ℕ)) :
+-- What is new since the manifest of which a text has the keys: the commands that it does not have, with which the manifest may be up to
+-- date with the files that it is made from, in the given working directory. Without a text nothing is compared.
+pub data IsNewSince (known : DiscoveredGraph) (edges : List EdgePaths) (entries : List ReadStatement) (times : DeclaredTimes)
+    (folder : List ℕ) (bases : List (List ℕ)) :
     (since : Option (List ℕ)) → NewModel → Type 0 where
-  none : IsNewSince g edges entries bases None nothing_new
+  none : IsNewSince known edges entries times folder bases None nothing_new
   some : {text : List ℕ} {new : NewModel} → first_wrong 1 (lines_in text) ≡ None
-      → AreNewCommands g edges entries (map clean_path_of bases) (keys_in (lines_in text)) new.commands
-      → new.is_settled ≡ false → IsNewSince g edges entries bases (Some text) new
+      → AreNewCommands known.graph edges entries (map clean_path_of bases) (keys_in (lines_in text)) new.commands
+      → Settles known (opened_files known.graph folder) entries times new.commands new.is_settled
+      → IsNewSince known edges entries times folder bases (Some text) new
 
 -- the text is not one that `keys` wrote; `path` is that of its file
 pub data LacksKeys (path : Option (List ℕ)) : (since : Option (List ℕ)) → (line : List ℕ) → Type 0 where

@@ -14,6 +14,7 @@ use crate::since::{Since, new_since};
 use crate::status::Status;
 use nj_changes::without_ignored;
 use nj_globs::Glob;
+use nj_graph::FileTimes;
 use nj_names::Names;
 use nj_questions::AffectedOptions;
 use std::alloc::{AllocError, Global};
@@ -29,9 +30,10 @@ pub(crate) const NO_PATH: &[u8] = b"ninja-graph: no changed path was given\n";
 /// # Errors
 ///
 /// `Refused` if an option names an unknown rule, or a file that has no keys, and `OutOfMemory` if an allocation failed.
-pub(crate) fn answer_affected(
+pub(crate) fn answer_affected<T: FileTimes>(
     alloc: Global,
     known: &DiscoveredGraph,
+    times: &T,
     folder: &[u8],
     options: &AffectedOptions,
     globs: &mut [Glob],
@@ -41,8 +43,8 @@ pub(crate) fn answer_affected(
     requires edges { HasEdges known.now }
     requires globs { AreGlobsAsked (affected_model options.now) globs.now }
     ensures { OfStatements known.now.graph (λ entries.
-        Gives (AnswersAffected known.now entries folder.now (affected_model options.now)
-        (named_files named.now).since input.now) result) }
+        Gives (AnswersAffected known.now entries (T.times times.now) folder.now
+        (affected_model options.now) (named_files named.now).since input.now) result) }
 {
     if let Some(name) = unknown_rule(&known.graph, &options.rules) {
         let name = name.as_bytes();
@@ -52,7 +54,7 @@ pub(crate) fn answer_affected(
     if given.is_empty() && !options.allow_empty {
         return Ok(without_paths(alloc)?);
     }
-    let since = match new_since(alloc, known, options, named) {
+    let since = match new_since(alloc, known, times, folder, options, named) {
         Ok(since) => since,
         Err(failure) => return Err(failure),
     };

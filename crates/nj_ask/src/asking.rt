@@ -291,7 +291,7 @@ fn perform<T: FileTimes, O: Sink>(
             let globs = globs.as_mut_slice();
             deliver(
                 out,
-                answer_affected(alloc, known, folder, options, globs, named, input),
+                answer_affected(alloc, known, times, folder, options, globs, named, input),
             )
         }
         Task::Audit(options, kinds) => {
@@ -311,7 +311,7 @@ fn perform<T: FileTimes, O: Sink>(
             let globs = globs.as_mut_slice();
             deliver(
                 out,
-                answer_tests(alloc, known, folder, options, globs, named, input),
+                answer_tests(alloc, known, times, folder, options, globs, named, input),
             )
         }
         Task::Times(options) => deliver(out, answer_timings(alloc, known, log, times, options)),

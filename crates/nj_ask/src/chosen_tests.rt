@@ -18,6 +18,7 @@ use crate::test_options::style_asked;
 use nj_changes::{all_sought, full_path, without_ignored};
 use nj_chosen::{choose, named_by_tests};
 use nj_globs::Glob;
+use nj_graph::FileTimes;
 use nj_names::Names;
 use nj_questions::TestsOptions;
 use nj_reached::changed_paths;
@@ -33,9 +34,10 @@ use std::alloc::{AllocError, Global};
 /// # Errors
 ///
 /// `Refused` if the working directory is not known, or a file that has no keys is named, and `OutOfMemory` if an allocation failed.
-pub(crate) fn answer_tests(
+pub(crate) fn answer_tests<T: FileTimes>(
     alloc: Global,
     known: &DiscoveredGraph,
+    times: &T,
     folder: &[u8],
     options: &TestsOptions,
     globs: &mut [Glob],
@@ -45,14 +47,14 @@ pub(crate) fn answer_tests(
     requires edges { HasEdges known.now }
     requires globs { AreGlobsAsked (tests_model options.now).change globs.now }
     ensures { OfStatements known.now.graph (λ entries.
-        Gives (AnswersTests known.now entries folder.now (tests_model options.now)
-        (named_files named.now).tests (named_files named.now).since input.now) result) }
+        Gives (AnswersTests known.now entries (T.times times.now) folder.now
+        (tests_model options.now) (named_files named.now).tests (named_files named.now).since input.now) result) }
 {
     if folder.is_empty() {
         let text = b"the working directory is not known";
         return Err(Failure::in_words(alloc, b"", text, b"", Status::Fault));
     }
-    let since = match new_since(alloc, known, &options.change, named) {
+    let since = match new_since(alloc, known, times, folder, &options.change, named) {
         Ok(since) => since,
         Err(failure) => return Err(failure),
     };

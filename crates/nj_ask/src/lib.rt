@@ -46,6 +46,7 @@ mod option_files;
 mod pages;
 mod quotes;
 mod report;
+mod settled;
 mod shape;
 mod since;
 mod sources;

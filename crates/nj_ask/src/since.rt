@@ -7,9 +7,10 @@ use crate::discovered::DiscoveredGraph;
 use crate::failure::Failure;
 use crate::keys::{bases_of, stated_counts};
 use crate::option_files::OptionFiles;
+use crate::settled::settles;
 use crate::status::Status;
 use hex::FromHex;
-use nj_graph::{EdgeNo, HashKeys};
+use nj_graph::{EdgeNo, FileTimes, HashKeys};
 use nj_keys::{Bases, EdgeKey, all_keys};
 use nj_names::Names;
 use nj_questions::AffectedOptions;
@@ -25,20 +26,22 @@ pub(crate) struct Since {
 }
 
 /// What is new since the manifest of which the file of `--since` has the keys, if the options name
-/// one.
+/// one. Looks up the files that the manifest is made from.
 ///
 /// # Errors
 ///
 /// `Refused` if the file is not one that `keys` wrote, and `OutOfMemory` if an allocation failed.
-pub(crate) fn new_since(
+pub(crate) fn new_since<T: FileTimes>(
     alloc: Global,
     known: &DiscoveredGraph,
+    times: &T,
+    folder: &[u8],
     options: &AffectedOptions,
     named: &OptionFiles,
 ) -> Result<Since, Failure>
     requires { change_misuse (affected_model options.now) ≡ None }
     ensures new { OfStatements known.now.graph (λ entries. IfOk result (λ since.
-        IsNewSince known.now.graph (manifest_edges known.now) entries
+        IsNewSince known.now (manifest_edges known.now) entries (T.times times.now) folder.now
         (affected_model options.now).bases (named_files named.now).since (new_model since))) }
     ensures known { IfOk result (λ since. AreEdgesOf known.now.graph since.commands.items) }
     ensures wrong { IfErr result (FailsBy Fault (LacksKeys (affected_model options.now).since
@@ -50,13 +53,15 @@ pub(crate) fn new_since(
             is_settled: false,
         });
     };
-    match commands_since(alloc, known, options, text) {
-        Ok(commands) => Ok(Since {
-            commands,
-            is_settled: false,
-        }),
-        Err(failure) => Err(failure),
-    }
+    let commands = match commands_since(alloc, known, options, text) {
+        Ok(commands) => commands,
+        Err(failure) => return Err(failure),
+    };
+    let is_settled = settles(alloc, known, times, folder, &commands)?;
+    Ok(Since {
+        commands,
+        is_settled,
+    })
 }
 
 /// The commands whose keys the text of the file of `--since` does not have.

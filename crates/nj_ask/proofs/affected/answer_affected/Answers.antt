@@ -16,8 +16,9 @@ use Rattle.nj_ask.proofs.affected.answer_affected.Goals.{else-is_empty-via-else-
 use Rattle.nj_ask.proofs.affected.answer_affected.Goals.{else-is_empty-via-then-is_empty+else-not-options}
 
 pub returns-in-Some : goal.returns-in-Some
-returns-in-Some c entries graph =
-    gives-no-rule c.args.known.now entries c.args.folder.now (affected_model c.args.options.now)
+returns-in-Some g c entries graph =
+    gives-no-rule c.args.known.now entries (g.T.FileTimes.times c.args.times.now) c.args.folder.now
+    (affected_model c.args.options.now)
     (named_files c.args.named.now).since c.args.input.now
     c.as_bytes-name.result.now c.in_words.result
     (ap (λ names. unknown_rule c.args.known.now.graph (map string_bytes names)) (sym c.deref.ensures.value)
@@ -26,8 +27,9 @@ returns-in-Some c entries graph =
     c.in_words.ensures
 
 pub returns-then-not-options : goal.returns-then-not-options
-returns-then-not-options c entries graph =
-    gives-no-path c.args.known.now entries c.args.folder.now (affected_model c.args.options.now)
+returns-then-not-options g c entries graph =
+    gives-no-path c.args.known.now entries (g.T.FileTimes.times c.args.times.now) c.args.folder.now
+    (affected_model c.args.options.now)
     (named_files c.args.named.now).since c.args.input.now
     c.in_ok-without_paths.field-0
     (ap (λ names. unknown_rule c.args.known.now.graph (map string_bytes names)) (sym c.deref.ensures.value)
@@ -40,8 +42,9 @@ returns-then-not-options c entries graph =
     c.if-not-options.true c.in_ok-without_paths.ensures.output c.in_ok-without_paths.ensures.warnings
 
 pub returns : goal.returns
-returns c entries graph =
-    gives-report c.args.known.now entries c.args.folder.now (affected_model c.args.options.now)
+returns g c entries graph =
+    gives-report c.args.known.now entries (g.T.FileTimes.times c.args.times.now) c.args.folder.now
+    (affected_model c.args.options.now)
     (named_files c.args.named.now).since c.args.input.now
     c.in_ok-report_of.field-0
     (ap (λ names. unknown_rule c.args.known.now.graph (map string_bytes names)) (sym c.deref.ensures.value)
@@ -73,13 +76,14 @@ returns c entries graph =
     c.listed_by-listed.ensures (c.in_ok-report_of.ensures.report entries graph)
 
 pub report_of-requires-clause-commands : goal.report_of-requires-clause-commands
-report_of-requires-clause-commands c =
+report_of-requires-clause-commands g c =
     subst (AreEdgesOf c.args.known.now.graph) (sym c.change_of-change.ensures.commands)
     c.in-Ok.ensures.known
 
 pub returns-in-Err : goal.returns-in-Err
-returns-in-Err c entries graph =
-    gives-no-keys c.args.known.now entries c.args.folder.now (affected_model c.args.options.now)
+returns-in-Err g c entries graph =
+    gives-no-keys c.args.known.now entries (g.T.FileTimes.times c.args.times.now) c.args.folder.now
+    (affected_model c.args.options.now)
     (named_files c.args.named.now).since c.args.input.now c.in-Err.failure
     (ap (λ names. unknown_rule c.args.known.now.graph (map string_bytes names)) (sym c.deref.ensures.value)
     ∙ sym c.unknown_rule.ensures

@@ -21,7 +21,8 @@ returns-in-Affected g c entries is subject asks =
     affected-returns known entries _ _ _ named c.args.input.now _ _ _ subject c.args.task options
     c.in-Affected.globs
     c.in-Affected.is asks
-    (returns-delivered (AnswersAffected known entries c.args.folder.now (affected_model options.now)
+    (returns-delivered (AnswersAffected known entries (g.T.FileTimes.times c.args.times.now) c.args.folder.now
+    (affected_model options.now)
     named.since c.args.input.now)
     c.answer_affected.result _ _ _ (c.answer_affected.ensures entries is) c.deliver.ensures)
 
@@ -93,6 +94,7 @@ returns-in-Tests g c entries is subject asks =
     let named = named_files c.args.named.now in
     tests-returns known entries _ _ _ named c.args.input.now _ _ _ subject
     c.args.task options c.in-Tests.globs c.in-Tests.is asks
-    (returns-delivered (AnswersTests known entries c.args.folder.now (tests_model options.now) named.tests
+    (returns-delivered (AnswersTests known entries (g.T.FileTimes.times c.args.times.now) c.args.folder.now
+    (tests_model options.now) named.tests
     named.since c.args.input.now)
     c.answer_tests.result _ _ _ (c.answer_tests.ensures entries is) c.deliver-in-Tests.ensures)
