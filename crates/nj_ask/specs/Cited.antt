@@ -102,8 +102,7 @@ pub use Rattle.nj_ask.specs.TestLists.{LacksText, LacksList, LacksLists, LacksMe
 pub use Rattle.nj_ask.specs.TestLists.{ReadsMeson, ReadsNamed, ReadsTests, faulty_path, info_path, is_of_targets, list_line, list_path}
 pub use Rattle.nj_graph.specs.Changes.{IsAffected}
 pub use Rattle.nj_ask.specs.Laws.{DoneMissesNothing, DoneMissesNoTest, ListedHaveReasons, WarningsAreUnique, OtherCommandsAreOld}
-pub use Rattle.nj_ask.specs.Settled.{AreSettled, HasCurrentOutputs, IsSettledEdge, Settles, are_current, hides_inputs, later}
-pub use Rattle.nj_ask.specs.Settled.{runs_anew}
+pub use Rattle.nj_ask.specs.Settled.{AreSettled, HasCurrentOutputs, IsSettledEdge, Settles, are_current, hides_inputs, later, runs_anew}
 pub use Rattle.nj_ask.specs.Inside.TimesAt.{AreTimesAt, are_current_if}
 pub use Rattle.nj_edges.specs.Edges.{counted_inputs_of, is_named}
 pub use Rattle.nj_ask.specs.Since.{AreNewCommands, IsNewSince, IsWrongLine, LacksKeys, first_wrong, has_output, is_wrong, key_of, keys_in}
