@@ -23,10 +23,10 @@ use Rattle.nj_ask.specs.Audits.{kind_lines, selection_in, unknown_kind_line}
 use Rattle.nj_ask.specs.Endings.{Ending, Ends, Sinks, answered}
 use Rattle.nj_ask.specs.Endings.Ends.{ended, memory_fails, output_fails}
 use Rattle.nj_one_answer.specs.Answers.{MisusedIsNotTaken, OneAnswer, OneMisuse, SameKnownHaveSameAnswers}
-use Rattle.nj_one_answer.specs.Answers.{SameOutput, TellTimes}
+use Rattle.nj_one_answer.specs.Answers.{SameOutput}
 use Rattle.nj_one_answer.specs.Answers.SameDrawing.{same as same_drawing}
 use Rattle.nj_one_answer.specs.Runs.{AskAlike, AskWordsAlike, ComeTo, EndAlike, FilesRead, LacksMemory}
-use Rattle.nj_one_answer.specs.Runs.{ReadAlike}
+use Rattle.nj_one_answer.specs.Runs.{ReadAlike, TellFor}
 use Rattle.nj_one_answer.specs.Runs.{RefuseAlike, RefuseWordsAlike, SameFiles, SameFor}
 use Rattle.nj_one_answer.specs.Runs.FilesRead.{graph, no_graph}
 use Rattle.nj_one_answer.specs.Runs.AskAlike.{unread as both_unread, read as both_read, lacked_memory}
@@ -118,7 +118,7 @@ module _ (law : OneAnswer) (values : SameKnownHaveSameAnswers) (line : OneMisuse
     Alike status end = AskAlike question times folder old one other status end
 
     files-alike : (files : FilesRead) → ComeTo question times folder old.sources one.sources files
-        → TellTimes question.subject times → (status end : Status) → EndsFor files old one status
+        → TellFor question.subject files times → (status end : Status) → EndsFor files old one status
         → EndsFor files old other end → EndAlike (SameFor question.subject files) old.sinks one.sinks
         other.sinks status end
     files-alike (graph known entries log named) knows tells status end =

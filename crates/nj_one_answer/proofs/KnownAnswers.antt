@@ -3,7 +3,7 @@ use Rattle.std.proofs.Common.{◌≡◌, ◌⊎◌, inl, inr, ℕ, Bool, true, f
 use Rattle.std.proofs.Common.{◌∷◌}
 use Rattle.std.proofs.Common.{◌++◌, map, slice_get, refl, sym, ap, subst, ◌∙◌}
 use Rattle.std.proofs.lemmas.Option.{same_Some}
-use Rattle.std.specs.Prelude.{find, not, unwrap_or}
+use Rattle.std.specs.Prelude.{codes, find, not, unwrap_or, ◌||◌}
 use Rattle.nj_text.specs.Calls.{is_empty}
 use Rattle.nj_text.specs.Paths.{clean_path_of}
 use Rattle.nj_scope.specs.ReadingList.{ReadStatement}
@@ -60,11 +60,15 @@ use Rattle.nj_ask.specs.Drawings.{IsDrawing, ListsEdges, drawing_text}
 use Rattle.nj_ask.specs.Drawings.ListsEdges.{needed, touched}
 use Rattle.nj_ask.specs.DrawnNodes.{drawn_nodes}
 use Rattle.nj_ask.specs.Endings.{Ending, answered, fault_line, program_line, refused}
-use Rattle.nj_ask.specs.Manifest.{is_one_of}
+use Rattle.nj_ask.specs.Manifest.{is_one_of, opened_files}
 use Rattle.nj_ask.specs.Pages.{mark_line}
 use Rattle.nj_ask.specs.Reports.{HasCaveats, ChangeModel, IsReport, IsTouchedBy, changed_numbers}
 use Rattle.nj_ask.specs.Reports.{new_paths, remade_files}
-use Rattle.nj_ask.specs.Since.{IsNewSince, NewModel}
+use Rattle.nj_ask.specs.Settled.{IsSettledEdge, Settles, has_value, runs_anew}
+use Rattle.nj_ask.specs.Settled.AreSettled.{settled, unsettled}
+use Rattle.nj_ask.specs.Settled.IsSettledEdge.{by_times, phony, unclear}
+use Rattle.nj_ask.specs.Since.{AreNewCommands, IsNewSince, NewModel, keys_in, lines_in}
+use Rattle.nj_ask.specs.Since.IsNewSince.{none as nothing_compared, some as compared}
 use Rattle.nj_ask.specs.Shape.{caveat_text, dyndep_text, shape_text}
 use Rattle.nj_ask.specs.MissingSources.{IsStop, required_files, stated_edges}
 use Rattle.nj_ask.specs.Stales.{AnswersBuild, AnswersStale, AreStaleFor, IsCurrent, WritesStale, files_asked}
@@ -145,6 +149,12 @@ head-moves (f ∷ one) (g ∷ other) texts fault is =
     let it : f ≡ fault = same_Some f fault is in
     let text : text_of f ≡ text_of g = cc in
     (g, refl, sym (ap text_of it) ∙ text)
+
+-- the inputs of an edge are not all known, by the edges of which they are not
+abbrev hides_by : (has_discovered : Bool) → List ReadStatement → (edge : ℕ) → List EdgeNo → Bool
+hides_by has_discovered entries edge unknown =
+    cond has_discovered (is_one_of (map (λ (e : EdgeNo). e.0) unknown) edge)
+    (has_value entries edge (codes "depfile") || has_value entries edge (codes "deps"))
 
 -- ---- a graph in which what lies in memory is another's
 
@@ -240,26 +250,51 @@ module _ (one other : DiscoveredGraph) (same : SameKnown one other) where
     caveats = caveats-move entries q is.lists.edges warnings is.caveats;
   }
 
-  new-moves : (entries : List ReadStatement) (bases : List (List ℕ)) (since : Option (List ℕ))
-      (new : NewModel)
-      → IsNewSince one.graph (manifest_edges one) entries bases since new
-      → IsNewSince mid.graph (manifest_edges mid) entries bases since new
-  new-moves entries bases since new =
-      subst (λ (ds : List EdgeDiscovery). IsNewSince one.graph
-      (edges_stated (map (λ (d : EdgeDiscovery). d.stated_inputs) ds) (edges_of one.graph)) entries bases
-      since
-      new) same.discoveries
+  edge-moves : (entries : List ReadStatement) (times : DeclaredTimes) (commands : List ℕ) (edge : ℕ)
+      (is : Bool) → IsSettledEdge one entries times commands edge is
+      → IsSettledEdge mid entries times commands edge is
+  edge-moves entries times commands edge _ (phony is) = phony is
+  edge-moves entries times commands edge _ (unclear not_phony hides) =
+      unclear not_phony (subst (λ (es : List EdgeNo). runs_anew entries commands edge
+      || hides_by one.has_discovered entries edge es ≡ true) same.unknown hides)
+  edge-moves entries times commands edge is (by_times not_phony clear by) =
+      by_times not_phony (subst (λ (es : List EdgeNo). runs_anew entries commands edge
+      || hides_by one.has_discovered entries edge es ≡ false) same.unknown clear) by
 
-  affected-moves : (entries : List ReadStatement) (folder : List ℕ) (options : AffectedModel)
+  settles-moves : (opened : List ℕ) (entries : List ReadStatement) (times : DeclaredTimes)
+      (commands : List ℕ) (is : Bool) → Settles one opened entries times commands is
+      → Settles mid opened entries times commands is
+  settles-moves opened entries times commands _ (settled every_edge) =
+      settled (λ edge asked. edge-moves entries times commands edge true (every_edge edge asked))
+  settles-moves opened entries times commands _ (unsettled {edge = e} asked is) =
+      unsettled asked (edge-moves entries times commands e false is)
+
+  new-moves : (entries : List ReadStatement) (times : DeclaredTimes) (folder : List ℕ)
+      (bases : List (List ℕ)) (since : Option (List ℕ)) (new : NewModel)
+      → IsNewSince one (manifest_edges one) entries times folder bases since new
+      → IsNewSince mid (manifest_edges mid) entries times folder bases since new
+  new-moves entries times folder bases _ _ nothing_compared = nothing_compared
+  new-moves entries times folder bases _ new (compared {text = t} right are settles) =
+      compared right
+      (subst (λ (ds : List EdgeDiscovery). AreNewCommands one.graph
+      (edges_stated (map (λ (d : EdgeDiscovery). d.stated_inputs) ds) (edges_of one.graph)) entries
+      (map clean_path_of bases) (keys_in (lines_in t)) new.commands) same.discoveries are)
+      (settles-moves (opened_files one.graph folder) entries times new.commands new.is_settled settles)
+
+  affected-moves : (entries : List ReadStatement) (times : DeclaredTimes) (folder : List ℕ)
+      (options : AffectedModel)
       (since : Option (List ℕ)) (input output : List ℕ) (ending : Ending)
-      → AnswersAffected one entries folder options since input output ending
-      → AnswersAffected mid entries folder options since input output ending
-  affected-moves entries folder options since input _ _ (no_rule is) = no_rule is
-  affected-moves entries folder options since input _ _ (no_path none empty asks) = no_path none empty asks
-  affected-moves entries folder options since input _ _ (no_keys none some lacks) = no_keys none some lacks
-  affected-moves entries folder options since input _ _
+      → AnswersAffected one entries times folder options since input output ending
+      → AnswersAffected mid entries times folder options since input output ending
+  affected-moves entries times folder options since input _ _ (no_rule is) = no_rule is
+  affected-moves entries times folder options since input _ _ (no_path none empty asks) =
+      no_path none empty asks
+  affected-moves entries times folder options since input _ _ (no_keys none some lacks) =
+      no_keys none some lacks
+  affected-moves entries times folder options since input _ _
       (reported {new = n} {outputs = o} {warnings = w} none some new leaves is) =
-      reported none some (new-moves entries options.bases since n new) leaves (report entries _ _ o w is)
+      reported none some (new-moves entries times folder options.bases since n new) leaves
+      (report entries _ _ o w is)
 
   writes-move : (entries : List ReadStatement) (q : ChangeModel) (edges : List ℕ) (options : TestsModel)
       (list : List TestModel) (whole : Bool) (text : List ℕ)
@@ -275,15 +310,16 @@ module _ (one other : DiscoveredGraph) (same : SameKnown one other) where
     text_is = is.text_is;
   }
 
-  tests-move : (entries : List ReadStatement) (folder : List ℕ) (options : TestsModel)
+  tests-move : (entries : List ReadStatement) (times : DeclaredTimes) (folder : List ℕ) (options : TestsModel)
       (list : List TestModel) (since : Option (List ℕ)) (input output : List ℕ) (ending : Ending)
-      → AnswersTests one entries folder options list since input output ending
-      → AnswersTests mid entries folder options list since input output ending
-  tests-move entries folder options list since input _ _ (no_folder is) = no_folder is
-  tests-move entries folder options list since input _ _ (no_test_keys some lacks) = no_test_keys some lacks
-  tests-move entries folder options list since input _ _
+      → AnswersTests one entries times folder options list since input output ending
+      → AnswersTests mid entries times folder options list since input output ending
+  tests-move entries times folder options list since input _ _ (no_folder is) = no_folder is
+  tests-move entries times folder options list since input _ _ (no_test_keys some lacks) =
+      no_test_keys some lacks
+  tests-move entries times folder options list since input _ _
       (chosen {new = n} {edges = es} {caveats = c} {output = o} some new leaves reaches said writes) =
-      chosen some (new-moves entries options.change.bases since n new) leaves
+      chosen some (new-moves entries times folder options.change.bases since n new) leaves
       (reach-moves entries _ es c reaches) said (writes-move entries _ es options list _ o writes)
 
   why-moves : (entries : List ReadStatement) (options : WhyModel) (output : List ℕ) (ending : Ending)
@@ -542,7 +578,7 @@ module _ (one other : DiscoveredGraph) (same : SameKnown one other) where
       → Answers one entries log times folder subject named input output ending
       → Answers mid entries log times folder subject named input output ending
   moves entries log times folder (affected options) named input output ending is =
-      affected-moves entries folder options named.since input output ending is
+      affected-moves entries times folder options named.since input output ending is
   moves entries log times folder (audit options) named input output ending is =
       audit-moves entries times folder options output ending is
   moves entries log times folder (draw options) named input output ending is =
@@ -553,7 +589,7 @@ module _ (one other : DiscoveredGraph) (same : SameKnown one other) where
   moves entries log times folder (stale options) named input output ending is =
       stale-moves entries log times options output ending is
   moves entries log times folder (tests options) named input output ending is =
-      tests-move entries folder options named.tests named.since input output ending is
+      tests-move entries times folder options named.tests named.since input output ending is
   moves entries log times folder (timings options) named input output ending is =
       timings-move options.dead entries log times options output ending is
   moves entries log times folder (why options) named input output ending is =

@@ -14,7 +14,7 @@ one-answer a u d j k s t m w known entries log times folder (affected options) n
     end graph tells
     is
     also =
-    a known entries folder options named.since input output other ending end is also
+    a known entries times folder options named.since input tells output other ending end is also
 one-answer a u d j k s t m w known entries log times folder (audit options) named input output other ending
     end graph tells is
     also =
@@ -38,7 +38,7 @@ one-answer a u d j k s t m w known entries log times folder (stale options) name
     s known entries log times options graph tells output other ending end is also
 one-answer a u d j k s t m w known entries log times folder (tests options) named input output other ending
     end graph tells is also =
-    t known entries folder options named.tests named.since input output other ending end is also
+    t known entries times folder options named.tests named.since input tells output other ending end is also
 one-answer a u d j k s t m w known entries log times folder (timings options) named input output other ending
     end graph tells is also =
     m known entries log times options tells output other ending end is also

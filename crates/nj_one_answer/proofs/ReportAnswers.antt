@@ -3,7 +3,7 @@ use Rattle.std.proofs.Common.{◌≡◌, ◌≢◌, ◌⊎◌, inl, inr, ℕ, tr
 use Rattle.std.proofs.Common.{[]}
 use Rattle.std.proofs.Common.{◌++◌}
 use Rattle.std.proofs.Common.{refl, sym, ap, subst, ◌∙◌}
-use Rattle.std.specs.Prelude.{codes}
+use Rattle.std.specs.Prelude.{codes, is_some}
 use Rattle.std.specs.List.{flat_map}
 use Rattle.std.proofs.lemmas.Bool.{both_ways}
 use Rattle.std.proofs.lemmas.Option.{same_Some}
@@ -22,7 +22,8 @@ use Rattle.nj_ask.specs.Reports.{ChangeModel, HasCaveats, IsReport, IsTouchedBy,
 use Rattle.nj_ask.specs.Reports.{remade_files}
 use Rattle.nj_ask.specs.Since.{NewModel}
 use Rattle.nj_ask.specs.Shape.{shape_text}
-use Rattle.nj_one_answer.specs.Answers.{OneAffectedAnswer}
+use Rattle.nj_one_answer.specs.Answers.{OneAffectedAnswer, TellIf}
+use Rattle.nj_discovered.specs.Times.{DeclaredTimes}
 use Rattle.nj_agreement.proofs.ReachedAnswers.{rising-agree}
 use Rattle.nj_one_answer.proofs.GivenAnswers.{leaves-agree, some-or-none}
 use Rattle.nj_one_answer.proofs.SinceAnswers.{lacking-agree, new-agree, new-or-lacking}
@@ -49,8 +50,8 @@ module _ (reading : OneReading) (unique : WarningsAreUnique) (known : Discovered
             (subst (λ es. HasCaveats known entries q es warnings) edges is.caveats) also.caveats,
       )
 
-  module _ (keys : ListsOfKeysAreUnique) (folder : List ℕ) (options : AffectedModel) (since : Option (List ℕ))
-      (input : List ℕ)
+  module _ (keys : ListsOfKeysAreUnique) (times : DeclaredTimes) (folder : List ℕ) (options : AffectedModel)
+      (since : Option (List ℕ)) (input : List ℕ) (tells : TellIf (is_some since) times)
     where
       unmade : (lines : List (List ℕ)) → lines ≡ [] → options.allow_empty ≡ false
           → (lines ≢ []) ⊎ (options.allow_empty ≡ true) → ⊥
@@ -62,8 +63,8 @@ module _ (reading : OneReading) (unique : WarningsAreUnique) (known : Discovered
       unknown name is none = some-or-none name (unknown_rule known.graph options.rules) is none
 
       pub answers-agree : (output other : List ℕ) (ending end : Ending)
-          → AnswersAffected known entries folder options since input output ending
-          → AnswersAffected known entries folder options since input other end
+          → AnswersAffected known entries times folder options since input output ending
+          → AnswersAffected known entries times folder options since input other end
           → (output ≡ other) × (ending ≡ end)
       answers-agree _ _ _ _ (no_rule {name = a} is) (no_rule {name = b} also) = (
         refl,
@@ -87,23 +88,22 @@ module _ (reading : OneReading) (unique : WarningsAreUnique) (known : Discovered
           (refl, ap (λ line. refused line Fault) (lacking-agree options.since since l m lacks lacks2))
       answers-agree _ _ _ _ (no_keys {line = l} none some lacks)
           (reported {new = n} none2 some2 new leaves report) =
-          absurd (new-or-lacking known.graph (manifest_edges known) entries options.bases options.since since
-          n l
-          new lacks)
+          absurd (new-or-lacking known (manifest_edges known) entries times folder options.bases
+          options.since since n l new lacks)
       answers-agree _ _ _ _ (reported none some new leaves report) (no_rule {name = a} is) =
           absurd (unknown a is none)
       answers-agree _ _ _ _ (reported none some new leaves report) (no_path none2 empty asks) =
           absurd (unmade _ empty asks some)
       answers-agree _ _ _ _ (reported {new = n} none some new leaves report)
           (no_keys {line = l} none2 some2 lacks) =
-          absurd (new-or-lacking known.graph (manifest_edges known) entries options.bases options.since since
-          n l
-          new lacks)
+          absurd (new-or-lacking known (manifest_edges known) entries times folder options.bases
+          options.since since n l new lacks)
       answers-agree _ _ _ _ (reported {paths = ps} {new = m} {outputs = o} {warnings = w} none some new leaves
           report)
           (reported {paths = qs} {new = n} {outputs = p} {warnings = v} none2 some2 new2 leaves2 report2) =
           let same = leaves-agree reading options (given_paths options input) ps qs leaves leaves2 in
-          let one = new-agree keys known.graph (manifest_edges known) entries options.bases since m n new new2
+          let one = new-agree keys known (manifest_edges known) entries times folder options.bases since m n
+          tells new new2
           in
           let both = reports-agree (change_asked options folder [] qs n) (outputs_asked options) o p w v
           (subst (λ (more : NewModel). IsReport known entries (change_asked options folder [] qs more)
@@ -114,5 +114,5 @@ module _ (reading : OneReading) (unique : WarningsAreUnique) (known : Discovered
           (both.0, ap (answered false) both.1)
 
 pub one-affected-answer : OneReading → WarningsAreUnique → ListsOfKeysAreUnique → OneAffectedAnswer
-one-affected-answer reading unique keys known entries folder options since input =
-    answers-agree reading unique known entries keys folder options since input
+one-affected-answer reading unique keys known entries times folder options since input tells =
+    answers-agree reading unique known entries keys times folder options since input tells

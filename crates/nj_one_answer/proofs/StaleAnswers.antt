@@ -66,7 +66,7 @@ module _ (times : DeclaredTimes) (tells : TellAll times) where
       is ∙ ap (λ f. unwrap_or f 0) (same-time one other (found-agree path (Time one) (Time other) at at2))
       ∙ sym also
 
-  times-agree : (paths : List (List ℕ)) (a b : List ℕ) → HaveTimes times paths a → HaveTimes times paths b
+  pub times-agree : (paths : List (List ℕ)) (a b : List ℕ) → HaveTimes times paths a → HaveTimes times paths b
       → a ≡ b
   times-agree [] [] [] is also = refl
   times-agree [] [] (b ∷ bs) is also = absurd also
@@ -76,7 +76,7 @@ module _ (times : DeclaredTimes) (tells : TellAll times) where
   times-agree (p ∷ paths) (a ∷ rest) (b ∷ bs) is also =
       ap₂ (λ t ts. t ∷ ts) (time-agrees p a b is.0 also.0) (times-agree paths rest bs is.1 also.1)
 
-  told-or-not : (path : List ℕ) (time : ℕ) → HasTime times path time → IsTimeOf times path NoAnswer → ⊥
+  pub told-or-not : (path : List ℕ) (time : ℕ) → HasTime times path time → IsTimeOf times path NoAnswer → ⊥
   told-or-not path time (one, at, is) none =
       let e : Time one ≡ NoAnswer = found-agree path (Time one) NoAnswer at none in absurd cc
 

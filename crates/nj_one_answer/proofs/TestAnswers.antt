@@ -40,7 +40,8 @@ use Rattle.nj_ask.specs.Given.{given_paths}
 use Rattle.nj_ask.specs.Laws.{WarningsAreUnique}
 use Rattle.nj_ask.specs.Reports.{ChangeModel, HasCaveats, IsTouchedBy, changed_paths}
 use Rattle.nj_globs.specs.Laws.{OneReading}
-use Rattle.nj_one_answer.specs.Answers.{OneTestsAnswer}
+use Rattle.nj_one_answer.specs.Answers.{OneTestsAnswer, TellIf}
+use Rattle.nj_discovered.specs.Times.{DeclaredTimes}
 use Rattle.nj_agreement.proofs.ReachedAnswers.{rising-agree}
 use Rattle.nj_one_answer.proofs.GivenAnswers.{leaves-agree}
 use Rattle.nj_one_answer.proofs.ReportAnswers.{caveats-agree}
@@ -264,40 +265,45 @@ module _ (known : DiscoveredGraph) (entries : List ReadStatement) (q : ChangeMod
 module _ (reading : OneReading) (unique : WarningsAreUnique) (keys : ListsOfKeysAreUnique)
     (known : DiscoveredGraph)
     (entries : List ReadStatement) where
-  pub one-choice : (folder : List ℕ) (options : TestsModel) (tests : List TestModel)
-      (since : Option (List ℕ)) (input : List ℕ) (output other : List ℕ) (ending end : Ending)
-      → AnswersTests known entries folder options tests since input output ending
-      → AnswersTests known entries folder options tests since input other end
+  pub one-choice : (times : DeclaredTimes) (folder : List ℕ) (options : TestsModel) (tests : List TestModel)
+      (since : Option (List ℕ)) (input : List ℕ) → TellIf (is_some since) times
+      → (output other : List ℕ) (ending end : Ending)
+      → AnswersTests known entries times folder options tests since input output ending
+      → AnswersTests known entries times folder options tests since input other end
       → (output ≡ other) × (ending ≡ end)
-  one-choice folder options tests since input _ _ _ _ (no_folder is) (no_folder also) = (refl, refl)
-  one-choice folder options tests since input _ _ _ _ (no_folder is) (no_keys some lacks) = absurd (some is)
-  one-choice folder options tests since input _ _ _ _ (no_folder is)
+  one-choice times folder options tests since input tells _ _ _ _ (no_folder is) (no_folder also) =
+      (refl, refl)
+  one-choice times folder options tests since input tells _ _ _ _ (no_folder is) (no_keys some lacks) =
+      absurd (some is)
+  one-choice times folder options tests since input tells _ _ _ _ (no_folder is)
       (chosen some new leaves reaches said writes) =
       absurd (some is)
-  one-choice folder options tests since input _ _ _ _ (no_keys some lacks) (no_folder is) = absurd (some is)
-  one-choice folder options tests since input _ _ _ _ (no_keys {line = l} some lacks)
+  one-choice times folder options tests since input tells _ _ _ _ (no_keys some lacks) (no_folder is) =
+      absurd (some is)
+  one-choice times folder options tests since input tells _ _ _ _ (no_keys {line = l} some lacks)
       (no_keys {line = m} some2 lacks2) =
       (refl, ap (λ line. refused line Fault) (lacking-agree options.change.since since l m lacks lacks2))
-  one-choice folder options tests since input _ _ _ _ (no_keys {line = l} some lacks)
+  one-choice times folder options tests since input tells _ _ _ _ (no_keys {line = l} some lacks)
       (chosen {new = n} some2 new leaves reaches said writes) =
-      absurd (new-or-lacking known.graph (manifest_edges known) entries options.change.bases
+      absurd (new-or-lacking known (manifest_edges known) entries times folder options.change.bases
       options.change.since since n l new lacks)
-  one-choice folder options tests since input _ _ _ _ (chosen some new leaves reaches said writes)
+  one-choice times folder options tests since input tells _ _ _ _ (chosen some new leaves reaches said writes)
       (no_folder is) =
       absurd (some is)
-  one-choice folder options tests since input _ _ _ _ (chosen {new = n} some new leaves reaches said writes)
+  one-choice times folder options tests since input tells _ _ _ _
+      (chosen {new = n} some new leaves reaches said writes)
       (no_keys {line = l} some2 lacks) =
-      absurd (new-or-lacking known.graph (manifest_edges known) entries options.change.bases
+      absurd (new-or-lacking known (manifest_edges known) entries times folder options.change.bases
       options.change.since since n l new lacks)
-  one-choice folder options tests since input _ _ _ _
+  one-choice times folder options tests since input tells _ _ _ _
       (chosen {paths = ps} {new = m} {edges = es} {caveats = c} {warnings = w} {output = o} some new leaves
       reaches said writes)
       (chosen {paths = qs} {new = n} {edges = fs} {caveats = d} {warnings = v} {output = p} some2 new2 leaves2
       reaches2 said2 writes2) =
       let same = leaves-agree reading options.change (given_paths options.change input) ps qs leaves leaves2
       in
-      let one = new-agree keys known.graph (manifest_edges known) entries options.change.bases since m n new
-      new2 in
+      let one = new-agree keys known (manifest_edges known) entries times folder options.change.bases since
+      m n tells new new2 in
       let change = tests_change known.has_discovered options tests folder in
       let reach = subst (λ (more : NewModel). Reaches known entries (change qs more) es c) one
       (subst (λ paths. Reaches known entries (change paths m) es c) same reaches) in
@@ -321,5 +327,5 @@ module _ (reading : OneReading) (unique : WarningsAreUnique) (keys : ListsOfKeys
       )
 
 pub one-tests-answer : OneReading → WarningsAreUnique → ListsOfKeysAreUnique → OneTestsAnswer
-one-tests-answer reading unique keys known entries folder options tests since input =
-    one-choice reading unique keys known entries folder options tests since input
+one-tests-answer reading unique keys known entries times folder options tests since input =
+    one-choice reading unique keys known entries times folder options tests since input

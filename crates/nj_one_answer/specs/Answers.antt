@@ -1,5 +1,5 @@
 -- When two answers to one question about a graph are the same.
-use Rattle.std.specs.Prelude.{◌≡◌, ℕ, Bool, true, false, Option, Ok, List, map}
+use Rattle.std.specs.Prelude.{◌≡◌, ℕ, Bool, true, false, Option, is_some, Ok, List, map}
 use Rattle.nj_scope.specs.ReadingList.{ReadStatement}
 use Rattle.nj_build_log.specs.Logs.{BuildLogModel}
 use Rattle.nj_discovered.specs.Times.{DeclaredTimes}
@@ -7,7 +7,7 @@ use Rattle.nj_graph.specs.Graph.{IsGraphOf}
 use Rattle.nj_graph.specs.Handles.{GraphEdge, files_in}
 use Rattle.nj_tests.specs.Tests.{TestModel}
 use Rattle.nj_questions.specs.Questions.{AffectedModel, AuditModel, DrawModel, KeysModel, StaleModel, TestsModel, TimesModel}
-use Rattle.nj_questions.specs.Questions.{WhyModel, SubjectModel, audit, draw, stale, timings}
+use Rattle.nj_questions.specs.Questions.{WhyModel, SubjectModel, affected, audit, draw, stale, tests, timings}
 use Rattle.nj_ask.specs.declared.discovered.DiscoveredGraph.{DiscoveredGraph}
 use Rattle.nj_ask.specs.Answers.{AnswersAffected, AnswersDraw, AnswersJson, AnswersKeys, AnswersWhy, asked_targets}
 use Rattle.nj_ask.specs.Asks.{Answers, IsTaken, Misuses}
@@ -28,10 +28,16 @@ HasOneAnswer Is = (output other : List ℕ) (ending end : Ending) → Is output 
 
 -- ---- by subcommand, about one graph and its statements
 
+-- the times are declared for all paths, if they are needed
+abbrev pub TellIf : (needed : Bool) → DeclaredTimes → Type 0
+TellIf true times = TellAll times
+TellIf false times = Unit {0}
+
 -- `affected`, with the text of `--since`
 abbrev pub OneAffectedAnswer : Type 0
-OneAffectedAnswer = (known : DiscoveredGraph) (entries : List ReadStatement) (folder : List ℕ) (options : AffectedModel)
-    (since : Option (List ℕ)) (input : List ℕ) → HasOneAnswer (AnswersAffected known entries folder options since input)
+OneAffectedAnswer = (known : DiscoveredGraph) (entries : List ReadStatement) (times : DeclaredTimes) (folder : List ℕ)
+    (options : AffectedModel) (since : Option (List ℕ)) (input : List ℕ) → TellIf (is_some since) times
+    → HasOneAnswer (AnswersAffected known entries times folder options since input)
 
 -- `audit`, by times that are declared for all paths
 abbrev pub OneAuditAnswer : Type 0
@@ -55,14 +61,9 @@ OneStaleAnswer = (known : DiscoveredGraph) (entries : List ReadStatement) (log :
 
 -- `tests`, about one list of tests, with the text of `--since`
 abbrev pub OneTestsAnswer : Type 0
-OneTestsAnswer = (known : DiscoveredGraph) (entries : List ReadStatement) (folder : List ℕ) (options : TestsModel)
-    (tests : List TestModel) (since : Option (List ℕ)) (input : List ℕ)
-    → HasOneAnswer (AnswersTests known entries folder options tests since input)
-
--- the times are declared for all paths, if they are needed
-abbrev pub TellIf : (asked : Bool) → DeclaredTimes → Type 0
-TellIf true times = TellAll times
-TellIf false times = Unit {0}
+OneTestsAnswer = (known : DiscoveredGraph) (entries : List ReadStatement) (times : DeclaredTimes) (folder : List ℕ)
+    (options : TestsModel) (tests : List TestModel) (since : Option (List ℕ)) (input : List ℕ) → TellIf (is_some since) times
+    → HasOneAnswer (AnswersTests known entries times folder options tests since input)
 
 -- `times`
 abbrev pub OneTimesAnswer : Type 0
@@ -129,19 +130,22 @@ abbrev pub SameOutput : DiscoveredGraph → SubjectModel → (one other : List �
 SameOutput known (draw options) one other = SameDrawing known options one other
 SameOutput known subject one other = one ≡ other
 
--- `audit` looks sources up, `stale` all files, and `times --dead` outputs of the log, so their times are declared
-abbrev pub TellTimes : SubjectModel → DeclaredTimes → Type 0
-TellTimes (audit options) times = TellAll times
-TellTimes (stale options) times = TellAll times
-TellTimes (timings options) times = TellIf options.dead times
-TellTimes subject times = Unit {0}
+-- The times are declared where an answer needs them: `audit` looks sources up, `stale` all files, `times --dead` outputs, and `affected` and
+-- `tests`, with an older manifest, the files that the manifest is made from.
+abbrev pub TellTimes : SubjectModel → NamedFiles → DeclaredTimes → Type 0
+TellTimes (affected options) named times = TellIf (is_some named.since) times
+TellTimes (audit options) named times = TellAll times
+TellTimes (stale options) named times = TellAll times
+TellTimes (tests options) named times = TellIf (is_some named.since) times
+TellTimes (timings options) named times = TellIf options.dead times
+TellTimes subject named times = Unit {0}
 
 -- One graph, its statements, a build log, the files that options name and the options leave one output, but for a drawing's edges that
 -- are equally far, and one ending.
 abbrev pub OneAnswer : Type 0
 OneAnswer = (known : DiscoveredGraph) (entries : List ReadStatement) (log : BuildLogModel) (times : DeclaredTimes)
     (folder : List ℕ) (subject : SubjectModel) (named : NamedFiles) (input : List ℕ) (output other : List ℕ) (ending end : Ending)
-    → IsGraphOf known.graph entries → TellTimes subject times
+    → IsGraphOf known.graph entries → TellTimes subject named times
     → Answers known entries log times folder subject named input output ending
     → Answers known entries log times folder subject named input other end
     → SameOutput known subject output other × (ending ≡ end)

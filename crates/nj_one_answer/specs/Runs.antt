@@ -98,6 +98,11 @@ abbrev pub SameFor : SubjectModel → FilesRead → (output other : List ℕ) �
 SameFor subject (graph known entries log named) output other = SameOutput known subject output other
 SameFor subject (no_graph line) output other = output ≡ other
 
+-- the times are declared where an answer by these files needs them
+abbrev pub TellFor : SubjectModel → FilesRead → DeclaredTimes → Type 0
+TellFor subject (graph known entries log named) times = TellTimes subject named times
+TellFor subject (no_graph line) times = Unit {0}
+
 -- Two runs of a question: both end alike before anything is read; or both read the files, and end alike if the files come to the same; or
 -- memory runs out for one of them.
 pub data AskAlike (question : QuestionModel) (times : DeclaredTimes) (folder : List ℕ) (old one other : Around) (status end : Status) : Type 0 where
@@ -105,7 +110,7 @@ pub data AskAlike (question : QuestionModel) (times : DeclaredTimes) (folder : L
       → EndAlike (λ a b. a ≡ b) old.sinks one.sinks other.sinks status end → AskAlike question times folder old one other status end
   read : (files more : FilesRead) → ComeTo question times folder old.sources one.sources files
       → ComeTo question times folder old.sources other.sources more
-      → (SameFiles files more → TellTimes question.subject times
+      → (SameFiles files more → TellFor question.subject files times
       → EndAlike (SameFor question.subject files) old.sinks one.sinks other.sinks status end)
       → AskAlike question times folder old one other status end
   lacked_memory : LacksMemory old.sinks one.sinks status ⊎ LacksMemory old.sinks other.sinks end
