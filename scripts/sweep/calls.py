@@ -39,7 +39,7 @@ OF_GRAPH = {"chdir", "getcwd"}
 EVERY = "each"
 EDGES = 8_000
 CHAIN = "a chain"
-# They read the build log, and join what builds discovered.
+# They read the build log, and join what builds discovered, but for `times --dead`.
 OF_BUILDS = {"stale", "times"}
 STANDARD_INPUT = "0"
 LACKS_MEMORY = rb"out of memory"
@@ -73,11 +73,16 @@ def own_log(runs):
     return f"{folder[1].decode()}/.ninja_deps" if folder else ".ninja_deps"
 
 
+def joins_discovered(runs):
+    """Whether a run joins what builds discovered without being asked to: `times --dead` does not."""
+    return bool(OF_BUILDS & {*runs.words}) and "--dead" not in runs.words
+
+
 def log_of(runs):
     """The deps log that a run requests, or `None`."""
     if "--deps-log-file" in runs.words:
         return runs.words[runs.words.index("--deps-log-file") + 1]
-    return own_log(runs) if ({"--deps"} | OF_BUILDS) & {*runs.words} else None
+    return own_log(runs) if "--deps" in runs.words or joins_discovered(runs) else None
 
 
 def build_log_of(runs):
@@ -93,19 +98,20 @@ def depfiles_of(runs):
 def dyndep_of(runs):
     """The dyndep file that a run joins if it is there, or `None`."""
     names = [name for name in runs.project.files if name == "dd"]
-    return names[0] if names and (JOINING | OF_BUILDS) & {*runs.words} else None
+    return names[0] if names and (JOINING & {*runs.words} or joins_discovered(runs)) else None
 
 
 def named_files_of(runs):
-    """The files that options name and a run reads before all others: lists of tests and of targets, and files whose
-    contents go into keys."""
+    """The files that options name and a run reads before all others: lists of tests and of targets, files whose
+    contents go into keys, and the keys of an older manifest."""
     words = " ".join(map(str, runs.words))
     of_meson = (
         f"{folder}/meson-info/intro-{name}.json"
         for folder in re.findall(r"--meson[ =](\S+)", words)
         for name in ("tests", "targets")
     )
-    return [*re.findall(r"--(?:ctest|with-file)[ =](\S+)", words), *of_meson]
+    named, older = (re.findall(rf"--(?:{it})[ =](\S+)", words) for it in ("ctest|with-file", "since"))
+    return [*named, *of_meson, *older]
 
 
 def opened_files(runs):

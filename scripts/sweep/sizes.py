@@ -293,6 +293,30 @@ def with_texts(lines_of_keys, *texts):
         yield f"{with_additions(bytes.fromhex(digits), texts).hex()} {name}"
 
 
+def objects_of_keys(lines_of_keys):
+    """The objects of `keys --json` for the chain."""
+    for n, line in enumerate(lines_of_keys):
+        before = f"e{n - 1}"
+        yield {
+            "key": line.split()[0],
+            "outputs": [f"e{n}"],
+            "implicit_outputs": [],
+            "inputs": [{"path": before, "kind": "explicit"}] if n else [],
+            "response_file": f"e{n}.rsp",
+            "response": before if n else "",
+            "command": command(n),
+            "depfile": "",
+            "pool": "",
+            "generator": False,
+            "discovered": None,
+            "bases": [],
+        }
+
+
+def read_objects(text):
+    return [json.loads(line) for line in text.splitlines()]
+
+
 def stale_object(output, reason, file):
     """A line of `stale --json`, where no times are compared."""
     values = {"output": output, "reason": reason, "file": file, "time": None, "file_time": None}
@@ -337,6 +361,8 @@ def graph_of_chain():
     yield "affected -z < e7", (LOOK, "", "e7\n\n")
     yield "affected", (LOOK, "", "ninja-graph: no changed path was given\n")
     yield "affected --allow-empty", done("")
+    # the empty list of keys has none of the commands
+    yield "affected --since /dev/null --base /w < e7", done(paths(ALL))
     yield "audit", done("")
     yield "audit --all", done("")
     yield "audit --json --only unused-variable --except unused-rule", done("")
@@ -353,6 +379,8 @@ def graph_of_chain():
     yield f"keys --with gcc e{HALF}", done(lines(with_texts(keys[: HALF + 1], b"gcc")))
     content = of_content(CHAIN.encode())
     yield f"keys --with-file build.ninja e{HALF}", done(lines(with_texts(keys[: HALF + 1], content)))
+    yield "keys --all", done(lines(keys))
+    yield "keys --json", done(list(objects_of_keys(keys))), read_objects
     yield f"keys --take {EDGES}", done(lines(keys))
     yield "keys --take 0", (LOOK, "", "mark start\n")
     for taken in HALF, FEWEST:
@@ -367,11 +395,14 @@ def graph_of_chain():
     yield "times", done(untimed(EDGES))
     yield f"times --top 2 e{HALF}", done(untimed(HALF + 1) + "unknown e0\nunknown e1\n")
     counts = {"commands": EDGES, "unknown": EDGES, "sum": 0, "critical_path": 0}
+    yield "times --by-rule", done(untimed(EDGES) + f"0.000 s mk, commands: {EDGES}, slowest: unknown e0\n")
+    yield "times --dead", done("")
     yield "times --json", done(json.dumps(counts, separators=(",", ":")) + "\n")
     tests = f"tests --ctest {LIST}"
     yield f"{tests} < e7", done("counts\nalways\n")
     words = "--source-dir x/.. --ignore none --ignore-unknown --allow-empty --format lines --why"
     yield f"{tests} {words} < e7", done("counts\tunnamed\nalways\tunnamed\n")
+    yield f"{tests} --since /dev/null --base /w < e7", done("counts\nalways\n")
     yield f"{tests} -z < e7", (LOOK, "counts\nalways\n", "e7\n\n")
     yield f"{tests} --json --unnamed skip < e7", done("")
     yield f"tests --meson {MESON} --format meson < e7", done(":counts\n:always\n")
